@@ -1,0 +1,3 @@
+pub mod Hi
+pub mod Hmac
+pub mod Keyed

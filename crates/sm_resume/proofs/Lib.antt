@@ -1,0 +1,5 @@
+pub mod Bytes
+pub mod Decimals
+pub mod Decisions
+pub mod Digits
+pub mod Parts
