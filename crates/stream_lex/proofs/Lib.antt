@@ -1,0 +1,14 @@
+pub mod Lists
+pub mod Numbers
+pub mod Derivative
+pub mod Keeping
+pub mod Spans
+pub mod Classing
+pub mod Stepping
+pub mod Ending
+pub mod Living
+pub mod ByteSteps
+pub mod Standing
+pub mod Ended
+pub mod Scanning
+pub mod WordsLaw
