@@ -52,8 +52,8 @@ impl ResumeId {
     }
 }
 
-// The number that a text spells in decimal without leading zeros.
-fn read_number(text: &[u8]) -> Option<u64>
+/// The number that a text spells in decimal without leading zeros. None exactly where it spells none of 64 bits.
+pub fn read_number(text: &[u8]) -> Option<u64>
     ensures spelt { IfSome result (λ n. decimal n ≡ text.now) }
     ensures found { (n : ℕ) → n < 2 ^ 64 → decimal n ≡ text.now → result ≡ Some n }
 {
@@ -77,8 +77,8 @@ fn is_plain(text: &[u8]) -> bool
     }
 }
 
-// The sixteen bytes that a text spells in lower-case hexadecimal.
-fn read_digits(text: &[u8]) -> Option<[u8; 16]>
+/// The sixteen bytes that a text spells in lower-case hexadecimal. None exactly where it spells none.
+pub fn read_digits(text: &[u8]) -> Option<[u8; 16]>
     ensures spelt { IfSome result (λ digits. AreDigits digits × (hexadecimal digits ≡ text.now)) }
     ensures found { (digits : List ℕ) → AreDigits digits → hexadecimal digits ≡ text.now
         → result ≡ Some digits }

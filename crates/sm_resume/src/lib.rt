@@ -11,4 +11,4 @@ pub mod laws;
 mod tests;
 
 pub use decision::{Cause, Decision, Facts, decide};
-pub use id::{NoMemory, ResumeId};
+pub use id::{NoMemory, ResumeId, read_digits, read_number};

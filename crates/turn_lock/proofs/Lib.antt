@@ -1,0 +1,5 @@
+pub mod Sums
+pub mod Stories
+pub mod Keeps
+pub mod Stands
+pub mod Gathers

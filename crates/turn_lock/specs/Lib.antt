@@ -1,0 +1,4 @@
+pub mod Views
+pub mod Histories
+pub mod Steps
+pub mod Passes
