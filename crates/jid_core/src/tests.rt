@@ -1,6 +1,8 @@
 //! Addresses by hand, from RFC 7622, RFC 1035 and RFC 5890.
 
 use super::*;
+use std::alloc::Global;
+use std::process::Abort;
 use std::test::Fail;
 
 // The parts of an address, spelt.
@@ -90,51 +92,132 @@ fn faults_are_told(rt: HostRuntime) {
     }
 }
 
-// A part has at most 1,023 bytes, and a label of a domain at most 63.
-#[test]
-fn parts_have_a_greatest_length(rt: HostRuntime) {
-    let long = [b'a'; 1024];
-    let most = &long[..1023];
-    let local = Part::local(rt.alloc(), &long).err();
-    assert_eq!(rt; local, Some(JidFault::Long(Which::Local)));
-    assert_eq!(rt; Part::local(rt.alloc(), most).err(), None);
-    let resource = Part::resource(rt.alloc(), &long).err();
-    assert_eq!(rt; resource, Some(JidFault::Long(Which::Resource)));
-    assert_eq!(rt; Part::resource(rt.alloc(), most).err(), None);
-    let label = Jid::read(rt.alloc(), &long[..64]).err();
-    assert_eq!(rt; label, Some(JidFault::Bad(Which::Domain, 0)));
-    assert_eq!(rt; Jid::read(rt.alloc(), &long[..63]).err(), None);
+// Labels of one letter, with a dot after each.
+fn labels() -> [u8; 1024] {
     let mut labels = [b'a'; 1024];
     for i in 0..1024usize {
         if i % 2 == 1 {
             labels[i] = b'.';
         }
     }
-    assert_eq!(rt; Jid::read(rt.alloc(), &labels).err(), None);
-    labels[1023] = b'a';
-    let domain = Jid::read(rt.alloc(), &labels).err();
-    assert_eq!(rt; domain, Some(JidFault::Long(Which::Domain)));
+    labels
+}
+
+// A part has at most 1,023 bytes, and a label of a domain at most 63.
+#[test]
+fn parts_have_a_greatest_length(rt: HostRuntime) {
+    let long = [b'a'; 1024];
+    let cases: [(usize, Option<JidFault>, Option<JidFault>); 2] = [
+        (1023, None, None),
+        (
+            1024,
+            Some(JidFault::Long(Which::Local)),
+            Some(JidFault::Long(Which::Resource)),
+        ),
+    ];
+    for (count, local, resource) in cases {
+        let bytes = &long[..count.min(1024)];
+        assert_eq!(rt; Part::local(rt.alloc(), bytes).err(), local);
+        assert_eq!(rt; Part::resource(rt.alloc(), bytes).err(), resource);
+    }
 }
 
 #[test]
-fn parts_are_prepared(rt: HostRuntime) -> Result<(), Fail> {
-    let local = Part::local(rt.alloc(), b"Al.ICE-1")?;
-    assert!(rt; local.bytes() == b"al.ice-1".as_slice());
-    assert!(rt; local.copy(rt.alloc())?.bytes() == b"al.ice-1".as_slice());
-    let resource = Part::resource(rt.alloc(), b"My Phone/@2")?;
-    assert!(rt; resource.bytes() == b"My Phone/@2".as_slice());
-    let empty = Part::local(rt.alloc(), b"").err();
-    assert_eq!(rt; empty, Some(JidFault::Empty(Which::Local)));
-    let empty = Part::resource(rt.alloc(), b"").err();
-    assert_eq!(rt; empty, Some(JidFault::Empty(Which::Resource)));
-    let bad = Part::local(rt.alloc(), b"ab/c").err();
-    assert_eq!(rt; bad, Some(JidFault::Bad(Which::Local, 2)));
-    let bad = Part::resource(rt.alloc(), b"abc\n").err();
-    assert_eq!(rt; bad, Some(JidFault::Bad(Which::Resource, 3)));
+fn domains_have_a_greatest_length(rt: HostRuntime) {
+    let long = [b'a'; 64];
+    let labels = labels();
+    let cases: [(&[u8], Option<JidFault>); 4] = [
+        (&long, Some(JidFault::Bad(Which::Domain, 0))),
+        (&long[..63], None),
+        (&labels, None),
+        (&labels[..1023], None),
+    ];
+    for (i, (text, want)) in cases.iter().enumerate() {
+        assert_eq!(rt; Jid::read(rt.alloc(), text).err(), *want, "case {i}");
+    }
+}
+
+#[test]
+fn a_domain_of_1024_bytes_is_long(rt: HostRuntime) {
+    let mut labels = labels();
+    labels[1023] = b'a';
+    let fault = Jid::read(rt.alloc(), &labels).err();
+    assert_eq!(rt; fault, Some(JidFault::Long(Which::Domain)));
+}
+
+// A part as it was given, and as it is prepared or refused.
+type Prepared<'a> = (&'a [u8], Result<&'a [u8], JidFault>);
+
+fn has_bytes(part: &Part, want: &Result<&[u8], JidFault>) -> bool {
+    match want {
+        Ok(bytes) => part.bytes() == *bytes,
+        Err(_) => false,
+    }
+}
+
+fn has_fault(fault: JidFault, want: &Result<&[u8], JidFault>) -> bool {
+    match want {
+        Ok(_) => false,
+        Err(other) => fault == *other,
+    }
+}
+
+fn is_prepared(part: &Result<Part, JidFault>, want: &Result<&[u8], JidFault>) -> bool {
+    match part {
+        Ok(part) => has_bytes(part, want),
+        Err(fault) => has_fault(*fault, want),
+    }
+}
+
+#[test]
+fn local_parts_are_prepared(rt: HostRuntime) {
+    let cases: [Prepared; 3] = [
+        (b"Al.ICE-1", Ok(b"al.ice-1")),
+        (b"", Err(JidFault::Empty(Which::Local))),
+        (b"ab/c", Err(JidFault::Bad(Which::Local, 2))),
+    ];
+    for (i, (bytes, want)) in cases.iter().enumerate() {
+        let part = Part::local(rt.alloc(), bytes);
+        assert!(rt; is_prepared(&part, want), "case {i}");
+    }
+}
+
+#[test]
+fn resources_are_prepared(rt: HostRuntime) {
+    let cases: [Prepared; 3] = [
+        (b"My Phone/@2", Ok(b"My Phone/@2")),
+        (b"", Err(JidFault::Empty(Which::Resource))),
+        (b"abc\n", Err(JidFault::Bad(Which::Resource, 3))),
+    ];
+    for (i, (bytes, want)) in cases.iter().enumerate() {
+        let part = Part::resource(rt.alloc(), bytes);
+        assert!(rt; is_prepared(&part, want), "case {i}");
+    }
+}
+
+#[test]
+fn parts_are_copied(rt: HostRuntime) -> Result<(), Fail> {
+    let part = Part::local(rt.alloc(), b"Alice")?;
+    assert!(rt; part.copy(rt.alloc())?.bytes() == b"alice".as_slice());
     Ok(())
 }
 
-// Whether both are the same with and without their resources.
+// How like an address is to `alice@example.org/phone`, with and without their resources.
+fn expect_alike<R: Abort>(
+    rt: &R,
+    alloc: Global,
+    text: &[u8],
+    same: bool,
+    same_bare: bool,
+) -> Result<(), Fail> {
+    let one = Jid::read(alloc, b"alice@example.org/phone")?;
+    let other = Jid::read(alloc, text)?;
+    assert_eq!(rt; one.is_same(&other), same, "{text:?}");
+    assert_eq!(rt; other.is_same(&one), same, "{text:?} turned");
+    assert_eq!(rt; one.is_same_bare(&other), same_bare, "{text:?} bare");
+    Ok(())
+}
+
 #[test]
 fn addresses_are_compared(rt: HostRuntime) -> Result<(), Fail> {
     let cases: [(&[u8], bool, bool); 8] = [
@@ -147,13 +230,17 @@ fn addresses_are_compared(rt: HostRuntime) -> Result<(), Fail> {
         (b"bob@example.org/phone", false, false),
         (b"example.org/phone", false, false),
     ];
-    let one = Jid::read(rt.alloc(), b"alice@example.org/phone")?;
-    for (i, (text, same, same_bare)) in cases.iter().enumerate() {
-        let other = Jid::read(rt.alloc(), text)?;
-        assert_eq!(rt; one.is_same(&other), *same, "case {i}");
-        assert_eq!(rt; other.is_same(&one), *same, "case {i} turned");
-        assert_eq!(rt; one.is_same_bare(&other), *same_bare, "case {i} bare");
+    for (text, same, same_bare) in cases {
+        expect_alike(&rt, rt.alloc(), text, same, same_bare)?;
     }
+    Ok(())
+}
+
+// What is written after what was there.
+fn expect_written<R: Abort>(rt: &R, alloc: Global, address: &Jid, want: &[u8]) -> Result<(), Fail> {
+    let mut out = Vec::from_slice(alloc, b"to ")?;
+    address.write(&mut out)?;
+    assert!(rt; out.as_slice() == want, "{want:?}");
     Ok(())
 }
 
@@ -173,14 +260,10 @@ fn addresses_are_written(rt: HostRuntime) -> Result<(), Fail> {
         (b"example.org/a/b", b"to example.org/a/b", b"to example.org"),
         (b"example.org.", b"to example.org", b"to example.org"),
     ];
-    for (i, (text, whole, bare)) in cases.iter().enumerate() {
+    for (text, whole, bare) in cases {
         let address = Jid::read(rt.alloc(), text)?;
-        let mut out = Vec::from_slice(rt.alloc(), b"to ")?;
-        address.copy(rt.alloc())?.write(&mut out)?;
-        assert!(rt; out.as_slice() == *whole, "case {i}");
-        let mut out = Vec::from_slice(rt.alloc(), b"to ")?;
-        address.bare(rt.alloc())?.write(&mut out)?;
-        assert!(rt; out.as_slice() == *bare, "case {i} bare");
+        expect_written(&rt, rt.alloc(), &address.copy(rt.alloc())?, whole)?;
+        expect_written(&rt, rt.alloc(), &address.bare(rt.alloc())?, bare)?;
     }
     Ok(())
 }

@@ -1,0 +1,5 @@
+mod AnswerLemmas
+mod DiceLemmas
+mod HouseLemmas
+mod LineLemmas
+mod ReachLemmas

@@ -1,0 +1,3 @@
+pub mod Houses
+pub mod Lines
+pub mod Seats

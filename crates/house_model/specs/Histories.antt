@@ -1,0 +1,105 @@
+-- What may have happened since a house was made.
+use Rattle.std.specs.Prelude.{◌≡◌, ℕ, ◌+◌, ◌<◌, ◌≤◌, List, [], ◌∷◌, Result, Ok, Err, true, length, ⊤}
+use Rattle.stanza_tree.specs.Spelling.{text}
+use Rattle.jid_core.specs.Addresses.{Address}
+use Rattle.house_model.specs.declared.event.Event.{Event}
+use Rattle.house_model.specs.declared.event.Event.TheVariants.{OpenLine, Login, Bind, Act, Pull}
+use Rattle.house_model.specs.declared.reply.Reply.{Reply}
+use Rattle.house_model.specs.declared.stanza.Stanza.{Stanza}
+use Rattle.house_model.specs.States.{State, opening}
+use Rattle.house_model.specs.Keeping.{Kept, keep}
+use Rattle.house_model.specs.Plain.{is_plain}
+use Rattle.house_model.specs.Steps.{element_in, step}
+
+-- what came of an event: a reply and the text of a frame, or nothing at all for want of memory
+pub data Outcome : Type 0 where
+  Made : (reply : Reply) (text : List ℕ) → Outcome
+  Short : Outcome
+
+pub record Turn : Type 0 where
+  pub event : Event
+  pub outcome : Outcome
+
+abbrev pub made : Event → Reply → List ℕ → Turn
+made e reply text = record { event = e; outcome = Made reply text }
+
+abbrev pub short : Event → Turn
+short e = record { event = e; outcome = Short }
+
+-- the turn of a call that may find no memory, and gives no text
+abbrev pub ended : {E : Type 0} → Event → Result Reply E → Turn
+ended e (Ok reply) = made e reply []
+ended e (Err fault) = short e
+
+abbrev pub line_of : Event → ℕ
+line_of (OpenLine w) = w
+line_of (Login w user) = w
+line_of (Bind w id resource t dice) = w
+line_of (Act w stanza t) = w
+line_of (Pull w t) = w
+
+-- the greatest stanza, in canonical bytes, and the greatest id of a request
+abbrev pub StanzaFits : Stanza → Type 0
+StanzaFits stanza = length (text (element_in stanza)) ≤ 196608
+
+abbrev pub IdFits : List ℕ → Type 0
+IdFits id = length id ≤ 65536
+
+abbrev pub Meets : Event → Type 0
+Meets (OpenLine w) = ⊤
+Meets (Login w user) = ⊤
+Meets (Bind w id resource t dice) = IdFits id
+Meets (Act w stanza t) = StanzaFits stanza
+Meets (Pull w t) = ⊤
+
+-- an event for which memory may be wanting
+abbrev pub MayBeShort : Event → Type 0
+MayBeShort (OpenLine w) = ⊥
+MayBeShort (Login w user) = ⊥
+MayBeShort (Bind w id resource t dice) = ⊤
+MayBeShort (Act w stanza t) = ⊤
+MayBeShort (Pull w t) = ⊥
+
+-- the turn is counted, and nothing else happens
+abbrev pub passed : State → State
+passed st = record st { turns = st.turns + 1 }
+
+abbrev pub kept_passed : Kept → Kept
+kept_passed k = record k { turns = k.turns + 1 }
+
+abbrev pub next_by : State → Event → Outcome → State
+next_by st e (Made reply text) = (step st e).state
+next_by st e Short = passed st
+
+abbrev pub next : State → Turn → State
+next st x = next_by st x.event x.outcome
+
+-- the state after a history
+abbrev pub after : State → List Turn → State
+after st [] = st
+after st (x ∷ more) = after (next st x) more
+
+abbrev pub IsOutcome : State → Event → Outcome → Type 0
+IsOutcome st e (Made reply text) = (reply ≡ (step st e).reply) × (text ≡ (step st e).text)
+IsOutcome st e Short = MayBeShort e
+
+-- a turn that can come in a state: its line is there, it meets the conditions on what it carries, and its outcome is that of the step
+pub record Allowed (st : State) (x : Turn) : Type 0 where
+  pub line : line_of x.event < st.workers
+  pub meets : Meets x.event
+  pub plain : is_plain (keep st) x.event ≡ true
+  pub outcome : IsOutcome st x.event x.outcome
+
+abbrev pub Legal : State → List Turn → Type 0
+Legal st [] = ⊤
+Legal st (x ∷ more) = Allowed st x × Legal (next st x) more
+
+-- a state in which no event has come
+abbrev pub IsOpening : State → Type 0
+IsOpening o = (domain : Address) × (users : List (List ℕ)) × (workers : ℕ) × (o ≡ opening domain users workers)
+
+-- what the code has stands for a history: this is legal, and what is kept of the state after it is what the code has
+pub record StandsFor (o : State) (h : List Turn) (k : Kept) : Type 0 where
+  pub starts : IsOpening o
+  pub legal : Legal o h
+  pub kept : k ≡ keep (after o h)

@@ -1,0 +1,9 @@
+pub mod Answers
+pub mod Effects
+pub mod Fits
+pub mod Histories
+pub mod Keeping
+pub mod Numbered
+pub mod Plain
+pub mod States
+pub mod Steps

@@ -1,0 +1,37 @@
+//! What can happen to the house. `w` is the place for a connection, `t` the moment in milliseconds since 1970.
+use crate::stanza::Stanza;
+use jid_core::Part;
+use stanza_tree::Text;
+
+/// One event. Each names the line at which it happens.
+#[derive(Drop)]
+pub enum Event {
+    /// A connection came.
+    OpenLine {
+        w: u32,
+    },
+    /// The connection proved that it is this user's.
+    Login {
+        w: u32,
+        user: Part,
+    },
+    /// The connection asks for a session (RFC 6120, section 7). Without a resource the dice make one.
+    Bind {
+        w: u32,
+        id: Text,
+        resource: Option<Part>,
+        t: u64,
+        dice: [u8; 16],
+    },
+    /// The connection sends a stanza.
+    Act {
+        w: u32,
+        stanza: Stanza,
+        t: u64,
+    },
+    /// The connection can take a frame.
+    Pull {
+        w: u32,
+        t: u64,
+    },
+}

@@ -1,0 +1,6 @@
+pub mod formers
+pub mod Attributes
+pub mod Entries
+pub mod Faults
+pub mod Spelling
+pub mod Stamps

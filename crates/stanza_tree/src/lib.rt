@@ -1,0 +1,20 @@
+//! The XML element tree that stanzas are made of, and its one canonical spelling (RFC 6120, section 11; XML 1.0, fifth edition).
+#![tactic(auto)]
+
+pub mod frame;
+pub mod measure;
+pub mod node;
+pub mod several;
+pub mod spell;
+pub mod stamp;
+#[cfg(test)]
+mod tests;
+pub mod text;
+
+pub use frame::{Entry, append, append_value, append_words, frame_length, push_frame};
+pub use measure::length;
+pub use node::{Attr, Element, Name, Node};
+pub use several::Several;
+pub use spell::write;
+pub use stamp::{sent_length, write_sent};
+pub use text::{NoMemory, Text, TextFault};

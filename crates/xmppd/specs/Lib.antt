@@ -1,0 +1,4 @@
+pub mod Characters
+pub mod Outside
+pub mod Prints
+pub mod Replays

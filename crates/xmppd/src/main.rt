@@ -1,0 +1,63 @@
+//! A chat server for one XMPP domain (RFC 6120, RFC 6121).
+#![tactic(auto)]
+
+mod fields;
+mod lines;
+mod notice;
+mod opening;
+mod outside;
+mod print;
+mod replay;
+mod run;
+mod script;
+mod standard;
+mod status;
+#[cfg(test)]
+mod tests;
+
+use crate::run::run;
+use crate::standard::{ReaderSource, WriterSink};
+use crate::status::Status;
+use stanza_tree::Text;
+use std::process::ExitCode;
+use std::{env, io};
+
+fn main(rt: HostRuntime) -> ExitCode {
+    let status = run_on(&rt);
+    let _told = tell(&rt, status);
+    ExitCode::from(status.number())
+}
+
+fn run_on(rt: &HostRuntime) -> Status {
+    let Ok(words) = words_of(rt) else {
+        return Status::NoMemory;
+    };
+    let mut source = ReaderSource::new(rt.reader());
+    let mut sink = WriterSink::new(io::writer(rt));
+    run(rt.alloc(), words.as_slice(), &mut source, &mut sink)
+}
+
+fn words_of(rt: &HostRuntime) -> io::Result<Vec<Text>> {
+    let mut words = Vec::new(rt.alloc());
+    for word in env::args(rt)?.skip(1) {
+        match Text::of(rt.alloc(), word.as_bytes()) {
+            Ok(text) => words.push(text)?,
+            Err(_) => return Err(io::Error::from(io::ErrorKind::OutOfMemory)),
+        }
+    }
+    Ok(words)
+}
+
+/// Writes the line of a status.
+fn tell(rt: &HostRuntime, status: Status) -> io::Result<()> {
+    match status {
+        Status::Done => Ok(()),
+        Status::Usage => eprintln!(rt; "xmppd: bad words"),
+        Status::Accounts(line) => eprintln!(rt; "xmppd: accounts line {line}"),
+        Status::Script(line) => eprintln!(rt; "xmppd: script line {line}"),
+        Status::ReadFault => eprintln!(rt; "xmppd: read fault"),
+        Status::WriteFault => eprintln!(rt; "xmppd: write fault"),
+        Status::ListenFault => eprintln!(rt; "xmppd: listen fault"),
+        Status::NoMemory => eprintln!(rt; "xmppd: no memory"),
+    }
+}
