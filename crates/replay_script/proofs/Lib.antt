@@ -1,0 +1,3 @@
+mod CharacterLemmas
+mod NumberLemmas
+mod UserLemmas

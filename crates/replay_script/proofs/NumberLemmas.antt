@@ -1,0 +1,108 @@
+-- Numbers and dice are read exactly where a text spells them.
+use Rattle.std.proofs.Common.{◌≡◌, ℕ, zero, suc, ◌+◌, ◌*◌, ◌/◌, ◌%◌, ◌^◌, ◌<◌, ◌==◌, nat_lt, List, [], ◌∷◌, length, get_or, Bool, true, false, ◌&&◌, bytes_eq, Option, Some, None, IfSome, arith, refl, sym, ap, subst, ◌∙◌}
+use Rattle.std.proofs.lemmas.Bool.{cond-true, lt-ltb, ltb-true, eq-eqb, eqb-true}
+use Rattle.std.proofs.lemmas.Option.{cond_some}
+use Rattle.std.proofs.lemmas.Slice.Eq.{bytes_eq-Decides}
+use Rattle.std.proofs.lemmas.Fmt.{digits_value-decimal}
+use Rattle.std.proofs.lemmas.Str.{digit_value-digit_char}
+use Rattle.std.proofs.lemmas.Str.Parse.{numerals_by_value, tells_digits}
+use Rattle.std.specs.Char.{digit_char, digit_value}
+use Rattle.std.specs.Fmt.{decimal}
+use Rattle.std.specs.List.{list_all}
+use Rattle.std.specs.Str.Parse.{AllDigits, digits_value}
+use Rattle.sm_resume.specs.Spelling.{AreDigits, hexadecimal}
+use Rattle.replay_script.specs.Numbers.{number_of, paired, are_dice, dice_of}
+
+both : (a b : Bool) → a ≡ true → b ≡ true → (a && b) ≡ true
+both true b p q = q
+both false b p q = absurd (cc)
+
+parts : (a b : Bool) → (a && b) ≡ true → (a ≡ true) × (b ≡ true)
+parts true b h = (refl, h)
+parts false b h = absurd (cc)
+
+-- nothing, where something would be absurd
+none-is : {X : Type 0} (o : Option X) → ((x : X) → o ≡ Some x → ⊥) → None ≡ o
+none-is None never = refl
+none-is (Some x) never = absurd (never x refl)
+
+value-decimal : (n : ℕ) → n < 2 ^ 64 → digits_value 10 (decimal n) ≡ n
+value-decimal n low = digits_value-decimal (numerals_by_value (AllDigits 10) tells_digits) n low
+
+pub number-found : (text : List ℕ) (n : ℕ) → n < 2 ^ 64 → decimal n ≡ text → number_of text ≡ Some n
+unfolding number_of
+number-found text n low is =
+    let value : digits_value 10 text ≡ n = ap (digits_value 10) (sym is) ∙ value-decimal n low in
+    let small : nat_lt (digits_value 10 text) (2 ^ 64) ≡ true = lt-ltb (digits_value 10 text) (2 ^ 64) (subst (λ (m : ℕ). m < 2 ^ 64) (sym value) low) in
+    let same : bytes_eq (decimal (digits_value 10 text)) text ≡ true = (bytes_eq-Decides (decimal (digits_value 10 text)) text).1 (ap decimal value ∙ is) in
+    cond-true (nat_lt (digits_value 10 text) (2 ^ 64) && bytes_eq (decimal (digits_value 10 text)) text) (Some (digits_value 10 text)) None
+    (both (nat_lt (digits_value 10 text) (2 ^ 64)) (bytes_eq (decimal (digits_value 10 text)) text) small same)
+    ∙ ap Some value
+
+pub number-spelt : (text : List ℕ) (n : ℕ) → number_of text ≡ Some n → (n < 2 ^ 64) × (decimal n ≡ text)
+unfolding number_of
+number-spelt text n h =
+    let found = cond_some (nat_lt (digits_value 10 text) (2 ^ 64) && bytes_eq (decimal (digits_value 10 text)) text) (digits_value 10 text) n h in
+    let tests = parts (nat_lt (digits_value 10 text) (2 ^ 64)) (bytes_eq (decimal (digits_value 10 text)) text) found.0 in
+    (
+      subst (λ (m : ℕ). m < 2 ^ 64) found.1 (ltb-true (digits_value 10 text) (2 ^ 64) tests.0),
+      ap decimal (sym found.1) ∙ (bytes_eq-Decides (decimal (digits_value 10 text)) text).0 tests.1,
+    )
+
+pub number-read : (text : List ℕ) (r : Option ℕ) → IfSome r (λ n. n < 2 ^ 64) → IfSome r (λ n. decimal n ≡ text)
+    → ((n : ℕ) → n < 2 ^ 64 → decimal n ≡ text → r ≡ Some n) → r ≡ number_of text
+number-read text (Some n) low spelt found = sym (number-found text n low spelt)
+number-read text None low spelt found = none-is (number_of text) (λ n h. let is = number-spelt text n h in let e = found n is.0 is.1 in absurd (cc))
+
+-- bytes below 256 are those that their digits pair to
+paired-hexadecimal : (bytes : List ℕ) → ((k : ℕ) → get_or bytes k 0 < 256) → paired (hexadecimal bytes) ≡ bytes
+unfolding hexadecimal
+paired-hexadecimal [] small = refl
+paired-hexadecimal (b ∷ more) small =
+    let low = small 0 in
+    let high = digit_value-digit_char (b / 16) (omega (arith, low)) in
+    let last = digit_value-digit_char (b % 16) (omega arith) in
+    let value : digit_value (digit_char (b / 16)) * 16 + digit_value (digit_char (b % 16)) ≡ b = omega (arith, high, last) in
+    ap (λ n. n ∷ paired (hexadecimal more)) value ∙ ap (λ rest. b ∷ rest) (paired-hexadecimal more (λ k. small (suc k)))
+
+all-below : (bytes : List ℕ) → ((k : ℕ) → get_or bytes k 0 < 256) → list_all (λ b. nat_lt b 256) bytes ≡ true
+all-below [] small = refl
+all-below (b ∷ more) small = both (nat_lt b 256) (list_all (λ x. nat_lt x 256) more) (lt-ltb b 256 (small 0)) (all-below more (λ k. small (suc k)))
+
+below-all : (bytes : List ℕ) → list_all (λ b. nat_lt b 256) bytes ≡ true → (k : ℕ) → get_or bytes k 0 < 256
+below-all [] all k = omega arith
+below-all (b ∷ more) all zero = ltb-true b 256 (parts (nat_lt b 256) (list_all (λ x. nat_lt x 256) more) all).0
+below-all (b ∷ more) all (suc k) = below-all more (parts (nat_lt b 256) (list_all (λ x. nat_lt x 256) more) all).1 k
+
+dice-tests : (bytes : List ℕ) → AreDigits bytes → are_dice bytes ≡ true
+dice-tests bytes are = both (length bytes == 16) (list_all (λ b. nat_lt b 256) bytes) (eq-eqb (length bytes) 16 are.count) (all-below bytes are.bytes)
+
+tests-dice : (bytes : List ℕ) → are_dice bytes ≡ true → AreDigits bytes
+tests-dice bytes h =
+    let both = parts (length bytes == 16) (list_all (λ b. nat_lt b 256) bytes) h in
+    record { count = eqb-true (length bytes) 16 both.0; bytes = below-all bytes both.1 }
+
+dice-found : (text dice : List ℕ) → AreDigits dice → hexadecimal dice ≡ text → dice_of text ≡ Some dice
+unfolding dice_of
+dice-found text dice are is =
+    let value : paired text ≡ dice = ap paired (sym is) ∙ paired-hexadecimal dice are.bytes in
+    let fit : are_dice (paired text) ≡ true = ap are_dice value ∙ dice-tests dice are in
+    let same : bytes_eq (hexadecimal (paired text)) text ≡ true = (bytes_eq-Decides (hexadecimal (paired text)) text).1 (ap hexadecimal value ∙ is) in
+    cond-true (are_dice (paired text) && bytes_eq (hexadecimal (paired text)) text) (Some (paired text)) None
+    (both (are_dice (paired text)) (bytes_eq (hexadecimal (paired text)) text) fit same)
+    ∙ ap Some value
+
+dice-spelt : (text dice : List ℕ) → dice_of text ≡ Some dice → AreDigits dice × (hexadecimal dice ≡ text)
+unfolding dice_of
+dice-spelt text dice h =
+    let found = cond_some (are_dice (paired text) && bytes_eq (hexadecimal (paired text)) text) (paired text) dice h in
+    let tests = parts (are_dice (paired text)) (bytes_eq (hexadecimal (paired text)) text) found.0 in
+    (
+      subst AreDigits found.1 (tests-dice (paired text) tests.0),
+      ap hexadecimal (sym found.1) ∙ (bytes_eq-Decides (hexadecimal (paired text)) text).0 tests.1,
+    )
+
+pub dice-read : (text : List ℕ) (r : Option (List ℕ)) → IfSome r (λ dice. AreDigits dice × (hexadecimal dice ≡ text))
+    → ((dice : List ℕ) → AreDigits dice → hexadecimal dice ≡ text → r ≡ Some dice) → r ≡ dice_of text
+dice-read text (Some dice) spelt found = sym (dice-found text dice spelt.0 spelt.1)
+dice-read text None spelt found = none-is (dice_of text) (λ dice h. let is = dice-spelt text dice h in let e = found dice is.0 is.1 in absurd (cc))

@@ -1,0 +1,6 @@
+pub mod Characters
+pub mod Lines
+pub mod Notices
+pub mod Numbers
+pub mod Prints
+pub mod Readings

@@ -1,0 +1,33 @@
+-- Numbers and sixteen bytes as a script writes them.
+use Rattle.std.specs.Prelude.{ℕ, ◌+◌, ◌*◌, ◌^◌, ◌==◌, nat_lt, Bool, ◌&&◌, List, [], ◌∷◌, length, bytes_eq, Option, Some, None, if◌then◌else◌}
+use Rattle.std.specs.List.{list_all}
+use Rattle.std.specs.Char.{digit_value}
+use Rattle.std.specs.Fmt.{decimal}
+use Rattle.std.specs.Str.Parse.{digits_value}
+use Rattle.sm_resume.specs.Spelling.{hexadecimal}
+
+-- the number below 2^64 that is written so in decimal, without leading zeros
+unfoldable pub number_of : List ℕ → Option ℕ
+number_of text =
+    if nat_lt (digits_value 10 text) (2 ^ 64) && bytes_eq (decimal (digits_value 10 text)) text then Some (digits_value 10 text) else None
+
+abbrev pub below : ℕ → Option ℕ → Option ℕ
+below most None = None
+below most (Some n) = if nat_lt n most then Some n else None
+
+-- the number of a line for a connection, of which there are at most 1024
+abbrev pub line_number_of : List ℕ → Option ℕ
+line_number_of text = below 1024 (number_of text)
+
+-- the byte of each two hexadecimal digits, the higher half first
+abbrev pub paired : List ℕ → List ℕ
+paired [] = []
+paired (high ∷ []) = []
+paired (high ∷ low ∷ more) = (digit_value high * 16 + digit_value low) ∷ paired more
+
+abbrev pub are_dice : List ℕ → Bool
+are_dice bytes = (length bytes == 16) && list_all (λ b. nat_lt b 256) bytes
+
+-- the sixteen bytes that are written so, as 32 lower-case hexadecimal digits
+unfoldable pub dice_of : List ℕ → Option (List ℕ)
+dice_of text = if are_dice (paired text) && bytes_eq (hexadecimal (paired text)) text then Some (paired text) else None

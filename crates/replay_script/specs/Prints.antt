@@ -1,0 +1,36 @@
+-- What is printed of a turn: one line.
+use Rattle.std.specs.Prelude.{ℕ, List, [], ◌∷◌, ◌++◌, Bool, true, false, codes, flat_map}
+use Rattle.std.specs.Fmt.{decimal}
+use Rattle.house_model.specs.declared.reply.Reply.{Reply}
+use Rattle.house_model.specs.declared.reply.Reply.TheVariants.{Opened, Done, Bound, Frame, Nothing, Absent, Unready, NoUser}
+use Rattle.house_model.specs.Histories.{Outcome, Made, Short, Turn}
+
+-- these bytes and a line feed
+abbrev pub line : List ℕ → List ℕ
+line bytes = bytes ++ 10 ∷ []
+
+abbrev pub frame_line : List ℕ → List ℕ
+frame_line text = codes "frame " ++ line text
+
+abbrev pub nothing_line : Bool → List ℕ
+nothing_line true = line (codes "nothing due")
+nothing_line false = line (codes "nothing")
+
+abbrev pub print_of : Reply → List ℕ → List ℕ
+print_of (Opened n) text = line (codes "opened " ++ decimal n)
+print_of Done text = line (codes "done")
+print_of Bound text = line (codes "bound")
+print_of Frame text = frame_line text
+print_of (Nothing due) text = nothing_line due
+print_of Absent text = line (codes "absent")
+print_of Unready text = line (codes "unready")
+print_of NoUser text = line (codes "no user")
+
+-- a turn without memory prints nothing
+abbrev pub print_outcome : Outcome → List ℕ
+print_outcome (Made reply text) = print_of reply text
+print_outcome Short = []
+
+-- the lines of a history, one after another
+abbrev pub prints : List Turn → List ℕ
+prints h = flat_map (λ (x : Turn). print_outcome x.outcome) h

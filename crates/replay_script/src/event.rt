@@ -1,0 +1,131 @@
+//! The lines of a script, but for its first, and the event that each is.
+ghost use Rattle.std.specs.Prelude.{◌≡◌};
+ghost use Rattle.replay_script.specs.Lines.{open_of, pull_of, user_of, login_of, id_of, resource_in, bind_of, note_of, event_by};
+ghost use Rattle.replay_script.specs.Readings.{Gives};
+
+use crate::fault::LineFault;
+use crate::fields::{first_field, is_token};
+use crate::notice::read_notice;
+use crate::numbers::{read_decimal, read_dice, read_line_number};
+use house_model::Event;
+use jid_core::Part;
+use stanza_tree::Text;
+use std::alloc::Global;
+
+/// How many bytes the id of a request may have.
+const MOST_ID: usize = 65_536;
+
+/// The event of a line by its word and what stands after it.
+pub(crate) fn read_event(alloc: Global, word: &[u8], rest: &[u8]) -> Result<Event, LineFault>
+    ensures { Gives (event_by word.now rest.now) result }
+{
+    if word == b"open".as_slice() {
+        return read_open(rest).ok_or(LineFault::Bad);
+    }
+    if word == b"pull".as_slice() {
+        return read_pull(rest).ok_or(LineFault::Bad);
+    }
+    if word == b"login".as_slice() {
+        return read_login(alloc, rest);
+    }
+    if word == b"bind".as_slice() {
+        return read_bind(alloc, rest);
+    }
+    if word == b"note".as_slice() {
+        return read_note(alloc, rest);
+    }
+    Err(LineFault::Bad)
+}
+
+fn read_open(rest: &[u8]) -> Option<Event>
+    ensures { result ≡ open_of rest.now }
+{
+    let w = read_line_number(rest)?;
+    Some(Event::OpenLine { w })
+}
+
+fn read_pull(rest: &[u8]) -> Option<Event>
+    ensures { result ≡ pull_of rest.now }
+{
+    let (w, t) = first_field(rest)?;
+    let w = read_line_number(w)?;
+    let t = read_decimal(t)?;
+    Some(Event::Pull { w, t })
+}
+
+/// A prepared local part without a comma.
+pub(crate) fn read_user(alloc: Global, bytes: &[u8]) -> Result<Part, LineFault>
+    ensures { Gives (user_of bytes.now) result }
+{
+    let user = Part::local(alloc, bytes)?;
+    if user.bytes() == bytes && !bytes.contains(&b',') {
+        Ok(user)
+    } else {
+        Err(LineFault::Bad)
+    }
+}
+
+fn read_login(alloc: Global, rest: &[u8]) -> Result<Event, LineFault>
+    ensures { Gives (login_of rest.now) result }
+{
+    let (w, user) = first_field(rest).ok_or(LineFault::Bad)?;
+    let w = read_line_number(w).ok_or(LineFault::Bad)?;
+    let user = read_user(alloc, user)?;
+    Ok(Event::Login { w, user })
+}
+
+#[tactic(auto, using(crate::proofs::CharacterLemmas::token_utf8))]
+fn read_id(alloc: Global, bytes: &[u8]) -> Result<Text, LineFault>
+    ensures { Gives (id_of bytes.now) result }
+{
+    if bytes.len() > MOST_ID || !is_token(bytes) {
+        return Err(LineFault::Bad);
+    }
+    Ok(Text::of(alloc, bytes)?)
+}
+
+/// The resource that is asked for, or `*` for none.
+fn read_resource(alloc: Global, bytes: &[u8]) -> Result<Option<Part>, LineFault>
+    ensures { Gives (resource_in bytes.now) result }
+{
+    if bytes == b"*".as_slice() {
+        return Ok(None);
+    }
+    if !is_token(bytes) {
+        return Err(LineFault::Bad);
+    }
+    Ok(Some(Part::resource(alloc, bytes)?))
+}
+
+fn read_bind(alloc: Global, rest: &[u8]) -> Result<Event, LineFault>
+    ensures { Gives (bind_of rest.now) result }
+{
+    let (w, rest) = first_field(rest).ok_or(LineFault::Bad)?;
+    let w = read_line_number(w).ok_or(LineFault::Bad)?;
+    let (t, rest) = first_field(rest).ok_or(LineFault::Bad)?;
+    let t = read_decimal(t).ok_or(LineFault::Bad)?;
+    let (dice, rest) = first_field(rest).ok_or(LineFault::Bad)?;
+    let dice = read_dice(dice).ok_or(LineFault::Bad)?;
+    let (id, resource) = first_field(rest).ok_or(LineFault::Bad)?;
+    let id = read_id(alloc, id)?;
+    let resource = read_resource(alloc, resource)?;
+    Ok(Event::Bind {
+        w,
+        id,
+        resource,
+        t,
+        dice,
+    })
+}
+
+fn read_note(alloc: Global, rest: &[u8]) -> Result<Event, LineFault>
+    ensures { Gives (note_of rest.now) result }
+{
+    let (w, rest) = first_field(rest).ok_or(LineFault::Bad)?;
+    let w = read_line_number(w).ok_or(LineFault::Bad)?;
+    let (t, rest) = first_field(rest).ok_or(LineFault::Bad)?;
+    let t = read_decimal(t).ok_or(LineFault::Bad)?;
+    let (address, words) = first_field(rest).ok_or(LineFault::Bad)?;
+    let stanza = read_notice(alloc, address, words)?;
+    Ok(Event::Act { w, stanza, t })
+}

@@ -1,0 +1,19 @@
+//! Lines of a script as steps, and what is printed of replies.
+#![tactic(auto)]
+
+mod event;
+pub mod fault;
+mod fields;
+mod notice;
+mod numbers;
+mod opening;
+mod print;
+mod read;
+pub mod step;
+#[cfg(test)]
+mod tests;
+
+pub use fault::LineFault;
+pub use print::print_reply;
+pub use read::read_line;
+pub use step::Step;
