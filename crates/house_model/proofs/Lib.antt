@@ -4,3 +4,4 @@ pub mod Laws
 pub mod NumberedLemmas
 pub mod Sounds
 pub mod Texts
+pub mod Turns

@@ -43,8 +43,7 @@ pub number-spelt : (text : List ℕ) (n : ℕ) → number_of text ≡ Some n →
 unfolding number_of
 number-spelt text n h =
     let found = cond_some (nat_lt (digits_value 10 text) (2 ^ 64) && bytes_eq (decimal (digits_value 10 text)) text) (digits_value 10 text) n h in
-    let tests = parts (nat_lt (digits_value 10 text) (2 ^ 64)) (bytes_eq (decimal (digits_value 10 text)) text) found.0 in
-    (
+    let tests = parts (nat_lt (digits_value 10 text) (2 ^ 64)) (bytes_eq (decimal (digits_value 10 text)) text) found.0 in (
       subst (λ (m : ℕ). m < 2 ^ 64) found.1 (ltb-true (digits_value 10 text) (2 ^ 64) tests.0),
       ap decimal (sym found.1) ∙ (bytes_eq-Decides (decimal (digits_value 10 text)) text).0 tests.1,
     )
@@ -96,8 +95,7 @@ dice-spelt : (text dice : List ℕ) → dice_of text ≡ Some dice → AreDigits
 unfolding dice_of
 dice-spelt text dice h =
     let found = cond_some (are_dice (paired text) && bytes_eq (hexadecimal (paired text)) text) (paired text) dice h in
-    let tests = parts (are_dice (paired text)) (bytes_eq (hexadecimal (paired text)) text) found.0 in
-    (
+    let tests = parts (are_dice (paired text)) (bytes_eq (hexadecimal (paired text)) text) found.0 in (
       subst AreDigits found.1 (tests-dice (paired text) tests.0),
       ap hexadecimal (sym found.1) ∙ (bytes_eq-Decides (hexadecimal (paired text)) text).0 tests.1,
     )

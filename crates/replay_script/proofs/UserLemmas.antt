@@ -9,9 +9,9 @@ use Rattle.std.proofs.lemmas.Option.{cond_some}
 use Rattle.std.proofs.lemmas.Slice.Eq.{bytes_eq-Decides}
 use Rattle.std.specs.Prelude.{Result, Ok, Err}
 use Rattle.jid_core.specs.Cuts.{before, after}
-use Rattle.jid_core.specs.Preparation.{local_of}
+use Rattle.jid_core.specs.Preparation.{is_local, local_of}
 use Rattle.jid_core.specs.declared.fault.JidFault.{JidFault}
-use Rattle.replay_script.specs.Lines.{same, user_of, is_user, all_differ, are_users, users_of}
+use Rattle.replay_script.specs.Lines.{same, user_of, new_user, is_user, all_differ, are_users, users_of}
 
 abbrev is_comma : ℕ → Bool
 is_comma b = b == 44
@@ -79,8 +79,8 @@ differ_more (x ∷ more) u differ new =
     let old = parts-of (not (list_any (λ y. bytes_eq x y) more)) (all_differ more) differ in
     let apart = halves (bytes_eq x u) (list_any (λ y. bytes_eq y u) more) new in
     let none : list_any (λ y. bytes_eq x y) (more ++ u ∷ []) ≡ false =
-        list_any-append (λ y. bytes_eq x y) more (u ∷ [])
-        ∙ or-false (list_any (λ y. bytes_eq x y) more) (bytes_eq x u || false) (not-true (list_any (λ y. bytes_eq x y) more) old.0) (or-false (bytes_eq x u) false apart.0 refl) in
+    list_any-append (λ y. bytes_eq x y) more (u ∷ [])
+    ∙ or-false (list_any (λ y. bytes_eq x y) more) (bytes_eq x u || false) (not-true (list_any (λ y. bytes_eq x y) more) old.0) (or-false (bytes_eq x u) false apart.0 refl) in
     both (not (list_any (λ y. bytes_eq x y) (more ++ u ∷ []))) (all_differ (more ++ u ∷ [])) (ap not none) (differ_more more u old.1 apart.1)
 
 or-one : (a b : Bool) → a ≡ true → (a || b) ≡ true
@@ -128,14 +128,15 @@ pub users_bad : (field rest : List ℕ) (us : List (List ℕ)) → us ++ slice_s
 users_bad field rest us is none =
     let first = split-first rest (after 44 rest) refl in
     let fails : list_all is_user (us ++ before 44 rest ∷ first.0) ≡ false =
-        list_all-append is_user us (before 44 rest ∷ first.0)
-        ∙ and-last (list_all is_user us) (is_user (before 44 rest) && list_all is_user first.0) (first-none (is_user (before 44 rest)) (list_all is_user first.0) (ap is_some none)) in
+    list_all-append is_user us (before 44 rest ∷ first.0)
+    ∙ and-last (list_all is_user us) (is_user (before 44 rest) && list_all is_user first.0) (first-none (is_user (before 44 rest)) (list_all is_user first.0) (ap is_some none)) in
     refused field (us ++ before 44 rest ∷ first.0) (whole field rest us first.0 is first.1)
     (middle (nat_le (length (us ++ before 44 rest ∷ first.0)) 4096) (list_all is_user (us ++ before 44 rest ∷ first.0)) (all_differ (us ++ before 44 rest ∷ first.0)) fails)
   where
     first-none : (a b : Bool) → a ≡ false → (a && b) ≡ false
     first-none true b p = absurd (cc)
     first-none false b p = refl
+
     middle : (a b c : Bool) → b ≡ false → (a && b && c) ≡ false
     middle true true c p = absurd (cc)
     middle true false c p = refl
@@ -211,3 +212,32 @@ pub users_all : (field rest : List ℕ) (us : List (List ℕ)) (u : List ℕ) �
 users_all field rest us u is few all differ one new cut =
     users_good field (us ++ u ∷ []) (last_parts field rest us u is one cut) (omega (arith, few, length-append us (u ∷ []))) (step_users us u (before 44 rest) all one)
     (step_differ us u (before 44 rest) differ one new)
+
+pub step_prepared : (us : List (List ℕ)) (u : List ℕ) → list_all is_local us ≡ true → is_local u ≡ true → list_all is_local (us ++ u ∷ []) ≡ true
+step_prepared us u all one = list_all-append is_local us (u ∷ []) ∙ both (list_all is_local us) (is_local u && true) all (both (is_local u) true one refl)
+
+pub new-user : (b : Bool) (us : List (List ℕ)) (text u : List ℕ) → (if b then None else user_of text) ≡ Some u → (b ≡ false) × (user_of text ≡ Some u)
+new-user true us text u h = absurd (cc)
+new-user false us text u h = (refl, h)
+
+-- a user who was there, or none
+pub users_refused : (field rest : List ℕ) (us : List (List ℕ)) → us ++ slice_split is_comma rest ≡ slice_split is_comma field
+    → new_user us (before 44 rest) ≡ None → users_of field ≡ None
+users_refused field rest us is none = elim (cases_Bool (list_any (λ x. bytes_eq x (before 44 rest)) us)) [
+  | inl e ↦ users_twice field rest us is e
+  | inr e ↦ users_bad field rest us is (sym (cond-false (list_any (λ x. bytes_eq x (before 44 rest)) us) None (user_of (before 44 rest)) e) ∙ none)
+]
+
+-- one user more, and the last
+pub users_step : (field rest more : List ℕ) (us : List (List ℕ)) (u : List ℕ) → us ++ slice_split is_comma rest ≡ slice_split is_comma field
+    → list_all is_user us ≡ true → all_differ us ≡ true → new_user us (before 44 rest) ≡ Some u → after 44 rest ≡ Some more
+    → ((us ++ u ∷ []) ++ slice_split is_comma more ≡ slice_split is_comma field) × (list_all is_user (us ++ u ∷ []) ≡ true) × (all_differ (us ++ u ∷ []) ≡ true)
+users_step field rest more us u is all differ one cut =
+    let new = new-user (list_any (λ x. bytes_eq x (before 44 rest)) us) us (before 44 rest) u one in
+    (step_parts field rest more us u is new.1 cut, step_users us u (before 44 rest) all new.1, step_differ us u (before 44 rest) differ new.1 new.0)
+
+pub users_end : (field rest : List ℕ) (us : List (List ℕ)) (u : List ℕ) → us ++ slice_split is_comma rest ≡ slice_split is_comma field → length us < 4096
+    → list_all is_user us ≡ true → all_differ us ≡ true → new_user us (before 44 rest) ≡ Some u → after 44 rest ≡ None → users_of field ≡ Some (us ++ u ∷ [])
+users_end field rest us u is few all differ one cut =
+    let new = new-user (list_any (λ x. bytes_eq x (before 44 rest)) us) us (before 44 rest) u one in
+    users_all field rest us u is few all differ new.1 new.0 cut

@@ -4,3 +4,4 @@ pub mod Notices
 pub mod Numbers
 pub mod Prints
 pub mod Readings
+pub mod Scripts

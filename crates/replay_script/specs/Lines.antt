@@ -1,11 +1,12 @@
 -- What each line of a script is. Its fields are separated by one space.
-use Rattle.std.specs.Prelude.{ℕ, ◌+◌, ◌==◌, nat_lt, nat_le, Bool, true, false, not, ◌&&◌, List, [], ◌∷◌, length, codes, bytes_eq, Option, Some, None, Result, Ok, Err, is_some, if◌then◌else◌}
+use Rattle.std.specs.Prelude.{◌≡◌, ◌≤◌, ℕ, ◌+◌, ◌==◌, nat_lt, nat_le, Bool, true, false, not, ◌&&◌, List, [], ◌∷◌, length, codes, bytes_eq, Option, Some, None, Result, Ok, Err, is_some, if◌then◌else◌}
 use Rattle.std.specs.List.{slice_split, list_all, list_any}
 use Rattle.jid_core.specs.Addresses.{Address, address_of, address_text}
-use Rattle.jid_core.specs.Preparation.{local_of, resource_of}
+use Rattle.jid_core.specs.Preparation.{is_local, local_of, resource_of}
 use Rattle.jid_core.specs.declared.fault.JidFault.{JidFault}
 use Rattle.house_model.specs.declared.event.Event.{Event}
 use Rattle.house_model.specs.declared.event.Event.TheVariants.{OpenLine, Login, Bind, Act, Pull}
+use Rattle.house_model.specs.Histories.{Meets}
 use Rattle.replay_script.specs.declared.step.Step.{Step}
 use Rattle.replay_script.specs.declared.step.Step.TheVariants as step
 use Rattle.replay_script.specs.Characters.{is_token}
@@ -89,6 +90,10 @@ all_differ (x ∷ more) = not (list_any (λ y. bytes_eq x y) more) && all_differ
 abbrev pub is_user : List ℕ → Bool
 is_user text = is_some (user_of text)
 
+-- a user who is not among these
+abbrev pub new_user : List (List ℕ) → List ℕ → Option (List ℕ)
+new_user users text = if list_any (λ u. bytes_eq u text) users then None else user_of text
+
 -- USER,USER: 1 to 4,096 different ones
 abbrev pub are_users : List (List ℕ) → Bool
 are_users users = nat_le (length users) 4096 && list_all is_user users && all_differ users
@@ -116,3 +121,8 @@ step_by word rest = if bytes_eq word (codes "house") then house_of rest else on 
 -- a line of a script, without its line feed
 abbrev pub step_of : List ℕ → Option Step
 step_of line = cut line step_by
+
+-- what House::new and the events of a step ask of them holds
+abbrev pub StepFits : Step → Type 0
+StepFits (step.Begin domain users workers) = (list_all is_local users ≡ true) × (length users ≤ 4096)
+StepFits (step.Event e) = Meets e

@@ -1,5 +1,7 @@
 //! The lines of a script, but for its first, and the event that each is.
-ghost use Rattle.std.specs.Prelude.{◌≡◌};
+ghost use Rattle.std.specs.Prelude.{◌≡◌, IfOk, IfSome, IsTrue};
+ghost use Rattle.jid_core.specs.Preparation.{is_local};
+ghost use Rattle.house_model.specs.Histories.{IdFits, Meets};
 ghost use Rattle.replay_script.specs.Lines.{open_of, pull_of, user_of, login_of, id_of, resource_in, bind_of, note_of, event_by};
 ghost use Rattle.replay_script.specs.Readings.{Gives};
 
@@ -17,7 +19,8 @@ const MOST_ID: usize = 65_536;
 
 /// The event of a line by its word and what stands after it.
 pub(crate) fn read_event(alloc: Global, word: &[u8], rest: &[u8]) -> Result<Event, LineFault>
-    ensures { Gives (event_by word.now rest.now) result }
+    ensures read { Gives (event_by word.now rest.now) result }
+    ensures meets { IfOk result Meets }
 {
     if word == b"open".as_slice() {
         return read_open(rest).ok_or(LineFault::Bad);
@@ -38,14 +41,16 @@ pub(crate) fn read_event(alloc: Global, word: &[u8], rest: &[u8]) -> Result<Even
 }
 
 fn read_open(rest: &[u8]) -> Option<Event>
-    ensures { result ≡ open_of rest.now }
+    ensures read { result ≡ open_of rest.now }
+    ensures meets { IfSome result Meets }
 {
     let w = read_line_number(rest)?;
     Some(Event::OpenLine { w })
 }
 
 fn read_pull(rest: &[u8]) -> Option<Event>
-    ensures { result ≡ pull_of rest.now }
+    ensures read { result ≡ pull_of rest.now }
+    ensures meets { IfSome result Meets }
 {
     let (w, t) = first_field(rest)?;
     let w = read_line_number(w)?;
@@ -55,7 +60,8 @@ fn read_pull(rest: &[u8]) -> Option<Event>
 
 /// A prepared local part without a comma.
 pub(crate) fn read_user(alloc: Global, bytes: &[u8]) -> Result<Part, LineFault>
-    ensures { Gives (user_of bytes.now) result }
+    ensures read { Gives (user_of bytes.now) result }
+    ensures prepared { IfOk result (λ user. IsTrue (is_local user)) }
 {
     let user = Part::local(alloc, bytes)?;
     if user.bytes() == bytes && !bytes.contains(&b',') {
@@ -66,7 +72,8 @@ pub(crate) fn read_user(alloc: Global, bytes: &[u8]) -> Result<Part, LineFault>
 }
 
 fn read_login(alloc: Global, rest: &[u8]) -> Result<Event, LineFault>
-    ensures { Gives (login_of rest.now) result }
+    ensures read { Gives (login_of rest.now) result }
+    ensures meets { IfOk result Meets }
 {
     let (w, user) = first_field(rest).ok_or(LineFault::Bad)?;
     let w = read_line_number(w).ok_or(LineFault::Bad)?;
@@ -76,7 +83,8 @@ fn read_login(alloc: Global, rest: &[u8]) -> Result<Event, LineFault>
 
 #[tactic(auto, using(crate::proofs::CharacterLemmas::token_utf8))]
 fn read_id(alloc: Global, bytes: &[u8]) -> Result<Text, LineFault>
-    ensures { Gives (id_of bytes.now) result }
+    ensures read { Gives (id_of bytes.now) result }
+    ensures fits { IfOk result IdFits }
 {
     if bytes.len() > MOST_ID || !is_token(bytes) {
         return Err(LineFault::Bad);
@@ -98,7 +106,8 @@ fn read_resource(alloc: Global, bytes: &[u8]) -> Result<Option<Part>, LineFault>
 }
 
 fn read_bind(alloc: Global, rest: &[u8]) -> Result<Event, LineFault>
-    ensures { Gives (bind_of rest.now) result }
+    ensures read { Gives (bind_of rest.now) result }
+    ensures meets { IfOk result Meets }
 {
     let (w, rest) = first_field(rest).ok_or(LineFault::Bad)?;
     let w = read_line_number(w).ok_or(LineFault::Bad)?;
@@ -119,7 +128,8 @@ fn read_bind(alloc: Global, rest: &[u8]) -> Result<Event, LineFault>
 }
 
 fn read_note(alloc: Global, rest: &[u8]) -> Result<Event, LineFault>
-    ensures { Gives (note_of rest.now) result }
+    ensures read { Gives (note_of rest.now) result }
+    ensures meets { IfOk result Meets }
 {
     let (w, rest) = first_field(rest).ok_or(LineFault::Bad)?;
     let w = read_line_number(w).ok_or(LineFault::Bad)?;

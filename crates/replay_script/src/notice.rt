@@ -1,5 +1,6 @@
 //! The stanza of a `note` line.
 ghost use Rattle.std.specs.Prelude.{◌≡◌, [], ◌∷◌, codes, IfOk, IsUtf8};
+ghost use Rattle.house_model.specs.Histories.{StanzaFits};
 ghost use Rattle.replay_script.specs.Notices.{plain_attr, body_of, notice, notice_of};
 ghost use Rattle.replay_script.specs.Readings.{Gives};
 
@@ -15,12 +16,9 @@ const MOST_STANZA: u64 = 196_608;
 
 /// `<message to='ADDRESS' type='headline'><body>WORDS</body></message>`. Costs the bytes of both.
 #[tactic(auto, using(crate::proofs::CharacterLemmas::token_utf8, crate::proofs::CharacterLemmas::xml_utf8))]
-pub(crate) fn read_notice(
-    alloc: Global,
-    address: &[u8],
-    words: &[u8],
-) -> Result<Stanza, LineFault>
-    ensures { Gives (notice_of address.now words.now) result }
+pub(crate) fn read_notice(alloc: Global, address: &[u8], words: &[u8]) -> Result<Stanza, LineFault>
+    ensures read { Gives (notice_of address.now words.now) result }
+    ensures fits { IfOk result StanzaFits }
 {
     if !is_token(address) || !is_xml(words) || words.is_empty() {
         return Err(LineFault::Bad);

@@ -1,7 +1,8 @@
 //! The first line of a script, `house DOMAIN USER,USER WORKERS`.
-ghost use Rattle.std.specs.Prelude.{◌≡◌, bytes_eq};
-ghost use Rattle.std.specs.List.{list_any};
-ghost use Rattle.replay_script.specs.Lines.{domain_of, users_of, workers_of, house_of};
+ghost use Rattle.std.specs.Prelude.{◌≡◌, ◌≤◌, length, bytes_eq, IfOk, IsTrue};
+ghost use Rattle.std.specs.List.{list_any, list_all};
+ghost use Rattle.jid_core.specs.Preparation.{is_local};
+ghost use Rattle.replay_script.specs.Lines.{StepFits, domain_of, new_user, users_of, workers_of, house_of};
 ghost use Rattle.replay_script.specs.Readings.{Gives};
 
 use crate::event::read_user;
@@ -21,7 +22,8 @@ const MOST_USERS: usize = 4096;
 
 /// The house of a first line by what stands after its word. Costs the square of the number of users.
 pub(crate) fn read_house(alloc: Global, rest: &[u8]) -> Result<Step, LineFault>
-    ensures { Gives (house_of rest.now) result }
+    ensures read { Gives (house_of rest.now) result }
+    ensures fits { IfOk result StepFits }
 {
     let (domain, rest) = first_field(rest).ok_or(LineFault::Bad)?;
     let domain = read_domain(alloc, domain)?;
@@ -67,18 +69,28 @@ fn has(users: &[Part], bytes: &[u8]) -> bool
     users.iter().any(|user| user.bytes() == bytes)
 }
 
-#[tactic(auto, using(crate::proofs::UserLemmas::users_bad, crate::proofs::UserLemmas::users_many, crate::proofs::UserLemmas::step_parts, crate::proofs::UserLemmas::step_users, crate::proofs::UserLemmas::step_differ))]
+/// A user who is not among these.
+fn read_new_user(alloc: Global, users: &[Part], bytes: &[u8]) -> Result<Part, LineFault>
+    ensures read { Gives (new_user users.now bytes.now) result }
+    ensures prepared { IfOk result (λ user. IsTrue (is_local user)) }
+{
+    if has(users, bytes) {
+        return Err(LineFault::Bad);
+    }
+    read_user(alloc, bytes)
+}
+
+#[tactic(auto, using(crate::proofs::UserLemmas::users_refused, crate::proofs::UserLemmas::users_many))]
 fn read_users(alloc: Global, field: &[u8]) -> Result<Several<Part>, LineFault>
-    ensures { Gives (users_of field.now) result }
+    ensures read { Gives (users_of field.now) result }
+    ensures prepared { IfOk result (λ users. IsTrue (list_all is_local users)) }
+    ensures few { IfOk result (λ users. length users ≤ 4096) }
 {
     let mut users = Vec::new(alloc);
     let mut rest = field;
     for _count in 0..MOST_USERS {
         let (bytes, more) = cut_at(b',', rest);
-        let user = read_user(alloc, bytes)?;
-        if has(users.as_slice(), bytes) {
-            return Err(LineFault::Bad);
-        }
+        let user = read_new_user(alloc, users.as_slice(), bytes)?;
         users.push(user)?;
         match more {
             Some(more) => rest = more,

@@ -1,0 +1,4 @@
+pub mod Feeds
+pub mod Plays
+pub mod Takings
+pub mod Words

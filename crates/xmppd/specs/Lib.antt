@@ -1,4 +1,2 @@
-pub mod Characters
-pub mod Outside
-pub mod Prints
-pub mod Replays
+pub mod Readings
+pub mod Runs

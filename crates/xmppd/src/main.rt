@@ -1,15 +1,9 @@
 //! A chat server for one XMPP domain (RFC 6120, RFC 6121).
 #![tactic(auto)]
 
-mod fields;
 mod lines;
-mod notice;
-mod opening;
-mod outside;
-mod print;
 mod replay;
 mod run;
-mod script;
 mod standard;
 mod status;
 #[cfg(test)]
@@ -34,7 +28,7 @@ fn run_on(rt: &HostRuntime) -> Status {
     };
     let mut source = ReaderSource::new(rt.reader());
     let mut sink = WriterSink::new(io::writer(rt));
-    run(rt.alloc(), words.as_slice(), &mut source, &mut sink)
+    run(rt, rt.alloc(), words.as_slice(), &mut source, &mut sink)
 }
 
 fn words_of(rt: &HostRuntime) -> io::Result<Vec<Text>> {

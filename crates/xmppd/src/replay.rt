@@ -1,39 +1,30 @@
 //! `replay`: plays a script and prints the reply of each line.
-ghost use Rattle.std.specs.Prelude.{◌≡◌, ℕ, ◌<◌, ◌≤◌, ◌^◌, ◌++◌, ◌∷◌, ◌≢◌, List, [], length, vec_capacity, Some, IfErr, IsTrue, OnOk, OnErr};
+ghost use Rattle.std.specs.Prelude.{◌≡◌, ℕ, ◌<◌, ◌≤◌, ◌^◌, ◌+◌, ◌++◌, ◌∷◌, List, [], length, vec_capacity, ◌≢◌, Option, Some, IfOk, IfErr, IsTrue, OnOk, OnErr};
 ghost use Rattle.house_model.specs.Histories.{Meets, StandsFor, Turn, line_of};
 ghost use Rattle.house_model.specs.Plain.{is_plain};
 ghost use Rattle.house_model.specs.States.{State};
-ghost use Rattle.xmppd.specs.Outside.{Rose};
-ghost use Rattle.xmppd.specs.Replays.{told, IsPrinted, IsReplayed};
+ghost use Rattle.outside.specs.Devices.{Rose};
+ghost use Rattle.replay_script.specs.Scripts.{Makes};
+ghost use Rattle.xmppd.specs.Readings.{unread};
+ghost use Rattle.xmppd.specs.Runs.{Front, Replayed, Going, Taking, Opens, Plays, Opening, Turning, Ending, told};
 
 use crate::lines::{Reader, Taken};
-use crate::opening::read_opening;
-use crate::outside::{Put, Sink, Source};
-use crate::print::print_reply;
-use crate::script::{LineFault, read_event};
 use crate::status::Status;
 use house_core::House;
 use house_model::{Event, Reply};
+use outside::{Put, Sink, Source};
+use replay_script::{LineFault, Step, print_reply, read_line};
 use stanza_tree::NoMemory;
 use std::alloc::Global;
 
 /// How many bytes a frame may have.
 const MOST_FRAME: usize = 524_288;
-/// How many turns a script may have: a line has one byte at least.
-const MOST_TURNS: u64 = 1_073_741_824;
-
-fn at(fault: LineFault, number: u64) -> Status
-    ensures { result ≢ Status.Done }
-{
-    match fault {
-        LineFault::Bad => Status::Script(number),
-        LineFault::NoMemory => Status::NoMemory,
-    }
-}
 
 /// Plays a script. Memory is taken for the house, for one line and for one frame. Costs the script and what is printed.
 pub fn replay<S: Source, K: Sink>(alloc: Global, source: &mut S, sink: &mut K) -> Status
-    ensures printed { (taken : List ℕ) → K.took sink.old ≡ Some taken → result ≡ Status.Done → IsReplayed taken (K.took sink.new) }
+    ensures replayed { Replayed (S.left source.old) (S.left source.new) (K.took sink.old) (K.took sink.new) result }
+    ensures read { result ≡ Status.ReadFault → Rose (S.faults source.old) (S.faults source.new) }
+    ensures written { result ≡ Status.WriteFault → Rose (K.faults sink.old) (K.faults sink.new) }
 {
     match play_all(alloc, source, sink) {
         Ok(()) => Status::Done,
@@ -42,49 +33,64 @@ pub fn replay<S: Source, K: Sink>(alloc: Global, source: &mut S, sink: &mut K) -
 }
 
 fn play_all<S: Source, K: Sink>(alloc: Global, source: &mut S, sink: &mut K) -> Result<(), Status>
-    ensures printed { (taken : List ℕ) → K.took sink.old ≡ Some taken → OnOk result (IsReplayed taken (K.took sink.new)) }
-    ensures told { IfErr result (λ status. status ≢ Status.Done) }
+    ensures replayed { Ending (S.left source.old) (S.left source.new) (K.took sink.old) (K.took sink.new) result }
+    ensures read { IfErr result (λ s. s ≡ Status.ReadFault → Rose (S.faults source.old) (S.faults source.new)) }
+    ensures written { IfErr result (λ s. s ≡ Status.WriteFault → Rose (K.faults sink.old) (K.faults sink.new)) }
 {
     let mut reader = Reader::new();
-    let mut line = Vec::new(alloc);
-    if !take(&mut reader, source, &mut line, 1)? {
-        return Ok(());
-    }
-    match read_opening(alloc, line.as_slice()) {
-        Ok(house) => play_rest(alloc, house, &mut reader, source, sink),
-        Err(fault) => Err(at(fault, 1)),
-    }
-}
-
-/// Plays all lines but the first.
-fn play_rest<S: Source, K: Sink>(
-    alloc: Global,
-    house: House,
-    reader: &mut Reader,
-    source: &mut S,
-    sink: &mut K,
-) -> Result<(), Status>
-    requires { IsPrinted house [] }
-    ensures printed { (taken : List ℕ) → K.took sink.old ≡ Some taken → OnOk result (IsReplayed taken (K.took sink.new)) }
-    ensures told { IfErr result (λ status. status ≢ Status.Done) }
-{
-    let mut house = house;
-    let mut line = Vec::new(alloc);
-    let mut text = Vec::new(alloc);
-    let mut out = Vec::new(alloc);
+    let house = match open_house(alloc, &mut reader, source)? {
+        Some(house) => house,
+        None => return Ok(()),
+    };
+    let mut player = Player::new(alloc, house);
     for number in 2..u64::MAX {
-        if !take(reader, source, &mut line, number)? {
+        if !player.turn(alloc, &mut reader, source, sink, number)? {
             return Ok(());
         }
-        out.clear();
-        if let Err(fault) = play(alloc, &mut house, line.as_slice(), &mut text, &mut out) {
-            return Err(at(fault, number));
-        }
-        write_all(sink, out.as_slice())?;
     }
-    Err(Status::Script(u64::MAX))
+    unreachable!()
 }
 
+/// Takes the first line and makes its house. None where there is no line.
+fn open_house<S: Source>(
+    alloc: Global,
+    reader: &mut Reader,
+    source: &mut S,
+) -> Result<Option<House>, Status>
+    requires held { reader.old.held ≡ [] }
+    requires given { reader.old.given ≡ 0 }
+    ensures falls { S.faults source.old ≤ S.faults source.new }
+    ensures read { IfErr result (λ s. s ≡ Status.ReadFault → Rose (S.faults source.old) (S.faults source.new)) }
+    ensures written { IfErr result (λ s. s ≢ Status.WriteFault) }
+    ensures opens { (took : Option (List ℕ)) → Opening (S.left source.old) (unread reader.new.held (S.left source.new)) (S.left source.new) took reader.new.given result }
+{
+    let mut line = Vec::new(alloc);
+    if !take(reader, source, &mut line, 1)? {
+        return Ok(None);
+    }
+    match house_of(alloc, line.as_slice()) {
+        Ok(house) => Ok(Some(house)),
+        Err(LineFault::Bad) => Err(Status::Script(1)),
+        Err(LineFault::NoMemory) => Err(Status::NoMemory),
+    }
+}
+
+/// The house of a first line.
+fn house_of(alloc: Global, line: &[u8]) -> Result<House, LineFault>
+    ensures opens { IfOk result (Opens line.now) }
+    ensures bad { IfErr result (λ f. f ≡ LineFault.Bad → (o : State) → Makes line.now o → ⊥) }
+{
+    match read_line(alloc, line)? {
+        Step::Begin {
+            domain,
+            users,
+            workers,
+        } => Ok(House::new(alloc, &domain, users.slice(), workers)?),
+        Step::Event(_) => Err(LineFault::Bad),
+    }
+}
+
+/// Takes a line, whose number this is. False where there is none.
 fn take<S: Source>(
     reader: &mut Reader,
     source: &mut S,
@@ -92,15 +98,84 @@ fn take<S: Source>(
     number: u64,
 ) -> Result<bool, Status>
     ensures falls { S.faults source.old ≤ S.faults source.new }
-    ensures failed { IfErr result (λ status. status ≡ Status.ReadFault → Rose (S.faults source.old) (S.faults source.new)) }
-    ensures reads { IfErr result (λ status. (status ≢ Status.WriteFault) × (status ≢ Status.Done)) }
+    ensures read { IfErr result (λ s. s ≡ Status.ReadFault → Rose (S.faults source.old) (S.faults source.new)) }
+    ensures takes { Taking (unread reader.old.held (S.left source.old)) (unread reader.new.held (S.left source.new)) reader.old.given reader.new.given line.new.items number result }
 {
-    match reader.take_line(source, line) {
-        Ok(Taken::Line) => Ok(true),
-        Ok(Taken::End) => Ok(false),
-        Ok(Taken::TooLong) => Err(Status::Script(number)),
-        Ok(Taken::Failed) => Err(Status::ReadFault),
-        Err(_) => Err(Status::NoMemory),
+    match reader.take_line(source, line)? {
+        Taken::Line => Ok(true),
+        Taken::End => Ok(false),
+        Taken::TooLong => Err(Status::Script(number)),
+        Taken::Failed => Err(Status::ReadFault),
+    }
+}
+
+/// The house of a play, and room for a line, a frame and a print.
+#[derive(Drop)]
+struct Player {
+    house: House,
+    line: Vec<u8>,
+    frame: Vec<u8>,
+    print: Vec<u8>,
+}
+
+impl Player {
+    fn new(alloc: Global, house: House) -> Player
+        ensures { result.house ≡ house }
+    {
+        Player {
+            house,
+            line: Vec::new(alloc),
+            frame: Vec::new(alloc),
+            print: Vec::new(alloc),
+        }
+    }
+
+    /// Takes the next line, plays it and writes its print. False where no line is left.
+    fn turn<S: Source, K: Sink>(
+        &mut self,
+        alloc: Global,
+        reader: &mut Reader,
+        source: &mut S,
+        sink: &mut K,
+        number: u64,
+    ) -> Result<bool, Status>
+        requires turns { self.old.house.turns < 2 ^ 63 }
+        ensures source_falls { S.faults source.old ≤ S.faults source.new }
+        ensures sink_falls { K.faults sink.old ≤ K.faults sink.new }
+        ensures read { IfErr result (λ s. s ≡ Status.ReadFault → Rose (S.faults source.old) (S.faults source.new)) }
+        ensures written { IfErr result (λ s. s ≡ Status.WriteFault → Rose (K.faults sink.old) (K.faults sink.new)) }
+        ensures turns { (left took : Option (List ℕ)) → Going left (unread reader.old.held (S.left source.old)) took (K.took sink.old) reader.old.given self.old.house number → Turning left (unread reader.new.held (S.left source.new)) (S.left source.new) took (K.took sink.new) reader.new.given self.new.house number result }
+    {
+        if !take(reader, source, &mut self.line, number)? {
+            return Ok(false);
+        }
+        match self.play(alloc) {
+            Ok(()) => {}
+            Err(LineFault::Bad) => return Err(Status::Script(number)),
+            Err(LineFault::NoMemory) => return Err(Status::NoMemory),
+        }
+        write_all(sink, self.print.as_slice())?;
+        Ok(true)
+    }
+
+    /// Plays the line: the house takes its event, and the print is that of the reply.
+    fn play(&mut self, alloc: Global) -> Result<(), LineFault>
+        requires { self.old.house.turns < 2 ^ 63 }
+        ensures { Plays self.old.house self.new.house self.old.line.items self.new.print.items result }
+    {
+        self.print.clear();
+        let event = match read_line(alloc, self.line.as_slice())? {
+            Step::Event(event) => event,
+            Step::Begin { .. } => return Err(LineFault::Bad),
+        };
+        if line_of(&event) as usize >= self.house.workers() || !self.house.is_plain(&event) {
+            return Err(LineFault::Bad);
+        }
+        self.frame.clear();
+        self.frame.reserve(MOST_FRAME)?;
+        let reply = enact(&mut self.house, &event, &mut self.frame)?;
+        print_reply(&reply, self.frame.as_slice(), &mut self.print)?;
+        Ok(())
     }
 }
 
@@ -117,40 +192,15 @@ fn line_of(event: &Event) -> u32
     }
 }
 
-/// Plays one line: the house takes its event, and the reply's line is appended.
-fn play(
-    alloc: Global,
-    house: &mut House,
-    line: &[u8],
-    text: &mut Vec<u8>,
-    out: &mut Vec<u8>,
-) -> Result<(), LineFault>
-    requires { out.old.items ≡ [] }
-    ensures { (printed : List ℕ) → IsPrinted house.old printed → OnOk result (IsPrinted house.new (printed ++ out.new.items)) }
-{
-    let event = read_event(alloc, line)?;
-    if line_of(&event) as usize >= house.workers()
-        || house.turns() >= MOST_TURNS
-        || !house.is_plain(&event)
-    {
-        return Err(LineFault::Bad);
-    }
-    text.clear();
-    text.reserve(MOST_FRAME)?;
-    let reply = enact(house, &event, text)?;
-    print_reply(reply, text.as_slice(), out)?;
-    Ok(())
-}
-
-/// Hands an event to the house. `text` is that of the frame that is given.
-fn enact(house: &mut House, event: &Event, text: &mut Vec<u8>) -> Result<Reply, NoMemory>
+/// Hands an event to the house. `frame` is the text of the frame that is given.
+fn enact(house: &mut House, event: &Event, frame: &mut Vec<u8>) -> Result<Reply, NoMemory>
     requires line { line_of event.now < length house.old.lines }
     requires turns { house.old.turns < 2 ^ 63 }
     requires meets { Meets event.now }
     requires plain { IsTrue (is_plain house.old event.now) }
-    requires text { text.old.items ≡ [] }
-    requires room { 524288 ≤ vec_capacity text.old }
-    ensures history { (o : State) (h : List Turn) → StandsFor o h house.old → StandsFor o (h ++ told event.now result text.new.items ∷ []) house.new }
+    requires frame { frame.old.items ≡ [] }
+    requires room { 524288 ≤ vec_capacity frame.old }
+    ensures history { (o : State) (h : List Turn) → StandsFor o h house.old → StandsFor o (h ++ told event.now result frame.new.items ∷ []) house.new }
 {
     match event {
         Event::OpenLine { w } => Ok(house.open_line(*w)),
@@ -163,7 +213,7 @@ fn enact(house: &mut House, event: &Event, text: &mut Vec<u8>) -> Result<Reply, 
             dice,
         } => house.bind(*w, id, resource.as_ref(), *t, *dice),
         Event::Act { w, stanza, t } => house.act(*w, stanza, *t),
-        Event::Pull { w, t } => Ok(house.pull(*w, *t, text)),
+        Event::Pull { w, t } => Ok(house.pull(*w, *t, frame)),
     }
 }
 
@@ -171,8 +221,9 @@ fn enact(house: &mut House, event: &Event, text: &mut Vec<u8>) -> Result<Reply, 
 fn write_all<K: Sink>(sink: &mut K, bytes: &[u8]) -> Result<(), Status>
     ensures falls { K.faults sink.old ≤ K.faults sink.new }
     ensures failed { OnErr result (Rose (K.faults sink.old) (K.faults sink.new)) }
-    ensures told { IfErr result (λ status. status ≡ Status.WriteFault) }
+    ensures told { IfErr result (λ s. s ≡ Status.WriteFault) }
     ensures added { (taken : List ℕ) → K.took sink.old ≡ Some taken → OnOk result (K.took sink.new ≡ Some (taken ++ bytes.now)) }
+    ensures front { (taken : List ℕ) → K.took sink.old ≡ Some taken → OnErr result (Front taken bytes.now (K.took sink.new)) }
 {
     let mut rest = bytes;
     for _turn in 0..=bytes.len() {

@@ -1,7 +1,7 @@
 //! Standard input and output as a source and a sink. They tell no bytes.
 ghost use Rattle.std.specs.Prelude.{None};
 
-use crate::outside::{Got, Put, Sink, Source};
+use outside::{Got, Put, Sink, Source};
 use std::io::{Read, Write};
 
 /// A reader as a source.

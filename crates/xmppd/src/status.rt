@@ -1,4 +1,7 @@
 //! How a run of the program ends.
+ghost use Rattle.std.specs.Prelude.{◌≡◌};
+
+use stanza_tree::NoMemory;
 
 /// The end of a run. Each has a number for the system, and all but `Done` a line for people.
 #[derive(Clone, Copy, Debug, PartialEq, Eq)]
@@ -33,5 +36,15 @@ impl Status {
             Status::ListenFault => 7,
             Status::NoMemory => 8,
         }
+    }
+}
+
+impl From<NoMemory> for Status {
+    ghost use Rattle.xmppd.specs.declared.status.Status.TheVariants as status;
+
+    ghost from_gives = { λ _ s. s ≡ status.NoMemory };
+
+    fn from(_error: NoMemory) -> Status {
+        Status::NoMemory
     }
 }

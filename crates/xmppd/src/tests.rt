@@ -1,62 +1,55 @@
 //! Scripts, and what is printed of them.
-ghost use Rattle.std.specs.Prelude.{None};
+ghost use Rattle.std.specs.Prelude.{◌<◌};
 
-use crate::outside::{Got, Put, Sink, Source};
 use crate::run::run;
 use crate::status::Status;
+use outside::{MemSink, MemSource};
 use stanza_tree::Text;
+use std::alloc::Global;
+use std::process::Abort;
 use std::test::Fail;
 
-/// Bytes that come in pieces of at most this size. After them comes the end, or a fault.
-#[derive(Drop)]
-struct Pieces<'a> {
-    rest: &'a [u8],
-    size: usize,
-    ends: bool,
-    faults: u64,
+// The words of `replay`.
+fn replay_words(alloc: Global) -> Result<Vec<Text>, Fail> {
+    let mut words = Vec::new(alloc);
+    words.push(Text::of(alloc, b"replay")?)?;
+    Ok(words)
 }
 
-impl Source for Pieces<'_> {
-    ghost left = { λ _. None };
-
-    ghost faults = { λ s. s.faults };
-
-    fn read(&mut self, into: &mut [u8]) -> Got {
-        let count = self.rest.len().min(into.len()).min(self.size);
-        if count > 0 {
-            into[..count].copy_from_slice(&self.rest[..count]);
-            self.rest = &self.rest[count..];
-            return Got::Bytes(count);
-        }
-        if self.ends {
-            return Got::End;
-        }
-        self.faults = self.faults.saturating_add(1);
-        Got::Failed
-    }
+// What a play of a script ends with and prints, where each reading gives and each writing takes so many bytes at most, and the
+// readings and writings of these numbers fail.
+#[derive(Clone, Copy)]
+struct Played<'a> {
+    piece: usize,
+    reading: u64,
+    writing: u64,
+    status: Status,
+    printed: &'a [u8],
 }
 
-/// A page that takes so many bytes at a time. One that takes none is at fault.
-#[derive(Drop)]
-struct Page {
-    bytes: Vec<u8>,
-    size: usize,
-    faults: u64,
+fn source_of(alloc: Global, script: &[u8], piece: usize, fails: u64) -> Result<MemSource, Fail>
+    requires { 0 < piece }
+{
+    let bytes = Vec::from_slice(alloc, script)?;
+    Ok(MemSource::new(bytes, piece, Vec::from_array(alloc, [fails])?))
 }
 
-impl Sink for Page {
-    ghost took = { λ _. None };
+fn sink_of(alloc: Global, piece: usize, fails: u64) -> Result<MemSink, Fail>
+    requires { 0 < piece }
+{
+    let fails = Vec::from_array(alloc, [fails])?;
+    Ok(MemSink::new(alloc, 4096, piece, fails)?)
+}
 
-    ghost faults = { λ s. s.faults };
-
-    fn write(&mut self, from: &[u8]) -> Put {
-        let count = from.len().min(self.size);
-        if count > 0 && self.bytes.extend_from_slice(&from[..count]).is_ok() {
-            return Put::Taken(count);
-        }
-        self.faults = self.faults.saturating_add(1);
-        Put::Failed
-    }
+fn expect_play<R: Abort>(rt: &R, alloc: Global, script: &[u8], want: &Played) -> Result<(), Fail> {
+    assert!(rt; want.piece > 0);
+    let words = replay_words(alloc)?;
+    let mut source = source_of(alloc, script, want.piece, want.reading)?;
+    let mut sink = sink_of(alloc, want.piece, want.writing)?;
+    let status = run(rt, alloc, words.as_slice(), &mut source, &mut sink);
+    assert_eq!(rt; status, want.status);
+    assert!(rt; sink.bytes() == want.printed);
+    Ok(())
 }
 
 const NOTICE: &[u8] = b"house example.org alice,bob 2
@@ -86,142 +79,282 @@ nothing
 unready
 ";
 
+// However the script comes in pieces and its prints go out.
 #[test]
-fn scripts_are_played(rt: HostRuntime) -> Result<(), Fail> {
-    let cases = [
-        (b"".as_slice(), Status::Done, b"".as_slice()),
-        (b"\n", Status::Script(1), b""),
-        (NOTICE, Status::Done, PRINTED),
-        (b"house example.org alice 1", Status::Done, b""),
-        (
-            b"house example.org alice 1\nopen 0",
-            Status::Done,
-            b"opened 1\n",
-        ),
-        (
-            b"house example.org alice 1\nopen 1\n",
-            Status::Script(2),
-            b"",
-        ),
-        (
-            b"house example.org alice 1\nopen 00\n",
-            Status::Script(2),
-            b"",
-        ),
-        (
-            b"house example.org alice 1\nopen 0\nopen 0\n",
-            Status::Script(3),
-            b"opened 1\n",
-        ),
-        (
-            b"house example.org alice 1\nhouse example.org alice 1\n",
-            Status::Script(2),
-            b"",
-        ),
-        (b"house example.org alice,alice 1\n", Status::Script(1), b""),
-        (b"house example.org Alice 1\n", Status::Script(1), b""),
-        (b"house example.org alice 0\n", Status::Script(1), b""),
-        (b"house example.org alice 1025\n", Status::Script(1), b""),
-        (
-            b"house example.org alice 1\nlogin 0 bob\n",
-            Status::Done,
-            b"absent\n",
-        ),
-        (
-            b"house example.org alice 1\nopen 0\nlogin 0 bob\n",
-            Status::Done,
-            b"opened 1\nno user\n",
-        ),
-        (
-            b"house example.org alice 1\npull 0 18446744073709551616\n",
-            Status::Script(2),
-            b"",
-        ),
-        (
-            b"house example.org alice 1\nnote 0 0 a@b \n",
-            Status::Script(2),
-            b"",
-        ),
-        (
-            b"house example.org alice 1\nnote 0 0 a@b \x01\n",
-            Status::Script(2),
-            b"",
-        ),
-        (
-            b"house example.org alice 1\nnote 0 0 a@b tea\n",
-            Status::Done,
-            b"absent\n",
-        ),
-    ];
-    let words = [Text::of(rt.alloc(), b"replay")?];
-    for (script, status, printed) in cases {
-        for size in [1, 7, 4096] {
-            let mut source = Pieces {
-                rest: script,
-                size,
-                ends: true,
-                faults: 0,
-            };
-            let mut page = Page {
-                bytes: Vec::new(rt.alloc()),
-                size,
-                faults: 0,
-            };
-            assert_eq!(rt; run(rt.alloc(), &words, &mut source, &mut page), status);
-            assert_eq!(rt; page.bytes.as_slice(), printed);
-        }
+fn a_notice_is_handed_on(rt: HostRuntime) -> Result<(), Fail> {
+    for piece in [1usize, 7, 4096] {
+        let want = Played {
+            piece,
+            reading: 0,
+            writing: 0,
+            status: Status::Done,
+            printed: PRINTED,
+        };
+        expect_play(&rt, rt.alloc(), NOTICE, &want)?;
     }
     Ok(())
 }
+
+// A script of the house of alice and bob at example.org with two lines, and what comes of its later lines.
+type Story<'a> = (&'a [u8], Status, &'a [u8]);
+
+fn expect_story<R: Abort>(rt: &R, alloc: Global, story: &Story) -> Result<(), Fail> {
+    let (lines, status, printed) = story;
+    let mut script = Vec::from_slice(alloc, b"house example.org alice,bob 2\n")?;
+    script.extend_from_slice(lines)?;
+    let want = Played {
+        piece: 5,
+        reading: 0,
+        writing: 0,
+        status: *status,
+        printed,
+    };
+    expect_play(rt, alloc, script.as_slice(), &want)
+}
+
+// What comes early is answered so. A last line needs no line feed.
+const STORIES: [Story; 8] = [
+    (b"", Status::Done, b""),
+    (b"pull 0 0\n", Status::Done, b"absent\n"),
+    (b"login 0 bob\n", Status::Done, b"absent\n"),
+    (
+        b"open 0\nlogin 0 carol",
+        Status::Done,
+        b"opened 1\nno user\n",
+    ),
+    (b"open 0\nopen 0\n", Status::Script(3), b"opened 1\n"),
+    (
+        b"open 1\nopen 2\npull 0 0\n",
+        Status::Script(3),
+        b"opened 1\n",
+    ),
+    (b"open 0\n\npull 0 0\n", Status::Script(3), b"opened 1\n"),
+    (
+        b"open 0\nnote 0 0 a@b tea",
+        Status::Done,
+        b"opened 1\nunready\n",
+    ),
+];
+
+#[test]
+fn stories_are_played(rt: HostRuntime) -> Result<(), Fail> {
+    for story in STORIES {
+        expect_story(&rt, rt.alloc(), &story)?;
+    }
+    Ok(())
+}
+
+// A refusal is told at its line, and what came before it was printed.
+fn expect_refused<R: Abort>(rt: &R, alloc: Global, line: &[u8]) -> Result<(), Fail> {
+    let mut lines = Vec::from_slice(alloc, b"open 0\n")?;
+    lines.extend_from_slice(line)?;
+    lines.extend_from_slice(b"\npull 0 0\n")?;
+    expect_story(
+        rt,
+        alloc,
+        &(lines.as_slice(), Status::Script(3), b"opened 1\n"),
+    )
+}
+
+// Each field of each line, wrong in each way that it can be.
+const BAD_LINES: [&[u8]; 24] = [
+    b"",
+    b" ",
+    b"open",
+    b"open ",
+    b"open  1",
+    b"open 1 ",
+    b"open 01",
+    b"open +1",
+    b"open x",
+    b"open 2",
+    b"open 1024",
+    b"open 4294967296",
+    b"Open 1",
+    b"shut 1",
+    b"house example.org alice 1",
+    b"login 0",
+    b"login 2 bob",
+    b"login 0 ",
+    b"login 0 Bob",
+    b"login 0 bob ",
+    b"login 0 a,b",
+    b"login 0 b:b",
+    b"pull 0",
+    b"pull 0 00",
+];
+
+const BAD_NOTES: [&[u8]; 24] = [
+    b"pull 0 18446744073709551616",
+    b"pull 0 -1",
+    b"pull 0 1 ",
+    b"pull 0 1\r",
+    b"bind 0 1 00112233445566778899aabbccddeeff b1",
+    b"bind 2 1 00112233445566778899aabbccddeeff b1 *",
+    b"bind 0 01 00112233445566778899aabbccddeeff b1 *",
+    b"bind 0 1 00112233445566778899aabbccddeef b1 *",
+    b"bind 0 1 00112233445566778899aabbccddeeff0 b1 *",
+    b"bind 0 1 00112233445566778899AABBCCDDEEFF b1 *",
+    b"bind 0 1 00112233445566778899aabbccddeefg b1 *",
+    b"bind 0 1 00112233445566778899aabbccddeeff  *",
+    b"bind 0 1 00112233445566778899aabbccddeeff b\x01 *",
+    b"bind 0 1 00112233445566778899aabbccddeeff b1 ",
+    b"bind 0 1 00112233445566778899aabbccddeeff b1 a b",
+    b"bind 0 1 00112233445566778899aabbccddeeff b1 \x7f",
+    b"note 0 1 a@b",
+    b"note 0 1 a@b ",
+    b"note 0 1 @b hi",
+    b"note 0 1  hi",
+    b"note 0 1 a@-b hi",
+    b"note 0 1 a@b \x00",
+    b"note 0 x a@b hi",
+    b"note 3 1 a@b hi",
+];
+
+#[test]
+fn bad_lines_are_refused(rt: HostRuntime) -> Result<(), Fail> {
+    for line in BAD_LINES {
+        expect_refused(&rt, rt.alloc(), line)?;
+    }
+    Ok(())
+}
+
+#[test]
+fn bad_notes_are_refused(rt: HostRuntime) -> Result<(), Fail> {
+    for line in BAD_NOTES {
+        expect_refused(&rt, rt.alloc(), line)?;
+    }
+    Ok(())
+}
+
+const BAD_HOUSES: [&[u8]; 14] = [
+    b"\n",
+    b"open 0\n",
+    b"house example.org alice\n",
+    b"house example.org alice 0\n",
+    b"house example.org alice 1025\n",
+    b"house example.org alice 01\n",
+    b"house example.org  1\n",
+    b"house example.org alice, 1\n",
+    b"house example.org alice,alice 1\n",
+    b"house example.org Alice 1\n",
+    b"house Example.org alice 1\n",
+    b"house example.org. alice 1\n",
+    b"house a@example.org alice 1\n",
+    b"house example.org/a alice 1\n",
+];
+
+#[test]
+fn bad_houses_are_refused(rt: HostRuntime) -> Result<(), Fail> {
+    for script in BAD_HOUSES {
+        let want = Played {
+            piece: 3,
+            reading: 0,
+            writing: 0,
+            status: Status::Script(1),
+            printed: b"",
+        };
+        expect_play(&rt, rt.alloc(), script, &want)?;
+    }
+    Ok(())
+}
+
+// A device that fails, and what was written before. Each line is four bytes more than a piece.
+const SHORT: &[u8] = b"house example.org alice 1\nopen 0\npull 0 0\npull 0 1\n";
 
 #[test]
 fn faults_are_told(rt: HostRuntime) -> Result<(), Fail> {
-    let words = [Text::of(rt.alloc(), b"replay")?];
-    let script = b"house example.org alice 1\nopen 0\n".as_slice();
-    for (ends, taken, status) in [
-        (false, 100, Status::ReadFault),
-        (true, 0, Status::WriteFault),
-        (true, 100, Status::Done),
-    ] {
-        let mut source = Pieces {
-            rest: script,
-            size: 5,
-            ends,
-            faults: 0,
+    let cases: [(u64, u64, Status, &[u8]); 6] = [
+        (1, 0, Status::ReadFault, b""),
+        (2, 0, Status::ReadFault, b"opened 1\n"),
+        (0, 1, Status::WriteFault, b""),
+        (0, 2, Status::WriteFault, b"opened 1\n"),
+        (0, 3, Status::WriteFault, b"opened 1\nnothing\n"),
+        (0, 4, Status::Done, b"opened 1\nnothing\nnothing\n"),
+    ];
+    for (reading, writing, status, printed) in cases {
+        let want = Played {
+            piece: 34,
+            reading,
+            writing,
+            status,
+            printed,
         };
-        let mut page = Page {
-            bytes: Vec::new(rt.alloc()),
-            size: taken,
-            faults: 0,
-        };
-        assert_eq!(rt; run(rt.alloc(), &words, &mut source, &mut page), status);
+        expect_play(&rt, rt.alloc(), SHORT, &want)?;
     }
     Ok(())
 }
 
+// A print that was taken in part.
 #[test]
-fn other_words_are_no_command(rt: HostRuntime) -> Result<(), Fail> {
-    let play = [Text::of(rt.alloc(), b"play")?];
-    let two = [Text::of(rt.alloc(), b"replay")?, Text::of(rt.alloc(), b"")?];
-    let cases = [play.as_slice(), &[], two.as_slice()];
-    for words in cases {
-        let mut source = Pieces {
-            rest: b"",
-            size: 1,
-            ends: true,
-            faults: 0,
+fn a_front_is_written(rt: HostRuntime) -> Result<(), Fail> {
+    let want = Played {
+        piece: 4,
+        reading: 0,
+        writing: 2,
+        status: Status::WriteFault,
+        printed: b"open",
+    };
+    expect_play(&rt, rt.alloc(), SHORT, &want)
+}
+
+// A line of 200,000 bytes is of no grammar, and one of 200,001 passes the limit: both are refused where they stand.
+fn expect_long<R: Abort>(rt: &R, alloc: Global, words: usize, want: &Played) -> Result<(), Fail> {
+    let mut script = Vec::from_slice(alloc, b"house example.org alice 1\nnote 0 0 a@b ")?;
+    for _word in 0..words {
+        script.push(b'x')?;
+    }
+    expect_play(rt, alloc, script.as_slice(), want)
+}
+
+// The front of the line has 13 bytes, and the element 57 beside the words.
+#[test]
+fn lines_and_stanzas_have_limits(rt: HostRuntime) -> Result<(), Fail> {
+    let cases: [(usize, Status, &[u8]); 4] = [
+        (196_551, Status::Done, b"absent\n"),
+        (196_552, Status::Script(2), b""),
+        (199_987, Status::Script(2), b""),
+        (199_988, Status::Script(2), b""),
+    ];
+    for (words, status, printed) in cases {
+        let want = Played {
+            piece: 4096,
+            reading: 0,
+            writing: 0,
+            status,
+            printed,
         };
-        let mut page = Page {
-            bytes: Vec::new(rt.alloc()),
-            size: 1,
-            faults: 0,
-        };
-        assert_eq!(rt;
-            run(rt.alloc(), words, &mut source, &mut page),
-            Status::Usage
-        );
+        expect_long(&rt, rt.alloc(), words, &want)?;
     }
     Ok(())
+}
+
+// The one word `replay`, and no other words.
+#[test]
+fn other_words_are_no_command(rt: HostRuntime) -> Result<(), Fail> {
+    let cases: [&[&[u8]]; 5] = [
+        &[],
+        &[b"serv"],
+        &[b"replay", b"x"],
+        &[b"replay", b""],
+        &[b"Replay"],
+    ];
+    for words in cases {
+        let words = words_of(rt.alloc(), words)?;
+        let mut source = source_of(rt.alloc(), b"", 1, 0)?;
+        let mut sink = sink_of(rt.alloc(), 1, 0)?;
+        let status = run(&rt, rt.alloc(), words.as_slice(), &mut source, &mut sink);
+        assert_eq!(rt; status, Status::Usage);
+    }
+    Ok(())
+}
+
+fn words_of(alloc: Global, words: &[&[u8]]) -> Result<Vec<Text>, Fail> {
+    let mut texts = Vec::new(alloc);
+    for word in words {
+        texts.push(Text::of(alloc, word)?)?;
+    }
+    Ok(texts)
 }
 
 #[test]

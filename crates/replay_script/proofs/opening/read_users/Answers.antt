@@ -1,12 +1,21 @@
-use Rattle.std.proofs.Common.{rules, ap, Some, ◌∙◌}
-use Rattle.replay_script.proofs.UserLemmas.{users_twice, users_all}
+use Rattle.std.proofs.Common.{rules, ap, sym, Some, ◌∙◌}
+use Rattle.replay_script.proofs.UserLemmas.{users_step, users_end, step_prepared}
 use Rattle.replay_script.proofs.opening.read_users.Goals as goal
 
-pub returns-then-has : goal.returns-then-has
-returns-then-has c = users_twice c.args.field.now c.loop-count.rest.now c.loop-count.users.items c.loop-count.invariant.parts (search rules)
-
-pub returns-in-None : goal.returns-in-None
-returns-in-None c =
-    users_all c.args.field.now c.loop-count.rest.now c.loop-count.users.items c.in_ok-user.user c.loop-count.invariant.parts (search rules) c.loop-count.invariant.users
-    c.loop-count.invariant.differ (search rules) (search rules) (search rules)
+pub returns-in-None-clause-read : goal.returns-in-None-clause-read
+returns-in-None-clause-read c =
+    users_end c.args.field.now c.loop-count.rest.now c.loop-count.users.items c.in_ok-user.user c.loop-count.invariant.parts (search rules) c.loop-count.invariant.users
+    c.loop-count.invariant.differ (search rules) (search rules)
     ∙ ap Some (search rules)
+
+pub loop-count-preserved : goal.loop-count-preserved
+loop-count-preserved c =
+    let step = users_step c.args.field.now c.loop-count.rest.now c.in-Some.more.now c.loop-count.users.items c.in_ok-user.user c.loop-count.invariant.parts c.loop-count.invariant.users
+    c.loop-count.invariant.differ (search rules) (search rules) in
+    record {
+      parts = search (rules, step.0);
+      users = search (rules, step.1);
+      differ = search (rules, step.2);
+      prepared = search (rules, step_prepared);
+      count = search rules;
+    }

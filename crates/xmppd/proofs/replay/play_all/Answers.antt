@@ -1,8 +1,28 @@
-use Rattle.std.proofs.Common.{[], Some, refl, sym, ◌∙◌, ap, append-nil}
-use Rattle.house_model.specs.States.{nowhere, opening}
+use Rattle.std.proofs.Common.{rules}
+use Rattle.xmppd.specs.Readings.{unread}
+use Rattle.xmppd.specs.Runs.{Going}
+use Rattle.xmppd.proofs.Plays.{turns-few}
 use Rattle.xmppd.proofs.replay.play_all.Goals as goal
 
--- src/replay.rt:51:9
-pub returns-then-not-branch-clause-printed : goal.returns-then-not-branch-clause-printed
-returns-then-not-branch-clause-printed g c taken here =
-    ([], ((opening nowhere [] 0, ([], ((nowhere, [], 0, refl), (tt, refl)))), here ∙ ap Some (sym (append-nil taken))))
+pub returns-in-None-clause-replayed : goal.returns-in-None-clause-replayed
+returns-in-None-clause-replayed g c = search (rules, c.in_ok-house.ensures.opens (g.K.Sink.took c.args.sink.now))
+
+pub loop-number-init : goal.loop-number-init
+loop-number-init g c = record {
+  source_falls = search rules;
+  sink_falls = search rules;
+  going =
+      let going : Going (g.S.Source.left c.args.source.now) (unread c.open_house.new.reader.held (g.S.Source.left c.open_house.new.source)) (g.K.Sink.took c.args.sink.now)
+      (g.K.Sink.took c.args.sink.now) c.open_house.new.reader.given c.in-Some.house 2 = search (rules, c.in_ok-house.ensures.opens (g.K.Sink.took c.args.sink.now)) in
+      search (rules, going);
+}
+
+pub turn-requires : goal.turn-requires
+turn-requires g c = record {
+  turns = turns-few (g.S.Source.left c.args.source.now) (unread c.loop-number.reader.held (g.S.Source.left c.loop-number.source)) (g.K.Sink.took c.args.sink.now)
+      (g.K.Sink.took c.loop-number.sink) c.loop-number.reader.given c.loop-number.player.house c.loop-number.number c.loop-number.invariant.going;
+}
+
+pub returns-then-not-branch-clause-replayed : goal.returns-then-not-branch-clause-replayed
+returns-then-not-branch-clause-replayed g c =
+    search (rules, c.in_ok-turn.ensures.turns (g.S.Source.left c.args.source.now) (g.K.Sink.took c.args.sink.now) c.loop-number.invariant.going)

@@ -1,0 +1,75 @@
+-- Lines of bytes, by their line feeds.
+use Rattle.std.proofs.Common.{◌≡◌, ℕ, ◌<◌, ◌≤◌, ◌==◌, List, [], ◌∷◌, ◌++◌, length, Bool, true, false, arith, refl, ap, ◌∙◌}
+use Rattle.std.specs.Prelude.{⊤}
+use Rattle.jid_core.specs.Cuts.{before}
+use Rattle.replay_script.specs.Scripts.{begun, with_byte, lines_of, text_of}
+
+-- no byte is a line feed
+abbrev pub NoFeed : List ℕ → Type 0
+NoFeed [] = ⊤
+NoFeed (b ∷ more) = ((b == 10) ≡ false) × NoFeed more
+
+pub plain_more : (line : List ℕ) (b : ℕ) → NoFeed line → (b == 10) ≡ false → NoFeed (line ++ b ∷ [])
+plain_more [] b plain other = (other, tt)
+plain_more (x ∷ more) b plain other = (plain.0, plain_more more b plain.1 other)
+
+-- a byte that is none goes before the first line
+with-plain : (b : ℕ) (lines : List (List ℕ)) → (b == 10) ≡ false → with_byte b lines ≡ begun b lines
+with-plain b lines other = rw other refl
+
+before-plain : (b : ℕ) (more : List ℕ) → (b == 10) ≡ false → before 10 (b ∷ more) ≡ b ∷ before 10 more
+before-plain b more other = rw other refl
+
+-- a line that ends by its line feed
+pub lines_feed : (line rest : List ℕ) → NoFeed line → lines_of (line ++ 10 ∷ rest) ≡ (line ++ 10 ∷ []) ∷ lines_of rest
+lines_feed [] rest plain = refl
+lines_feed (b ∷ more) rest plain =
+    with-plain b (lines_of (more ++ 10 ∷ rest)) plain.0 ∙ ap (begun b) (lines_feed more rest plain.1)
+
+pub text_feed : (line : List ℕ) → NoFeed line → text_of (line ++ 10 ∷ []) ≡ line
+text_feed [] plain = refl
+text_feed (b ∷ more) plain = before-plain b (more ++ 10 ∷ []) plain.0 ∙ ap (λ xs. b ∷ xs) (text_feed more plain.1)
+
+-- a last line without one
+pub lines_last : (line : List ℕ) → NoFeed line → 0 < length line → lines_of line ≡ line ∷ []
+lines_last [] plain some = absurd (omega arith)
+lines_last (b ∷ []) plain some = with-plain b [] plain.0
+lines_last (b ∷ c ∷ more) plain some = with-plain b (lines_of (c ∷ more)) plain.0 ∙ ap (begun b) (lines_last (c ∷ more) plain.1 (omega arith))
+
+pub text_last : (line : List ℕ) → NoFeed line → text_of line ≡ line
+text_last [] plain = refl
+text_last (b ∷ more) plain = before-plain b more plain.0 ∙ ap (λ xs. b ∷ xs) (text_last more plain.1)
+
+-- the first of the lines begins with these bytes, where one is there at least
+begun-first : (b : ℕ) (lines : List (List ℕ)) → (first : List ℕ) × ((more : List (List ℕ)) × (begun b lines ≡ (b ∷ first) ∷ more))
+begun-first b [] = ([], ([], refl))
+begun-first b (line ∷ more) = (line, (more, refl))
+
+with-first : (c : Bool) (b : ℕ) (lines : List (List ℕ)) → (b == 10) ≡ c → (first : List ℕ) × ((more : List (List ℕ)) × (with_byte b lines ≡ (b ∷ first) ∷ more))
+with-first true b lines is = ([], (lines, rw is refl))
+with-first false b lines is = let one = begun-first b lines in (one.0, (one.1.0, with-plain b lines is ∙ one.1.1))
+
+-- the line of a byte after bytes that are no line feeds
+pub lines_front : (line : List ℕ) (b : ℕ) (rest : List ℕ) → NoFeed line
+    → (more : List ℕ) × ((lines : List (List ℕ)) × (lines_of (line ++ b ∷ rest) ≡ (line ++ b ∷ more) ∷ lines))
+lines_front [] b rest plain = with-first (b == 10) b (lines_of rest) refl
+lines_front (x ∷ front) b rest plain =
+    let next = lines_front front b rest plain.1 in
+    (next.0, (next.1.0, with-plain x (lines_of (front ++ b ∷ rest)) plain.0 ∙ ap (begun x) next.1.1))
+
+-- such a text is as long as the line at least
+pub text_front : (line more : List ℕ) → NoFeed line → length line ≤ length (text_of (line ++ more))
+text_front [] more plain = omega arith
+text_front (b ∷ front) more plain =
+    let next = text_front front more plain.1 in
+    omega (arith, next, ap length (before-plain b (front ++ more) plain.0))
+
+-- the first line begins with bytes that are no line feeds
+pub lines_long : (line rest : List ℕ) → NoFeed line → 0 < length line
+    → (more : List ℕ) × ((lines : List (List ℕ)) × (lines_of (line ++ rest) ≡ (line ++ more) ∷ lines))
+lines_long [] rest plain some = absurd (omega arith)
+lines_long (b ∷ []) rest plain some =
+    let one = begun-first b (lines_of rest) in (one.0, (one.1.0, with-plain b (lines_of rest) plain.0 ∙ one.1.1))
+lines_long (b ∷ c ∷ front) rest plain some =
+    let next = lines_long (c ∷ front) rest plain.1 (omega arith) in
+    (next.0, (next.1.0, with-plain b (lines_of (c ∷ front ++ rest)) plain.0 ∙ ap (begun b) next.1.1))

@@ -1,0 +1,356 @@
+-- A script's play goes on by a line, or stops there.
+use Rattle.std.proofs.Common.{◌≡◌, ℕ, suc, ◌+◌, ◌^◌, ◌<◌, ◌≤◌, List, [], ◌∷◌, ◌++◌, length, length-append, true, arith, refl, sym, ap, subst, ◌∙◌, append_assoc, append-nil, inl, inr}
+use Rattle.std.specs.Prelude.{map, Option, Some, None}
+use Rattle.std.proofs.lemmas.List.{map-append}
+use Rattle.std.proofs.lemmas.Grind.{flat_map-append}
+use Rattle.house_model.specs.declared.event.Event.{Event}
+use Rattle.house_model.specs.States.{State, nowhere, opening}
+use Rattle.house_model.specs.Keeping.{Kept}
+use Rattle.house_model.specs.Plain.{is_plain}
+use Rattle.house_model.specs.Histories.{Turn, line_of, after, StandsFor}
+use Rattle.house_model.proofs.Turns.{turns-counted, lines-kept}
+use Rattle.replay_script.specs.declared.step.Step.{Step}
+use Rattle.replay_script.specs.declared.step.Step.TheVariants as step
+use Rattle.replay_script.specs.Lines.{step_of}
+use Rattle.replay_script.specs.Prints.{print_outcome, prints}
+use Rattle.replay_script.specs.Scripts.{Makes, Spells, AreWithin, IsWithin, IsPlayed, IsPossible, IsOutside, lines_of, size_of, step_in, step_at}
+use Rattle.xmppd.specs.declared.status.Status.{Status}
+use Rattle.xmppd.specs.declared.status.Status.TheVariants as status
+use Rattle.xmppd.specs.Readings.{TakesLine, Ends, unread}
+use Rattle.xmppd.specs.Runs.{Front, Replayed, Along, Going, Stopping, PlaysTurn}
+
+-- one line more
+spells-push : (lines : List (List ℕ)) (o : State) (h : List Turn) (line : List ℕ) (x : Turn) → 0 < length lines → Spells lines o h
+    → step_in line ≡ step_at x → Spells (lines ++ line ∷ []) o (h ++ x ∷ [])
+spells-push [] o h line x some spelt is = absurd (omega arith)
+spells-push (first ∷ more) o h line x some spelt is = (
+  spelt.0,
+  map-append step_in more (line ∷ [])
+      ∙ ap (λ (s : Option Step). map step_in more ++ s ∷ []) is
+      ∙ ap (λ steps. steps ++ step_at x ∷ []) spelt.1
+      ∙ sym (map-append step_at h (x ∷ [])),
+)
+
+within-push : (read : ℕ) (lines : List (List ℕ)) (line : List ℕ) → AreWithin read lines → IsWithin (read + size_of lines) line → AreWithin read (lines ++ line ∷ [])
+within-push read [] line within one = (subst (λ (n : ℕ). IsWithin n line) (omega arith) one, tt)
+within-push read (first ∷ more) line within one =
+    (within.0, within-push (read + length first) more line within.1 (subst (λ (n : ℕ). IsWithin n line) (omega arith) one))
+
+size-push : (lines : List (List ℕ)) (line : List ℕ) → size_of (lines ++ line ∷ []) ≡ size_of lines + length line
+size-push [] line = omega arith
+size-push (first ∷ more) line = omega (arith, size-push more line)
+
+prints-push : (h : List Turn) (x : Turn) → prints (h ++ x ∷ []) ≡ prints h ++ print_outcome x.outcome
+prints-push h x =
+    flat_map-append (λ (y : Turn). print_outcome y.outcome) h (x ∷ []) ∙ ap (λ bytes. prints h ++ bytes) (append-nil (print_outcome x.outcome))
+
+pub along-on : (left coming coming_now : Option (List ℕ)) (given given_now : ℕ) (house house_now : Kept) (number : ℕ) (text out : List ℕ) (lines : List (List ℕ)) (start : State) (turns : List Turn)
+    → Along left coming given house number lines start turns → (t : TakesLine coming coming_now given given_now text) → (p : PlaysTurn house house_now text out)
+    → Along left coming_now given_now house_now (number + 1) (lines ++ t.line ∷ []) start (turns ++ p.turn ∷ [])
+along-on left coming coming_now given given_now house house_now number text out lines start turns a t p = record {
+  stands = p.stands start turns a.stands;
+  spelt = spells-push lines start turns t.line p.turn a.some a.spelt (ap step_of (sym t.text_is) ∙ p.spelt);
+  within = within-push 0 lines t.line a.within (subst (λ (n : ℕ). IsWithin n t.line) (a.size ∙ omega arith) t.within);
+  some = omega (arith, length-append lines (t.line ∷ []));
+  each = omega (arith, length-append lines (t.line ∷ []), a.each, t.given, t.some);
+  most = omega (arith, t.given, t.within.script_is);
+  size = omega (arith, size-push lines t.line, a.size, t.given);
+  count = omega (arith, length-append lines (t.line ∷ []), a.count);
+  read = λ all told.
+      let old = a.read all told in
+      let next = t.first old.0 old.1.0 in
+      (next.0, (next.1.0, old.1.1 ∙ ap (λ more. lines ++ more) next.1.1 ∙ sym (append_assoc lines (t.line ∷ []) (lines_of next.0))));
+}
+
+pub turns-few : (left coming took took_now : Option (List ℕ)) (given : ℕ) (house : Kept) (number : ℕ) → Going left coming took took_now given house number → house.turns < 2 ^ 63
+turns-few left coming took took_now given house number g =
+    let a = g.along in
+    let counted = turns-counted g.start g.turns house a.stands in
+    let few = length-spelt g.lines g.start g.turns a.spelt in
+    less house.turns (length g.turns) (length g.lines) given counted few a.each a.most
+  where
+    length-map : {X Y : Type 0} (f : X → Y) (xs : List X) → length (map f xs) ≡ length xs
+    length-map f [] = refl
+    length-map f (x ∷ more) = ap suc (length-map f more)
+
+    length-spelt : (lines : List (List ℕ)) (o : State) (h : List Turn) → Spells lines o h → length h ≤ length lines
+    length-spelt [] o h spelt = omega (arith, ap length spelt)
+    length-spelt (first ∷ more) o h spelt = omega (arith, ap length spelt.1, length-map step_in more, length-map step_at h)
+
+    less : (a b c d : ℕ) → a ≡ b → b ≤ c → c ≤ d → d ≤ 1073741824 → a < 2 ^ 63
+    less a b c d same few each most = omega (arith, same, few, each, most)
+
+-- what was written once one more print was
+pub written-on : (took : Option (List ℕ)) (before now : Option (List ℕ)) (h : List Turn) (x : Turn) (out : List ℕ)
+    → ((taken : List ℕ) → took ≡ Some taken → before ≡ Some (taken ++ prints h)) → ((taken : List ℕ) → before ≡ Some taken → now ≡ Some (taken ++ out))
+    → out ≡ print_outcome x.outcome → (taken : List ℕ) → took ≡ Some taken → now ≡ Some (taken ++ prints (h ++ x ∷ []))
+written-on took before now h x out old added is taken told =
+    added (taken ++ prints h) (old taken told)
+    ∙ ap Some (append_assoc taken (prints h) out ∙ ap (λ bytes. taken ++ bytes) (ap (λ bytes. prints h ++ bytes) is ∙ sym (prints-push h x)))
+
+pub going-on : (left coming coming_now took before now : Option (List ℕ)) (given given_now : ℕ) (house house_now : Kept) (number : ℕ) (text out : List ℕ)
+    → Going left coming took before given house number → TakesLine coming coming_now given given_now text → PlaysTurn house house_now text out
+    → ((taken : List ℕ) → before ≡ Some taken → now ≡ Some (taken ++ out)) → Going left coming_now took now given_now house_now (number + 1)
+going-on left coming coming_now took before now given given_now house house_now number text out g t p added = record {
+  lines = g.lines ++ t.line ∷ [];
+  start = g.start;
+  turns = g.turns ++ p.turn ∷ [];
+  along = along-on left coming coming_now given given_now house house_now number text out g.lines g.start g.turns g.along t p;
+  written = written-on took before now g.turns p.turn out g.written added p.printed;
+}
+
+played : (left coming : Option (List ℕ)) (given : ℕ) (house : Kept) (number : ℕ) (lines : List (List ℕ)) (start : State) (turns : List Turn)
+    → Along left coming given house number lines start turns → IsPlayed lines start turns
+played left coming given house number lines start turns a = record { starts = a.stands.starts; legal = a.stands.legal; spelt = a.spelt; within = a.within }
+
+unread-none : (held : List ℕ) (o : Option (List ℕ)) → unread held o ≡ Some [] → o ≡ Some []
+unread-none held None h = absurd (cc)
+unread-none [] (Some left) h = h
+unread-none (b ∷ more) (Some left) h = absurd (empty (b ∷ more ++ left) h)
+  where
+    first : Option (List ℕ) → ℕ
+    first None = 0
+    first (Some []) = 0
+    first (Some (x ∷ xs)) = 1
+
+    empty : (xs : List ℕ) → Some (b ∷ more ++ left) ≡ Some [] → ⊥
+    empty xs e = let n : 1 ≡ 0 = ap first e in omega (arith, n)
+
+-- the end of the script
+pub stop-done : (left coming : Option (List ℕ)) (held : List ℕ) (left_now took now : Option (List ℕ)) (given : ℕ) (house : Kept) (number : ℕ)
+    → Going left coming took now given house number → Ends coming (unread held left_now) → Replayed left left_now took now status.Done
+stop-done left coming held left_now took now given house number g ends = record {
+  lines = g.lines;
+  start = g.start;
+  turns = g.turns;
+  played = played left coming given house number g.lines g.start g.turns g.along;
+  number = tt;
+  read = λ all told.
+      let old = g.along.read all told in
+      let end = ends old.0 old.1.0 in
+      ([], (old.1.1 ∙ ap (λ more. g.lines ++ lines_of more) end.0, (refl, unread-none held left_now end.1)));
+  written = g.written;
+}
+
+-- no line could be taken
+pub stop-taking : (left coming left_now took now : Option (List ℕ)) (given : ℕ) (house : Kept) (number : ℕ) (s : Status)
+    → Going left coming took now given house number → Stopping s coming given number → Replayed left left_now took now s
+stop-taking left coming left_now took now given house number status.Done g stop = absurd stop
+stop-taking left coming left_now took now given house number (status.Script n) g stop = record {
+  lines = g.lines;
+  start = g.start;
+  turns = g.turns;
+  played = played left coming given house number g.lines g.start g.turns g.along;
+  number = stop.0 ∙ g.along.count;
+  read = λ all told.
+      let old = g.along.read all told in
+      let passes = stop.1 old.0 old.1.0 in
+      (lines_of old.0, (old.1.1, (passes.0, (passes.1.0, (passes.1.1.0, inl (λ within. passes.1.1.1 (subst (λ (m : ℕ). IsWithin m passes.0) (sym g.along.size) within)))))));
+  written = g.written;
+}
+stop-taking left coming left_now took now given house number status.ReadFault g stop = record {
+  lines = g.lines;
+  start = g.start;
+  turns = g.turns;
+  played = played left coming given house number g.lines g.start g.turns g.along;
+  number = tt;
+  read = λ all told. let old = g.along.read all told in (lines_of old.0, (old.1.1, tt));
+  written = g.written;
+}
+stop-taking left coming left_now took now given house number status.WriteFault g stop = absurd stop
+stop-taking left coming left_now took now given house number status.NoMemory g stop = record {
+  lines = g.lines;
+  start = g.start;
+  turns = g.turns;
+  played = played left coming given house number g.lines g.start g.turns g.along;
+  number = tt;
+  read = λ all told. let old = g.along.read all told in (lines_of old.0, (old.1.1, tt));
+  written = g.written;
+}
+stop-taking left coming left_now took now given house number status.Usage g stop = absurd stop
+stop-taking left coming left_now took now given house number (status.Accounts n) g stop = absurd stop
+stop-taking left coming left_now took now given house number status.ListenFault g stop = absurd stop
+
+outside-later : (lines : List (List ℕ)) (o : State) (h : List Turn) (line : List ℕ) → 0 < length lines
+    → ((e : Event) → step_in line ≡ Some (step.Event e) → IsPossible (after o h) e → ⊥) → IsOutside lines o h line
+outside-later [] o h line some never = absurd (omega arith)
+outside-later (first ∷ more) o h line some never = never
+
+-- the line can't be played
+pub stop-bad : (left coming coming_now left_now took now : Option (List ℕ)) (given given_now : ℕ) (house : Kept) (number : ℕ) (text : List ℕ)
+    → Going left coming took now given house number → TakesLine coming coming_now given given_now text
+    → ((e : Event) → step_of text ≡ Some (step.Event e) → line_of e < length house.lines → is_plain house e ≡ true → ⊥)
+    → Replayed left left_now took now (status.Script number)
+stop-bad left coming coming_now left_now took now given given_now house number text g t never = record {
+  lines = g.lines;
+  start = g.start;
+  turns = g.turns;
+  played = played left coming given house number g.lines g.start g.turns g.along;
+  number = g.along.count;
+  read = λ all told.
+      let old = g.along.read all told in
+      let first = t.first old.0 old.1.0 in (
+        lines_of old.0,
+        (
+          old.1.1,
+          (
+            t.line,
+            (
+              lines_of first.0,
+              (
+                first.1.1,
+                inr (outside-later g.lines g.start g.turns t.line g.along.some (λ e is possible.
+                    never e (ap step_of t.text_is ∙ is)
+                    (omega (arith, possible.line, lines-kept g.start g.turns house g.along.stands))
+                    (ap (λ (k : Kept). is_plain k e) g.along.stands.kept ∙ possible.plain))),
+              ),
+            ),
+          ),
+        ),
+      );
+  written = g.written;
+}
+
+-- memory was wanting
+pub stop-short : (left coming left_now took now : Option (List ℕ)) (given : ℕ) (house : Kept) (number : ℕ)
+    → Going left coming took now given house number → Replayed left left_now took now status.NoMemory
+stop-short left coming left_now took now given house number g = stop-taking left coming left_now took now given house number status.NoMemory g tt
+
+-- the print of a turn was written in part
+pub stop-writing : (left coming coming_now left_now took before now : Option (List ℕ)) (given given_now : ℕ) (house house_now : Kept) (number : ℕ) (text out : List ℕ)
+    → Going left coming took before given house number → TakesLine coming coming_now given given_now text → PlaysTurn house house_now text out
+    → ((taken : List ℕ) → before ≡ Some taken → Front taken out now) → Replayed left left_now took now status.WriteFault
+stop-writing left coming coming_now left_now took before now given given_now house house_now number text out g t p front = record {
+  lines = g.lines ++ t.line ∷ [];
+  start = g.start;
+  turns = g.turns ++ p.turn ∷ [];
+  played = played left coming_now given_now house_now (number + 1) (g.lines ++ t.line ∷ []) g.start (g.turns ++ p.turn ∷ [])
+      (along-on left coming coming_now given given_now house house_now number text out g.lines g.start g.turns g.along t p);
+  number = tt;
+  read = λ all told.
+      let old = (along-on left coming coming_now given given_now house house_now number text out g.lines g.start g.turns g.along t p).read all told in
+      (lines_of old.0, (old.1.1, tt));
+  written = λ taken told.
+      let part = front (taken ++ prints g.turns) (g.written taken told) in (
+        prints g.turns ++ part.0,
+        (
+          part.1.0,
+          (
+            prints-push g.turns p.turn
+                ∙ ap (λ bytes. prints g.turns ++ bytes) (sym p.printed ∙ part.1.1.0)
+                ∙ sym (append_assoc (prints g.turns) part.0 part.1.0),
+            part.1.1.1 ∙ ap Some (append_assoc taken (prints g.turns) part.0),
+          ),
+        ),
+      );
+}
+
+-- Nothing was played.
+unread-nil : (o : Option (List ℕ)) → unread [] o ≡ o
+unread-nil None = refl
+unread-nil (Some left) = refl
+
+none-played : IsPlayed [] (opening nowhere [] 0) []
+none-played = record { starts = (nowhere, [], 0, refl); legal = tt; spelt = refl; within = tt }
+
+none-written : (took : Option (List ℕ)) (taken : List ℕ) → took ≡ Some taken → took ≡ Some (taken ++ [])
+none-written took taken told = told ∙ ap Some (sym (append-nil taken))
+
+pub first-done : (left left_now took : Option (List ℕ)) (held : List ℕ) → Ends (unread [] left) (unread held left_now) → Replayed left left_now took took status.Done
+first-done left left_now took held ends = record {
+  lines = [];
+  start = opening nowhere [] 0;
+  turns = [];
+  played = none-played;
+  number = tt;
+  read = λ all told.
+      let end = ends all (unread-nil left ∙ told) in
+      ([], (ap lines_of end.0, (refl, unread-none held left_now end.1)));
+  written = none-written took;
+}
+
+pub first-taking : (left left_now took : Option (List ℕ)) (s : Status) → Stopping s (unread [] left) 0 1 → Replayed left left_now took took s
+first-taking left left_now took status.Done stop = absurd stop
+first-taking left left_now took (status.Script n) stop = record {
+  lines = [];
+  start = opening nowhere [] 0;
+  turns = [];
+  played = none-played;
+  number = stop.0;
+  read = λ all told.
+      let passes = stop.1 all (unread-nil left ∙ told) in
+      (lines_of all, (refl, (passes.0, (passes.1.0, (passes.1.1.0, inl passes.1.1.1)))));
+  written = none-written took;
+}
+first-taking left left_now took status.ReadFault stop = record {
+  lines = [];
+  start = opening nowhere [] 0;
+  turns = [];
+  played = none-played;
+  number = tt;
+  read = λ all told. (lines_of all, (refl, tt));
+  written = none-written took;
+}
+first-taking left left_now took status.WriteFault stop = absurd stop
+first-taking left left_now took status.NoMemory stop = record {
+  lines = [];
+  start = opening nowhere [] 0;
+  turns = [];
+  played = none-played;
+  number = tt;
+  read = λ all told. (lines_of all, (refl, tt));
+  written = none-written took;
+}
+first-taking left left_now took status.Usage stop = absurd stop
+first-taking left left_now took (status.Accounts n) stop = absurd stop
+first-taking left left_now took status.ListenFault stop = absurd stop
+
+pub first-bad : (left coming_now left_now took : Option (List ℕ)) (given_now : ℕ) (text : List ℕ) → TakesLine (unread [] left) coming_now 0 given_now text
+    → ((o : State) → Makes text o → ⊥) → Replayed left left_now took took (status.Script 1)
+first-bad left coming_now left_now took given_now text t never = record {
+  lines = [];
+  start = opening nowhere [] 0;
+  turns = [];
+  played = none-played;
+  number = refl;
+  read = λ all told.
+      let first = t.first all (unread-nil left ∙ told) in
+      (lines_of all, (refl, (t.line, (lines_of first.0, (first.1.1, inr (λ o makes. never o (subst (λ x. Makes x o) (sym t.text_is) makes)))))));
+  written = none-written took;
+}
+
+pub first-short : (left left_now took : Option (List ℕ)) → Replayed left left_now took took status.NoMemory
+first-short left left_now took = first-taking left left_now took status.NoMemory tt
+
+pub first-going : (left coming_now took : Option (List ℕ)) (given_now : ℕ) (text : List ℕ) (house : Kept) (o : State)
+    → TakesLine (unread [] left) coming_now 0 given_now text → Makes text o → StandsFor o [] house → Going left coming_now took took given_now house 2
+first-going left coming_now took given_now text house o t makes stands = record {
+  lines = t.line ∷ [];
+  start = o;
+  turns = [];
+  along = record {
+    stands = stands;
+    spelt = (subst (λ x. Makes x o) t.text_is makes, refl);
+    within = (t.within, tt);
+    some = omega arith;
+    each = omega (arith, t.given, t.some);
+    most = omega (arith, t.given, t.within.script_is);
+    size = omega (arith, t.given);
+    count = refl;
+    read = λ all told.
+        let first = t.first all (unread-nil left ∙ told) in
+        (first.0, (first.1.0, first.1.1));
+  };
+  written = none-written took;
+}
+
+-- The same of a reader that holds nothing and has given on nothing.
+pub fresh-ends : (left now : Option (List ℕ)) (held : List ℕ) → held ≡ [] → Ends (unread held left) now → Ends (unread [] left) now
+fresh-ends left now held none ends = subst (λ h. Ends (unread h left) now) none ends
+
+pub fresh-stopping : (left : Option (List ℕ)) (held : List ℕ) (given : ℕ) (s : Status) → held ≡ [] → given ≡ 0 → Stopping s (unread held left) given 1 → Stopping s (unread [] left) 0 1
+fresh-stopping left held given s none zero stop = subst (λ h. Stopping s (unread h left) 0 1) none (subst (λ (n : ℕ). Stopping s (unread held left) n 1) zero stop)
+
+pub fresh-line : (left now : Option (List ℕ)) (held : List ℕ) (given given_now : ℕ) (text : List ℕ) → held ≡ [] → given ≡ 0 → TakesLine (unread held left) now given given_now text
+    → TakesLine (unread [] left) now 0 given_now text
+fresh-line left now held given given_now text none zero t = subst (λ h. TakesLine (unread h left) now 0 given_now text) none (subst (λ (n : ℕ). TakesLine (unread held left) now n given_now text) zero t)

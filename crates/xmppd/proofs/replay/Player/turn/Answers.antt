@@ -1,0 +1,37 @@
+use Rattle.std.proofs.Common.{rules}
+use Rattle.xmppd.specs.Readings.{unread}
+use Rattle.xmppd.proofs.Plays.{going-on, stop-done, stop-taking, stop-bad, stop-writing}
+use Rattle.xmppd.proofs.replay.Player.turn.Goals as goal
+
+pub returns-in_err-take-clause-turns : goal.returns-in_err-take-clause-turns
+returns-in_err-take-clause-turns g c = λ left took going.
+    search (
+      rules,
+      stop-taking left (unread c.args.reader.now.held (g.S.Source.left c.args.source.now)) (g.S.Source.left c.take.new.source) took (g.K.Sink.took c.args.sink.now)
+          c.args.reader.now.given c.args.self.now.house c.args.number c.in_err-take.field-0.0 going (search rules),
+    )
+
+pub returns-then-not-branch-clause-turns : goal.returns-then-not-branch-clause-turns
+returns-then-not-branch-clause-turns g c = λ left took going.
+    stop-done left (unread c.args.reader.now.held (g.S.Source.left c.args.source.now)) c.take.new.reader.held (g.S.Source.left c.take.new.source) took (g.K.Sink.took c.args.sink.now)
+    c.args.reader.now.given c.args.self.now.house c.args.number going (search rules)
+
+pub returns-in-Err-Bad-clause-turns : goal.returns-in-Err-Bad-clause-turns
+returns-in-Err-Bad-clause-turns g c = λ left took going.
+    stop-bad left (unread c.args.reader.now.held (g.S.Source.left c.args.source.now)) (unread c.take.new.reader.held (g.S.Source.left c.take.new.source)) (g.S.Source.left c.take.new.source)
+    took (g.K.Sink.took c.args.sink.now) c.args.reader.now.given c.take.new.reader.given c.args.self.now.house c.args.number c.take.new.line.items going (search rules) (search rules)
+
+pub returns-in_err-write_all-clause-turns : goal.returns-in_err-write_all-clause-turns
+returns-in_err-write_all-clause-turns g c = λ left took going.
+    search (
+      rules,
+      stop-writing left (unread c.args.reader.now.held (g.S.Source.left c.args.source.now)) (unread c.take.new.reader.held (g.S.Source.left c.take.new.source))
+          (g.S.Source.left c.take.new.source) took (g.K.Sink.took c.args.sink.now) (g.K.Sink.took c.write_all.new.sink) c.args.reader.now.given c.take.new.reader.given c.args.self.now.house
+          c.play.new.self.house c.args.number c.take.new.line.items c.play.new.self.print.items going (search rules) (search rules) (search rules),
+    )
+
+pub returns-clause-turns : goal.returns-clause-turns
+returns-clause-turns g c = λ left took going.
+    going-on left (unread c.args.reader.now.held (g.S.Source.left c.args.source.now)) (unread c.take.new.reader.held (g.S.Source.left c.take.new.source)) took (g.K.Sink.took c.args.sink.now)
+    (g.K.Sink.took c.write_all.new.sink) c.args.reader.now.given c.take.new.reader.given c.args.self.now.house c.play.new.self.house c.args.number c.take.new.line.items
+    c.play.new.self.print.items going (search rules) (search rules) (search rules)
