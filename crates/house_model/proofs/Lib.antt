@@ -1,6 +1,8 @@
 pub mod FitLemmas
+pub mod Hearings
+pub mod HearLaws
 pub mod Keeps
-pub mod Laws
+pub mod TurnLaws
 pub mod NumberedLemmas
 pub mod Sounds
 pub mod Texts

@@ -1,11 +1,11 @@
 -- The number of turns is the length of the history.
-use Rattle.std.proofs.Common.{◌≡◌, ℕ, ◌+◌, ◌<◌, List, [], ◌∷◌, length, refl, sym, ◌∙◌, ap, arith}
+use Rattle.std.proofs.Common.{◌≡◌, ◌+◌, List, [], ◌∷◌, length, refl, ◌∙◌, ap, arith}
 use Rattle.house_model.specs.declared.event.Event.{Event}
 use Rattle.house_model.specs.States.{State}
 use Rattle.house_model.specs.Keeping.{Kept, keep}
 use Rattle.house_model.specs.Effects.{Effect, Open, Log, Begin, Acted, Queue, Answered, Sent, apply, apply_all}
-use Rattle.house_model.specs.Steps.{step, turned, verdict}
-use Rattle.house_model.specs.Histories.{Outcome, Made, Short, Turn, next_by, after, line_of, IsOpening, StandsFor}
+use Rattle.house_model.specs.Steps.{turned, verdict}
+use Rattle.house_model.specs.Histories.{Outcome, Made, Short, Turn, next_by, after, IsOpening, StandsFor}
 use Rattle.house_model.proofs.NumberedLemmas.{length-listed}
 
 turns-effect : (st : State) (e : Effect) → (apply st e).turns ≡ st.turns

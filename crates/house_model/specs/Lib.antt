@@ -1,6 +1,7 @@
 pub mod Answers
 pub mod Effects
 pub mod Fits
+pub mod Frames
 pub mod Histories
 pub mod Keeping
 pub mod Numbered

@@ -2,6 +2,7 @@
 #![tactic(auto)]
 
 pub mod event;
+pub mod laws;
 pub mod reply;
 pub mod stage;
 pub mod stanza;

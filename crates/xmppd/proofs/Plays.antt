@@ -8,6 +8,7 @@ use Rattle.house_model.specs.States.{State, nowhere, opening}
 use Rattle.house_model.specs.Keeping.{Kept}
 use Rattle.house_model.specs.Plain.{is_plain}
 use Rattle.house_model.specs.Histories.{Turn, line_of, after, StandsFor}
+use Rattle.house_model.proofs.HearLaws.{all-hear}
 use Rattle.house_model.proofs.Turns.{turns-counted, lines-kept}
 use Rattle.replay_script.specs.declared.step.Step.{Step}
 use Rattle.replay_script.specs.declared.step.Step.TheVariants as step
@@ -124,6 +125,7 @@ stop-done left coming held left_now took now given house number g ends = record 
   start = g.start;
   turns = g.turns;
   played = played left coming given house number g.lines g.start g.turns g.along;
+  heard = all-hear g.start g.turns g.along.stands.starts g.along.stands.legal;
   number = tt;
   read = λ all told.
       let old = g.along.read all told in
@@ -141,6 +143,7 @@ stop-taking left coming left_now took now given house number (status.Script n) g
   start = g.start;
   turns = g.turns;
   played = played left coming given house number g.lines g.start g.turns g.along;
+  heard = all-hear g.start g.turns g.along.stands.starts g.along.stands.legal;
   number = stop.0 ∙ g.along.count;
   read = λ all told.
       let old = g.along.read all told in
@@ -153,6 +156,7 @@ stop-taking left coming left_now took now given house number status.ReadFault g 
   start = g.start;
   turns = g.turns;
   played = played left coming given house number g.lines g.start g.turns g.along;
+  heard = all-hear g.start g.turns g.along.stands.starts g.along.stands.legal;
   number = tt;
   read = λ all told. let old = g.along.read all told in (lines_of old.0, (old.1.1, tt));
   written = g.written;
@@ -163,6 +167,7 @@ stop-taking left coming left_now took now given house number status.NoMemory g s
   start = g.start;
   turns = g.turns;
   played = played left coming given house number g.lines g.start g.turns g.along;
+  heard = all-hear g.start g.turns g.along.stands.starts g.along.stands.legal;
   number = tt;
   read = λ all told. let old = g.along.read all told in (lines_of old.0, (old.1.1, tt));
   written = g.written;
@@ -186,6 +191,7 @@ stop-bad left coming coming_now left_now took now given given_now house number t
   start = g.start;
   turns = g.turns;
   played = played left coming given house number g.lines g.start g.turns g.along;
+  heard = all-hear g.start g.turns g.along.stands.starts g.along.stands.legal;
   number = g.along.count;
   read = λ all told.
       let old = g.along.read all told in
@@ -226,6 +232,9 @@ stop-writing left coming coming_now left_now took before now given given_now hou
   turns = g.turns ++ p.turn ∷ [];
   played = played left coming_now given_now house_now (number + 1) (g.lines ++ t.line ∷ []) g.start (g.turns ++ p.turn ∷ [])
       (along-on left coming coming_now given given_now house house_now number text out g.lines g.start g.turns g.along t p);
+  heard =
+      let next = along-on left coming coming_now given given_now house house_now number text out g.lines g.start g.turns g.along t p in
+      all-hear g.start (g.turns ++ p.turn ∷ []) next.stands.starts next.stands.legal;
   number = tt;
   read = λ all told.
       let old = (along-on left coming coming_now given given_now house house_now number text out g.lines g.start g.turns g.along t p).read all told in
@@ -262,6 +271,7 @@ first-done left left_now took held ends = record {
   start = opening nowhere [] 0;
   turns = [];
   played = none-played;
+  heard = all-hear (opening nowhere [] 0) [] none-played.starts none-played.legal;
   number = tt;
   read = λ all told.
       let end = ends all (unread-nil left ∙ told) in
@@ -276,6 +286,7 @@ first-taking left left_now took (status.Script n) stop = record {
   start = opening nowhere [] 0;
   turns = [];
   played = none-played;
+  heard = all-hear (opening nowhere [] 0) [] none-played.starts none-played.legal;
   number = stop.0;
   read = λ all told.
       let passes = stop.1 all (unread-nil left ∙ told) in
@@ -287,6 +298,7 @@ first-taking left left_now took status.ReadFault stop = record {
   start = opening nowhere [] 0;
   turns = [];
   played = none-played;
+  heard = all-hear (opening nowhere [] 0) [] none-played.starts none-played.legal;
   number = tt;
   read = λ all told. (lines_of all, (refl, tt));
   written = none-written took;
@@ -297,6 +309,7 @@ first-taking left left_now took status.NoMemory stop = record {
   start = opening nowhere [] 0;
   turns = [];
   played = none-played;
+  heard = all-hear (opening nowhere [] 0) [] none-played.starts none-played.legal;
   number = tt;
   read = λ all told. (lines_of all, (refl, tt));
   written = none-written took;
@@ -312,6 +325,7 @@ first-bad left coming_now left_now took given_now text t never = record {
   start = opening nowhere [] 0;
   turns = [];
   played = none-played;
+  heard = all-hear (opening nowhere [] 0) [] none-played.starts none-played.legal;
   number = refl;
   read = λ all told.
       let first = t.first all (unread-nil left ∙ told) in

@@ -5,6 +5,7 @@ use Rattle.house_model.specs.declared.reply.Reply.{Reply}
 use Rattle.house_model.specs.States.{State}
 use Rattle.house_model.specs.Keeping.{Kept}
 use Rattle.house_model.specs.Plain.{is_plain}
+use Rattle.house_model.specs.Frames.{AllHear}
 use Rattle.house_model.specs.Histories.{Turn, made, short, line_of, StandsFor}
 use Rattle.replay_script.specs.declared.step.Step.TheVariants as step
 use Rattle.replay_script.specs.declared.fault.LineFault.{LineFault}
@@ -56,12 +57,13 @@ IsWritten (status.Accounts n) taken prints now = ⊥
 IsWritten status.ListenFault taken prints now = ⊥
 
 -- A script was played. The first lines of what the source had left are these turns of a legal history, what follows them says why
--- the play stopped there, and what the sink took since are their prints.
+-- the play stopped there, what the sink took since are their prints, and each connection pulled its session's frames in order.
 pub record Replayed (left left_now took took_now : Option (List ℕ)) (s : Status) : Type 0 where
   pub lines : List (List ℕ)
   pub start : State
   pub turns : List Turn
   pub played : IsPlayed lines start turns
+  pub heard : AllHear start turns
   pub number : IsNumbered s (length lines)
   pub read : (all : List ℕ) → left ≡ Some all → (more : List (List ℕ)) × ((lines_of all ≡ lines ++ more) × StopsAt s lines start turns more left_now)
   pub written : (taken : List ℕ) → took ≡ Some taken → IsWritten s taken (prints turns) took_now

@@ -1,5 +1,5 @@
 use Rattle.house_model.specs.declared.event.Event.TheVariants as Event
-use Rattle.house_model.proofs.Laws.{stands-ended}
+use Rattle.house_model.proofs.TurnLaws.{stands-ended}
 use Rattle.house_model.proofs.Texts.{text-act}
 use Rattle.house_core.proofs.house.House.act.Goals as goal
 

@@ -1,6 +1,6 @@
 use Rattle.std.specs.Option.{option_copied}
 use Rattle.house_model.specs.declared.event.Event.TheVariants as Event
-use Rattle.house_model.proofs.Laws.{stands-ended}
+use Rattle.house_model.proofs.TurnLaws.{stands-ended}
 use Rattle.house_model.proofs.Texts.{text-bind}
 use Rattle.house_core.proofs.house.House.bind.Goals as goal
 

@@ -1,6 +1,6 @@
 use Rattle.std.proofs.Common.{refl, sym, []}
 use Rattle.house_model.specs.declared.event.Event.TheVariants as Event
-use Rattle.house_model.proofs.Laws.{stands-made}
+use Rattle.house_model.proofs.TurnLaws.{stands-made}
 use Rattle.house_model.proofs.Texts.{text-login}
 use Rattle.house_core.proofs.house.House.login.Goals as goal
 

@@ -1,6 +1,6 @@
 use Rattle.std.proofs.Common.{refl}
 use Rattle.house_model.specs.declared.event.Event.TheVariants as Event
-use Rattle.house_model.proofs.Laws.{stands-made}
+use Rattle.house_model.proofs.TurnLaws.{stands-made}
 use Rattle.house_core.proofs.house.House.open_line.Goals as goal
 
 pub returns-clause-history : goal.returns-clause-history

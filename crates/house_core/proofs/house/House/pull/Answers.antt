@@ -1,7 +1,7 @@
 use Rattle.std.proofs.Common.{refl}
 use Rattle.house_model.specs.declared.event.Event.TheVariants as Event
 use Rattle.house_model.specs.Steps.{kept_step}
-use Rattle.house_model.proofs.Laws.{stands-made}
+use Rattle.house_model.proofs.TurnLaws.{stands-made}
 use Rattle.house_core.proofs.house.House.pull.Goals as goal
 
 pub returns-clause-history : goal.returns-clause-history

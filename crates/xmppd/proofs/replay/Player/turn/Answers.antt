@@ -35,3 +35,8 @@ returns-clause-turns g c = λ left took going.
     going-on left (unread c.args.reader.now.held (g.S.Source.left c.args.source.now)) (unread c.take.new.reader.held (g.S.Source.left c.take.new.source)) took (g.K.Sink.took c.args.sink.now)
     (g.K.Sink.took c.write_all.new.sink) c.args.reader.now.given c.take.new.reader.given c.args.self.now.house c.play.new.self.house c.args.number c.take.new.line.items
     c.play.new.self.print.items going (search rules) (search rules) (search rules)
+
+pub returns-in-Err-NoMemory-clause-turns : goal.returns-in-Err-NoMemory-clause-turns
+returns-in-Err-NoMemory-clause-turns g c = λ left took going.
+    stop-short left (unread c.args.reader.now.held (g.S.Source.left c.args.source.now)) (g.S.Source.left c.take.new.source) took (g.K.Sink.took c.args.sink.now) c.args.reader.now.given
+    c.args.self.now.house c.args.number going

@@ -27,7 +27,7 @@ keeps-step st e low sound =
     let turned_sound = sound-turned e st sound in
     keeps-all (turned e st) (verdict (keep (turned e st)) e).effects turned_sound (fits-verdict (turned e st) e low turned_sound)
 
-sound-next : (st : State) (e : Event) (outcome : Outcome) → line_of e < st.workers → Sound st → Sound (next st (record { event = e; outcome = outcome }))
+pub sound-next : (st : State) (e : Event) (outcome : Outcome) → line_of e < st.workers → Sound st → Sound (next st (record { event = e; outcome = outcome }))
 sound-next st e (Made reply text) low sound = sound-step st e low sound
 sound-next st e Short low sound = record { held = sound.held; done = sound.done; queued = sound.queued }
 

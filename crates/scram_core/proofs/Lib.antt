@@ -1,0 +1,15 @@
+pub mod Lists
+pub mod Derivative
+pub mod Normal
+pub mod Rests
+pub mod Keeping
+pub mod Living
+pub mod Leading
+pub mod Octets
+pub mod Exchanges
+pub mod Classes
+pub mod Commas
+pub mod Parts
+pub mod Encodings
+pub mod Nonces
+pub mod Names

@@ -1,0 +1,9 @@
+pub mod Expressions
+pub mod Matching
+pub mod Grammar
+pub mod Places
+pub mod Machine
+pub mod Attributes
+pub mod Parts
+pub mod Login
+pub mod Exchange
