@@ -1,5 +1,5 @@
 -- A script as its lines, and what it plays.
-use Rattle.std.specs.Prelude.{◌≡◌, ℕ, ◌+◌, ◌<◌, ◌≤◌, ◌==◌, ◌⊎◌, List, [], ◌∷◌, ◌++◌, length, map, true, Option, Some, None, ⊤, if◌then◌else◌}
+use Rattle.std.specs.Prelude.{◌≡◌, ℕ, ◌+◌, ◌<◌, ◌≤◌, ◌==◌, ◌⊎◌, List, [], ◌∷◌, length, map, true, Option, Some, ⊤, if◌then◌else◌}
 use Rattle.jid_core.specs.Addresses.{Address}
 use Rattle.jid_core.specs.Cuts.{before}
 use Rattle.house_model.specs.declared.event.Event.{Event}

@@ -1,4 +1,4 @@
-use Rattle.std.proofs.Common.{rules, ap, sym, Some, ◌∙◌}
+use Rattle.std.proofs.Common.{rules, ap, Some, ◌∙◌}
 use Rattle.replay_script.proofs.UserLemmas.{users_step, users_end, step_prepared}
 use Rattle.replay_script.proofs.opening.read_users.Goals as goal
 

@@ -1,6 +1,6 @@
 use Rattle.std.proofs.Common.{rules}
 use Rattle.xmppd.specs.Readings.{unread}
-use Rattle.xmppd.proofs.Plays.{going-on, stop-done, stop-taking, stop-bad, stop-writing}
+use Rattle.xmppd.proofs.Plays.{going-on, stop-bad, stop-done, stop-short, stop-taking, stop-writing}
 use Rattle.xmppd.proofs.replay.Player.turn.Goals as goal
 
 pub returns-in_err-take-clause-turns : goal.returns-in_err-take-clause-turns
