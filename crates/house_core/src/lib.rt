@@ -7,6 +7,8 @@ pub mod house;
 mod line;
 mod make;
 mod places;
+#[cfg(test)]
+mod plain;
 mod session;
 #[cfg(test)]
 mod tests;

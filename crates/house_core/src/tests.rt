@@ -3,6 +3,7 @@
 ghost use Rattle.std.specs.Prelude.{◌≡◌, length, IfOk, OnOk};
 
 use super::*;
+use crate::plain::PlainHouse;
 use house_model::{Event, MessageForm, Reply, Stanza};
 use jid_core::{Jid, Part};
 use stanza_tree::{Element, NoMemory, Node, Several, Text, length};
@@ -302,4 +303,122 @@ fn a_taken_address_is_not_plain(rt: HostRuntime) -> Result<(), Fail> {
         (Deed::Bind(1, b"y", None), true),
     ];
     expect_plain(&rt, alloc, &house, &plain)
+}
+
+// The same house as a slow program by the definitions.
+fn small_plain(alloc: Global) -> Result<PlainHouse, Fail>
+    ensures { IfOk result (λ h. length h.lines ≡ 2) }
+{
+    let domain = Jid::read(alloc, b"example.org")?;
+    let alice = Part::local(alloc, b"alice")?;
+    let bob = Part::local(alloc, b"bob")?;
+    Ok(PlainHouse::new(alloc, &domain, &[alice, bob], 2)?)
+}
+
+// What an event gives at a line that is there, by the slow program: the reply, and the frame in `text`.
+#[tactic(auto, using(crate::proofs::LineLemmas::lines_kept))]
+fn plain_reply<R: Abort>(
+    rt: &R,
+    house: &mut PlainHouse,
+    event: &Event,
+    text: &mut Vec<u8>,
+) -> Result<Reply, NoMemory>
+    requires { length house.old.lines ≡ 2 }
+    ensures { OnOk result (length house.new.lines ≡ 2) }
+{
+    assert!(rt; crate::plain::line_of(event) < 2);
+    text.clear();
+    house.step(event, text)
+}
+
+// What the house gives, and its frame in `text`.
+fn house_reply<R: Abort>(
+    rt: &R,
+    house: &mut House,
+    event: &Event,
+    text: &mut Vec<u8>,
+) -> Result<Reply, NoMemory>
+    requires { length house.old.lines ≡ 2 }
+    ensures { OnOk result (length house.new.lines ≡ 2) }
+{
+    text.clear();
+    match event {
+        Event::Pull { w, t } => pull_into(rt, house, *w, *t, text),
+        _ => reply_to(rt, house, event),
+    }
+}
+
+#[tactic(auto, using(crate::proofs::LineLemmas::lines_kept))]
+fn pull_into<R: Abort>(
+    rt: &R,
+    house: &mut House,
+    w: u32,
+    t: u64,
+    text: &mut Vec<u8>,
+) -> Result<Reply, NoMemory>
+    requires { length house.old.lines ≡ 2 }
+    ensures { OnOk result (length house.new.lines ≡ 2) }
+{
+    assert!(rt; house.turns() < 1000 && w < 2);
+    text.reserve(524288)?;
+    Ok(house.pull(w, t, text))
+}
+
+// Both give the same for each of these deeds.
+fn expect_same<R: Abort>(rt: &R, alloc: Global, deeds: &[Deed]) -> Result<(), Fail> {
+    let mut house = small_house(alloc)?;
+    let mut plain = small_plain(alloc)?;
+    let mut text = Vec::new(alloc);
+    let mut other = Vec::new(alloc);
+    for (i, deed) in deeds.iter().enumerate() {
+        let event = event_of(alloc, deed)?;
+        let reply = house_reply(rt, &mut house, &event, &mut text)?;
+        let same = plain_reply(rt, &mut plain, &event, &mut other)?;
+        assert_eq!(rt; reply, same, "deed {i}");
+        assert!(rt; text.as_slice() == other.as_slice(), "deed {i}");
+    }
+    Ok(())
+}
+
+// All that comes early, and then all that can be given.
+const EARLY: [Deed; 14] = [
+    Deed::Pull(0),
+    Deed::Login(0, b"bob"),
+    Deed::Bind(0, b"x", None),
+    Deed::Headline(0, b"bob@example.org/desk"),
+    Deed::Open(1),
+    Deed::Pull(1),
+    Deed::Bind(1, b"x", None),
+    Deed::Headline(1, b"bob@example.org/desk"),
+    Deed::Login(1, b"carol"),
+    Deed::Login(1, b"bob"),
+    Deed::Login(1, b"bob"),
+    Deed::Headline(1, b"bob@example.org/desk"),
+    Deed::Pull(1),
+    Deed::Bind(1, b"x", None),
+];
+
+const TOLD: [Deed; 16] = [
+    Deed::Open(0),
+    Deed::Open(1),
+    Deed::Login(0, b"alice"),
+    Deed::Login(1, b"bob"),
+    Deed::Bind(0, b"a&'1", Some(b"phone")),
+    Deed::Bind(1, b"b1", Some(b"it's/here")),
+    Deed::Headline(0, b"bob@example.org/it's/here"),
+    Deed::Headline(1, b"alice@example.org/phone"),
+    Deed::Headline(1, b"bob@example.org/it's/here"),
+    Deed::Pull(1),
+    Deed::Pull(1),
+    Deed::Pull(0),
+    Deed::Pull(1),
+    Deed::Pull(1),
+    Deed::Pull(0),
+    Deed::Pull(0),
+];
+
+#[test]
+fn the_house_goes_by_the_definitions(rt: HostRuntime) -> Result<(), Fail> {
+    expect_same(&rt, rt.alloc(), &EARLY)?;
+    expect_same(&rt, rt.alloc(), &TOLD)
 }
