@@ -5,10 +5,16 @@ use Rattle.outside.specs.declared.bytes.Got.TheVariants as got
 use Rattle.outside.specs.declared.bytes.Put.{Put}
 use Rattle.outside.specs.declared.bytes.Put.TheVariants as put
 
--- what a source in memory has left, or a sink in memory took, and how often it failed
+-- what a source in memory has left, and how often it failed
 pub record Told : Type 0 where
   pub bytes : List ℕ
   pub faults : ℕ
+
+-- what a sink in memory took, how often it failed, and for how many bytes more it has room
+pub record Held : Type 0 where
+  pub bytes : List ℕ
+  pub faults : ℕ
+  pub room : ℕ
 
 -- a count of faults rose, or stands at its greatest number
 abbrev pub Rose : ℕ → ℕ → Type 0

@@ -79,12 +79,12 @@ pub struct MemSink {
 }
 
 impl Model for MemSink {
-    ghost use Rattle.std.specs.Prelude.{◌<◌};
-    ghost use Rattle.outside.specs.Devices.{Told};
+    ghost use Rattle.std.specs.Prelude.{◌<◌, ◌-◌, vec_capacity, vec_len};
+    ghost use Rattle.outside.specs.Devices.{Held};
 
-    ghost Value = { Told };
+    ghost Value = { Held };
 
-    ghost view = { λ s. record { bytes = s.bytes.items; faults = s.faults } };
+    ghost view = { λ s. record { bytes = s.bytes.items; faults = s.faults; room = vec_capacity s.bytes - vec_len s.bytes } };
 
     ghost invariant = { λ s. 0 < s.piece };
 }
@@ -100,6 +100,7 @@ impl MemSink {
         requires { 0 < piece }
         ensures bytes { IfOk result (λ s. s.bytes ≡ []) }
         ensures faults { IfOk result (λ s. s.faults ≡ 0) }
+        ensures room { IfOk result (λ s. room ≤ s.room) }
     {
         Ok(MemSink {
             bytes: Vec::with_capacity(alloc, room)?,
