@@ -1,0 +1,8 @@
+mod NumberLemmas
+mod LineLemmas
+mod BookLemmas
+mod ListLemmas
+mod CutLemmas
+mod WrittenLemmas
+mod LocalLemmas
+mod ReadLemmas
