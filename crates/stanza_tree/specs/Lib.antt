@@ -1,5 +1,6 @@
 pub mod formers
 pub mod Attributes
+pub mod Children
 pub mod Entries
 pub mod Faults
 pub mod Spelling

@@ -1,6 +1,9 @@
 //! The XML element tree that stanzas are made of, and its one canonical spelling (RFC 6120, section 11; XML 1.0, fifth edition).
 #![tactic(auto)]
 
+pub mod children;
+#[cfg(test)]
+mod children_tests;
 pub mod frame;
 pub mod measure;
 pub mod node;
