@@ -154,7 +154,7 @@ is-refused-not-said BadEncoding ts us ns (os, g) e = void-refused ts us BadEncod
 tells-utf8 : (bytes : List ℕ) (ms : List Sign) → Tells bytes ms → IsUtf8 bytes
 tells-utf8 bytes ms (cs, sc, e, m) = (cs, (sc, e))
 
-not-begun : (bytes : List ℕ) (ts : List Token) (st : State) (b : ℕ) (f : LexFault) → Leads bytes ts st → Fails st b f → BeginsReading (bytes ++ b ∷ []) → ⊥
+pub not-begun : (bytes : List ℕ) (ts : List Token) (st : State) (b : ℕ) (f : LexFault) → Leads bytes ts st → Fails st b f → BeginsReading (bytes ++ b ∷ []) → ⊥
 not-begun bytes ts st b f k (refusing r) (more, us, t) =
     let (ns, e, l) = k.rest (b ∷ more) (all_said us) (subst (λ (x : List ℕ). Tells x (all_said us)) (snoc bytes more b) t) in
     is-refused-not-said f us ts ns (r.refused more ns l) e
@@ -187,7 +187,7 @@ kind-refused bytes ts st b Restricted k r =
     (refused-utf8 bytes ts st b Restricted k r, restricted-alone bytes ts st b k r, begins-refused bytes ts st b Restricted more ns k l)
 kind-refused bytes ts st b BadEncoding k r = let (more, ns, l) = r.shown in inr (begins-refused bytes ts st b BadEncoding more ns k l)
 
-kind-of-fault : (bytes : List ℕ) (ts : List Token) (st : State) (b : ℕ) (f : LexFault) → Leads bytes ts st → Fails st b f → IsKind (bytes ++ b ∷ []) f
+pub kind-of-fault : (bytes : List ℕ) (ts : List Token) (st : State) (b : ℕ) (f : LexFault) → Leads bytes ts st → Fails st b f → IsKind (bytes ++ b ∷ []) f
 kind-of-fault bytes ts st b f k (refusing r) = kind-refused bytes ts st b f k r
 kind-of-fault bytes ts st b f k (undecodable e never) =
     subst (IsKind (bytes ++ b ∷ [])) (sym e) (inl (λ (more, h). never more (k.utf8 (b ∷ more) (subst IsUtf8 (snoc bytes more b) h))))

@@ -5,7 +5,7 @@
 //! the layer above.
 #![tactic(auto)]
 
-ghost use Rattle.std.specs.Prelude.{◌≡◌, ℕ, List, [], ◌∷◌, ◌++◌, true, IfNone, IfSome};
+ghost use Rattle.std.specs.Prelude.{◌≡◌, ℕ, List, [], ◌∷◌, ◌++◌, true, None, IfNone, IfSome};
 ghost use Rattle.stream_lex.specs.Live.{is_live};
 ghost use Rattle.stream_lex.specs.Turns.{turn};
 ghost use Rattle.stream_lex.specs.Leading.{tokens_of, Stands, IsTurned};
@@ -78,6 +78,16 @@ pub struct Lexed {
     pub fault: Option<LexFault>,
 }
 
+impl Lexed {
+    /// The tokens.
+    pub fn told(&self) -> &[Token]
+        ensures { result.now ≡ tokens_of self.now }
+    {
+        let count = (self.count as usize).min(4);
+        &self.tokens[..count]
+    }
+}
+
 /// A reader of the bytes of one stream. It takes no memory.
 #[derive(Drop)]
 pub struct Lex {
@@ -97,6 +107,15 @@ impl Lex {
             state: State::start(),
             fault: None,
         }
+    }
+
+    /// A reader at a state that was reached.
+    pub fn at(state: State) -> Lex
+        requires { is_live state ≡ true }
+        ensures state { result.state ≡ state }
+        ensures fault { result.fault ≡ None }
+    {
+        Lex { state, fault: None }
     }
 
     /// Reads one byte.

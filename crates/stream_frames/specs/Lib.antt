@@ -1,0 +1,12 @@
+pub mod Trees
+pub mod Streams
+pub mod Faults
+pub mod Nesting
+pub mod Framing
+pub mod Stacks
+pub mod Moves
+pub mod Tracking
+pub mod Namespaces
+pub mod Items
+pub mod Resolving
+pub mod Gathering

@@ -1,0 +1,51 @@
+//! What the definitions say.
+
+ghost use Rattle.std.specs.Prelude.{◌≡◌, ℕ, List, [], ◌∷◌, ◌++◌, Bool, true, false};
+ghost use Rattle.stream_frames.specs.declared.rules.Rules.{Rules};
+ghost use Rattle.stream_frames.specs.Streams.{Spells, Begins};
+ghost use Rattle.stream_frames.specs.Trees.{RawTag, Stream, tag_tokens};
+ghost use Rattle.stream_frames.specs.Gathering.{Gathered, gather_all, whole_tag};
+ghost use Rattle.stream_frames.specs.Faults.{IsSyntaxKind};
+ghost use Rattle.stream_frames.specs.Items.{EndsHeader, EndsTop, is_header_end, is_top_end};
+ghost use Rattle.stream_frames.specs.Framing.{frame_next, frame_after, first_frame, is_broken, has_ended, fault_at};
+
+/// Bytes begin a stream exactly where the frame that they lead to is not broken, so the first byte that breaks
+/// it is the first with which no stream goes on. The frame is a fold over the bytes, however they are cut.
+pub fn frames_are_exact()
+    ensures open { (r : Rules) (bytes : List ℕ)
+        → is_broken (frame_after r first_frame bytes) ≡ false → Begins r bytes }
+    ensures broken { (r : Rules) (bytes : List ℕ)
+        → is_broken (frame_after r first_frame bytes) ≡ true → Begins r bytes → ⊥ }
+{}
+
+/// The kind of the fault of the first byte with which no stream goes on is `fault_at` of the frame before it.
+pub fn faults_have_kinds()
+    ensures { (r : Rules) (bytes : List ℕ) (b : ℕ)
+        → is_broken (frame_after r first_frame bytes) ≡ false
+        → is_broken (frame_next r (frame_after r first_frame bytes) b) ≡ true
+        → IsSyntaxKind r (fault_at r (frame_after r first_frame bytes) b) (bytes ++ b ∷ []) }
+{}
+
+/// The frame that bytes lead to has ended exactly where they are a stream, from the first byte to the `>` of its end tag, and
+/// white space after it.
+pub fn streams_end()
+    ensures whole { (r : Rules) (bytes : List ℕ)
+        → has_ended (frame_after r first_frame bytes) ≡ true → (s : Stream) × Spells r bytes s }
+    ensures ended { (r : Rules) (bytes : List ℕ) (s : Stream)
+        → Spells r bytes s → has_ended (frame_after r first_frame bytes) ≡ true }
+{}
+
+/// A byte after which only the stream is open, and that tells the end of a start tag, ends the header; one that tells the end of
+/// an element ends a top element.
+pub fn items_end()
+    ensures header { (r : Rules) (bytes : List ℕ) (b : ℕ)
+        → is_header_end r (frame_after r first_frame bytes) b ≡ true → EndsHeader r (bytes ++ b ∷ []) }
+    ensures top { (r : Rules) (bytes : List ℕ) (b : ℕ)
+        → is_top_end r (frame_after r first_frame bytes) b ≡ true → EndsTop r (bytes ++ b ∷ []) }
+{}
+
+/// The tokens of a tag give its name and its attributes, whatever came before.
+pub fn tags_are_gathered()
+    ensures { (g : Gathered) (t : RawTag) (empty : Bool)
+        → gather_all g (tag_tokens t empty) ≡ whole_tag t }
+{}

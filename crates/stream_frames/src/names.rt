@@ -1,0 +1,156 @@
+//! The names of the elements that are open.
+
+ghost use Rattle.std.specs.Prelude.{◌≡◌, ◌+◌, [], ◌∷◌, ◌++◌, length, cond, None, Some, OnOk, OnErr};
+ghost use Rattle.stream_frames.specs.Stacks.{raw, outer, begins_so, left_of, next_is, is_all};
+ghost use Rattle.stream_frames.specs.Moves.{is_none, is_one};
+
+use stanza_tree::NoMemory;
+use std::alloc::Global;
+use std::marker::Model;
+use std::mem;
+
+/// A name as it stands in a tag: its first byte and the others.
+#[derive(Drop)]
+pub(crate) struct OpenName {
+    pub(crate) first: u8,
+    pub(crate) rest: Vec<u8>,
+}
+
+impl OpenName {
+    /// A name of one byte. Takes no memory.
+    pub(crate) fn beginning(alloc: Global, first: u8) -> OpenName
+        ensures { raw result ≡ (first, []) }
+    {
+        OpenName {
+            first,
+            rest: Vec::new(alloc),
+        }
+    }
+
+    /// Adds a byte.
+    pub(crate) fn add(&mut self, byte: u8) -> Result<(), NoMemory>
+        ensures ok { OnOk result (raw self.new ≡ (self.old.first, self.old.rest.items ++ byte ∷ [])) }
+        ensures err { OnErr result (raw self.new ≡ raw self.old) }
+    {
+        self.rest.push(byte)?;
+        Ok(())
+    }
+}
+
+/// The names of the elements that are open, seen as a list, the innermost first.
+#[derive(Drop)]
+pub(crate) struct Names {
+    alloc: Global,
+    innermost: Option<OpenName>,
+    others: Vec<OpenName>,
+}
+
+impl Model for Names {
+    ghost use Rattle.std.specs.Prelude.{List};
+    ghost use Rattle.stream_frames.specs.Trees.{RawName};
+    ghost use Rattle.stream_frames.specs.Stacks.{stacked, IsClosed};
+
+    ghost Value = { List RawName };
+
+    ghost view = { λ n. stacked n.innermost n.others.items };
+
+    ghost invariant = { λ n. IsClosed n.innermost n.others.items };
+}
+
+impl Names {
+    /// No names. Takes no memory.
+    pub(crate) fn new(alloc: Global) -> Names
+        ensures { result ≡ [] }
+    {
+        Names {
+            alloc,
+            innermost: None,
+            others: Vec::new(alloc),
+        }
+    }
+
+    /// Adds a name, which is then the innermost. The name is taken out, and an empty one left.
+    pub(crate) fn push(&mut self, name: &mut OpenName) -> Result<(), NoMemory>
+        ensures ok { OnOk result (self.new ≡ raw name.old ∷ self.old) }
+        ensures err { OnErr result ((self.new ≡ self.old) × (raw name.new ≡ raw name.old)) }
+    {
+        self.others.reserve(1)?;
+        let taken = mem::replace(name, OpenName::beginning(self.alloc, 0));
+        if let Some(before) = self.innermost.replace(taken) {
+            self.others.push_reserved(before);
+        }
+        Ok(())
+    }
+
+    /// Takes the innermost name away, where there is one.
+    pub(crate) fn pop(&mut self)
+        ensures { self.new ≡ outer self.old }
+    {
+        self.innermost = self.others.pop();
+    }
+
+    /// How many names there are.
+    pub(crate) fn count(&self) -> usize
+        ensures { result ≡ length self.now }
+    {
+        match &self.innermost {
+            Some(_) => self.others.len() + 1,
+            None => 0,
+        }
+    }
+
+    /// Whether there are none.
+    pub(crate) fn is_none(&self) -> bool
+        ensures { result ≡ is_none self.now }
+    {
+        self.innermost.is_none()
+    }
+
+    /// Whether there is one.
+    pub(crate) fn is_one(&self) -> bool
+        ensures { result ≡ is_one self.now }
+    {
+        self.count() == 1
+    }
+
+    /// Whether there are two.
+    pub(crate) fn is_two(&self) -> bool
+        ensures { result ≡ is_one (outer self.now) }
+    {
+        self.count() == 2
+    }
+
+    /// Whether the innermost name begins with the byte.
+    pub(crate) fn begins_with(&self, byte: u8) -> bool
+        ensures { result ≡ begins_so self.now byte }
+    {
+        match &self.innermost {
+            Some(name) => name.first == byte,
+            None => false,
+        }
+    }
+
+    /// Where the byte goes on with the innermost name, after so many of its further bytes: how many there are then.
+    pub(crate) fn goes_on(&self, at: usize, byte: u8) -> Option<usize>
+        ensures { result ≡ cond (next_is (left_of self.now at) byte) (Some (at + 1)) None }
+    {
+        let Some(name) = &self.innermost else {
+            return None;
+        };
+        if at < name.rest.len() && name.rest[at] == byte {
+            Some(at + 1)
+        } else {
+            None
+        }
+    }
+
+    /// Whether so many further bytes are the whole innermost name.
+    pub(crate) fn is_whole(&self, at: usize) -> bool
+        ensures { result ≡ is_all (left_of self.now at) }
+    {
+        match &self.innermost {
+            Some(name) => at >= name.rest.len(),
+            None => true,
+        }
+    }
+}

@@ -1,0 +1,293 @@
+//! The names on a tag, with the namespaces that are declared (Namespaces in XML 1.0).
+
+ghost use Rattle.std.specs.Prelude.{◌≡◌, None, IfOk};
+ghost use Rattle.std.specs.Option.{option_copied};
+ghost use Rattle.stream_frames.specs.Namespaces.{colon_at, has_prefix, prefix_of, local_of, is_declaration, declared_prefix, may_undo, may_declare, last_space, last_layer, space_of, attribute_space, has_unbound, is_forbidden, has_forbidden, is_twin, has_twin, has_twins, tag_fault, own, first_layer};
+
+use stanza_tree::{NoMemory, Several};
+use std::alloc::Global;
+
+const XML_SPACE: &[u8] = b"http://www.w3.org/XML/1998/namespace";
+
+const XMLNS_SPACE: &[u8] = b"http://www.w3.org/2000/xmlns/";
+
+/// A prefix, or the default namespace where it is empty, and what it is bound to.
+#[derive(Drop)]
+pub struct Binding {
+    pub prefix: Several<u8>,
+    pub space: Several<u8>,
+}
+
+/// An attribute as it stands in a tag: its name, and its value without the quotes and escapes.
+#[derive(Drop)]
+pub struct Written {
+    pub name: Several<u8>,
+    pub value: Several<u8>,
+}
+
+/// Why the names on a tag are refused.
+#[derive(Clone, Copy, Debug, PartialEq, Eq)]
+pub enum NameFault {
+    /// A prefix that is not declared.
+    BadPrefix,
+    /// Two attributes of one name, or an element or a declaration that Namespaces in XML 1.0 forbids.
+    NotWellFormed,
+}
+
+/// The place of the colon, or the number of all bytes.
+fn colon_place(name: &[u8]) -> usize
+    ensures { result ≡ colon_at name.now }
+{
+    for (i, byte) in name.iter().enumerate() {
+        if *byte == b':' {
+            return i;
+        }
+    }
+    name.len()
+}
+
+fn has_a_prefix(name: &[u8]) -> bool
+    ensures { result ≡ has_prefix name.now }
+{
+    colon_place(name) < name.len()
+}
+
+pub(crate) fn prefix(name: &[u8]) -> &[u8]
+    ensures { result.now ≡ prefix_of name.now }
+{
+    let place = colon_place(name);
+    if place < name.len() {
+        &name[..place]
+    } else {
+        &[]
+    }
+}
+
+pub(crate) fn local(name: &[u8]) -> &[u8]
+    ensures { result.now ≡ local_of name.now }
+{
+    let place = colon_place(name);
+    if place < name.len() {
+        &name[place + 1..]
+    } else {
+        name
+    }
+}
+
+pub(crate) fn declares(name: &[u8]) -> bool
+    ensures { result ≡ is_declaration name.now }
+{
+    if has_a_prefix(name) {
+        prefix(name) == b"xmlns".as_slice()
+    } else {
+        name == b"xmlns".as_slice()
+    }
+}
+
+/// Only the default namespace may be bound to nothing.
+fn may_be_undone(prefix: &[u8], space: &[u8]) -> bool
+    ensures { result ≡ may_undo prefix.now space.now }
+{
+    prefix == b"".as_slice() || space != b"".as_slice()
+}
+
+fn may_be_declared(prefix: &[u8], space: &[u8]) -> bool
+    ensures { result ≡ may_declare prefix.now space.now }
+{
+    if prefix == b"xmlns".as_slice() {
+        false
+    } else if prefix == b"xml".as_slice() {
+        space == XML_SPACE
+    } else {
+        space != XML_SPACE && space != XMLNS_SPACE && may_be_undone(prefix, space)
+    }
+}
+
+/// What the last binding of the prefix binds it to, or else what was given.
+fn last_bound<'a>(
+    given: Option<&'a [u8]>,
+    bindings: &'a [Binding],
+    prefix: &[u8],
+) -> Option<&'a [u8]>
+    ensures { option_copied result ≡ last_space (option_copied given.entry) bindings.now prefix.now }
+{
+    let mut found = given;
+    for binding in bindings {
+        if binding.prefix.slice() == prefix {
+            found = Some(binding.space.slice());
+        }
+    }
+    found
+}
+
+/// The same through the bindings of each element, outermost first.
+fn last_in_layers<'a>(
+    given: Option<&'a [u8]>,
+    layers: &'a [Several<Binding>],
+    prefix: &[u8],
+) -> Option<&'a [u8]>
+    ensures { option_copied result ≡ last_layer (option_copied given.entry) layers.now prefix.now }
+{
+    let mut found = given;
+    for layer in layers {
+        found = last_bound(found, layer.slice(), prefix);
+    }
+    found
+}
+
+/// What the prefix stands for.
+pub(crate) fn bound<'a>(bindings: &'a [Several<Binding>], prefix: &[u8]) -> Option<&'a [u8]>
+    ensures { option_copied result ≡ space_of bindings.now prefix.now }
+{
+    if prefix == b"xmlns".as_slice() {
+        None
+    } else {
+        last_in_layers(None, bindings, prefix)
+    }
+}
+
+/// The namespace of an attribute of that name.
+pub(crate) fn attribute_bound<'a>(bindings: &'a [Several<Binding>], name: &[u8]) -> Option<&'a [u8]>
+    ensures { option_copied result ≡ attribute_space bindings.now name.now }
+{
+    if declares(name) {
+        Some(XMLNS_SPACE)
+    } else if has_a_prefix(name) {
+        bound(bindings, prefix(name))
+    } else {
+        Some(&[])
+    }
+}
+
+fn any_unbound(bindings: &[Several<Binding>], attributes: &[Written]) -> bool
+    ensures { result ≡ has_unbound bindings.now attributes.now }
+{
+    for attribute in attributes {
+        if attribute_bound(bindings, attribute.name.slice()).is_none() {
+            return true;
+        }
+    }
+    false
+}
+
+fn is_forbidden_here(attribute: &Written) -> bool
+    ensures { result ≡ is_forbidden attribute.now }
+{
+    let name = attribute.name.slice();
+    declares(name) && !may_be_declared(declared(name), attribute.value.slice())
+}
+
+fn any_forbidden(attributes: &[Written]) -> bool
+    ensures { result ≡ has_forbidden attributes.now }
+{
+    for attribute in attributes {
+        if is_forbidden_here(attribute) {
+            return true;
+        }
+    }
+    false
+}
+
+fn are_twins(bindings: &[Several<Binding>], one: &Written, other: &Written) -> bool
+    ensures { result ≡ is_twin bindings.now one.now other.now }
+{
+    let first = attribute_bound(bindings, one.name.slice());
+    let second = attribute_bound(bindings, other.name.slice());
+    let same = match (first, second) {
+        (Some(a), Some(b)) => b == a,
+        _ => false,
+    };
+    local(one.name.slice()) == local(other.name.slice()) && same
+}
+
+fn any_twin_of(bindings: &[Several<Binding>], one: &Written, others: &[Written]) -> bool
+    ensures { result ≡ has_twin bindings.now one.now others.now }
+{
+    for other in others {
+        if are_twins(bindings, one, other) {
+            return true;
+        }
+    }
+    false
+}
+
+fn any_twins(bindings: &[Several<Binding>], attributes: &[Written]) -> bool
+    ensures { result ≡ has_twins bindings.now attributes.now }
+{
+    for (i, attribute) in attributes.iter().enumerate() {
+        if any_twin_of(bindings, attribute, &attributes[i + 1..]) {
+            return true;
+        }
+    }
+    false
+}
+
+/// The fault of a tag by its names. The bindings are the `first_bindings`, those of each element round it, outermost first, and
+/// then its own. The time grows with the square of the attributes.
+pub fn name_fault(
+    bindings: &[Several<Binding>],
+    name: &[u8],
+    attributes: &[Written],
+) -> Option<NameFault>
+    ensures { result ≡ tag_fault bindings.now name.now attributes.now }
+{
+    let space = bound(bindings, prefix(name));
+    if space.is_none() || any_unbound(bindings, attributes) {
+        return Some(NameFault::BadPrefix);
+    }
+    let is_xml = match space {
+        Some(space) => space == XML_SPACE,
+        None => false,
+    };
+    if is_xml || any_forbidden(attributes) || any_twins(bindings, attributes) {
+        return Some(NameFault::NotWellFormed);
+    }
+    None
+}
+
+fn copied(alloc: Global, bytes: &[u8]) -> Result<Several<u8>, NoMemory>
+    ensures { IfOk result (λ s. s ≡ bytes.now) }
+{
+    let mut copy = Vec::new(alloc);
+    copy.extend_from_slice(bytes)?;
+    Ok(Several::of(copy))
+}
+
+fn bind(alloc: Global, prefix: &[u8], space: &[u8]) -> Result<Binding, NoMemory>
+    ensures { IfOk result (λ b. b ≡ record { prefix = prefix.now; space = space.now }) }
+{
+    let prefix = copied(alloc, prefix)?;
+    let space = copied(alloc, space)?;
+    Ok(Binding { prefix, space })
+}
+
+/// What is bound before any tag: the default namespace to nothing, and `xml`.
+pub fn first_bindings(alloc: Global) -> Result<Several<Binding>, NoMemory>
+    ensures { IfOk result (λ s. s ≡ first_layer) }
+{
+    let mut first = Vec::new(alloc);
+    first.push(bind(alloc, b"", b"")?)?;
+    first.push(bind(alloc, b"xml", XML_SPACE)?)?;
+    Ok(Several::of(first))
+}
+
+/// The prefix that a declaration of that name declares; empty for the default namespace.
+fn declared(name: &[u8]) -> &[u8]
+    ensures { result.now ≡ declared_prefix name.now }
+{
+    if has_a_prefix(name) { local(name) } else { &[] }
+}
+
+/// The bindings that a tag with these attributes declares, in their order.
+pub fn own_bindings(alloc: Global, attributes: &[Written]) -> Result<Several<Binding>, NoMemory>
+    ensures { IfOk result (λ s. s ≡ own attributes.now) }
+{
+    let mut bindings = Vec::new(alloc);
+    for attribute in attributes {
+        let name = attribute.name.slice();
+        if declares(name) {
+            bindings.push(bind(alloc, declared(name), attribute.value.slice())?)?;
+        }
+    }
+    Ok(Several::of(bindings))
+}
