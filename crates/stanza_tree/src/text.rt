@@ -1,5 +1,5 @@
 //! UTF-8 text.
-ghost use Rattle.std.specs.Prelude.{◌≡◌, [], IfOk, IfErr, OnOk, IsUtf8};
+ghost use Rattle.std.specs.Prelude.{◌≡◌, [], IfOk, IfErr, OnOk, IsUtf8, string_bytes};
 ghost use Rattle.stanza_tree.specs.Faults.{IsTextFault};
 
 pub use std::alloc::AllocError as NoMemory;
@@ -73,6 +73,13 @@ impl Text {
         Ok(Text {
             text: String::from_utf8(copied).unwrap(),
         })
+    }
+
+    /// The string as a text. Takes no memory.
+    pub fn of_string(text: String) -> Text
+        ensures { result ≡ string_bytes text }
+    {
+        Text { text }
     }
 
     /// The text's bytes.

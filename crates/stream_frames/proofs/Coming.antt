@@ -18,7 +18,7 @@ use Rattle.stream_frames.specs.Trees.{RawName, RawTag, Content, nothing, end_tok
 use Rattle.stream_frames.specs.Streams.{IsShortest}
 use Rattle.stream_frames.specs.Nesting.{Nest, start, inside, lost, nest_all, Leaves}
 use Rattle.stream_frames.specs.Framing.{goes_with, Frame, open_at, ended, broken, placed, settled, frame_next, frame_after, first_frame}
-use Rattle.stream_frames.specs.Items.{head_tokens, EndsHeader, EndsTop, is_between_tops, tokens_told, is_start_end, is_element_end, is_header_end, is_top_end}
+use Rattle.stream_frames.specs.Items.{head_tokens, EndsHeader, EndsTop, is_between_tops, tokens_told, told_at, is_start_end, is_element_end, is_header_end, is_top_end}
 use Rattle.stream_frames.proofs.Nested.{no_token, all-from, all-more}
 use Rattle.stream_frames.proofs.Twins.{words, EndsSo, ends-so}
 use Rattle.stream_frames.proofs.Following.{left-from, any-live, Tight, tight-from, IsSound, Sound, words-left, after-sound}
@@ -51,34 +51,56 @@ placed-open r s (inside (x ∷ st)) bs to m h = cond-open r (goes_with r s (insi
 placed-open r s start bs to m h = cond-open r (goes_with r s start) s start bs to m h
 placed-open r s k bs to m h = cond-open r (goes_with r s k) s k bs to m h
 
+cond-is : (r : Rules) (t : Bool) (s : State) (k : Nest) (bs : List ℕ) (to : State) (m : Nest) → frame_after r (cond t (open_at s k) broken) bs ≡ open_at to m → cond t (open_at s k) broken ≡ open_at s k
+cond-is r true s k bs to m h = refl
+cond-is r false s k bs to m h = absurd (broken-never r bs to m h)
+
+pub placed-is : (r : Rules) (s : State) (k : Nest) (bs : List ℕ) (to : State) (m : Nest) → frame_after r (placed r s k) bs ≡ open_at to m → placed r s k ≡ open_at s k
+placed-is r s lost bs to m h = absurd (broken-never r bs to m h)
+placed-is r s (inside []) bs to m h = absurd (ended-never r bs to m h)
+placed-is r s (inside (x ∷ st)) bs to m h = cond-is r (goes_with r s (inside (x ∷ st))) s (inside (x ∷ st)) bs to m h
+placed-is r s start bs to m h = cond-is r (goes_with r s start) s start bs to m h
+placed-is r s k bs to m h = cond-is r (goes_with r s k) s k bs to m h
+
 state-same : (s t : State) (n m : Nest) → open_at s n ≡ open_at t m → s ≡ t
 state-same s t n m e = cc
 
 nest-same : (s t : State) (n m : Nest) → open_at s n ≡ open_at t m → n ≡ m
 nest-same s t n m e = cc
 
--- what bytes tell that lead from one frame to another
-abbrev Came : Rules → State → Nest → State → Nest → List ℕ → Type 0
-Came r st n to m bs = (us : List Token) × (nest_all r n us ≡ m) × Carried st to bs us
+-- What bytes tell.
+abbrev pub told_all : Rules → Frame → List ℕ → List Token
+told_all r f [] = []
+told_all r f (b ∷ bs) = told_at f b ++ told_all r (frame_next r f b) bs
 
-came : (bs : List ℕ) (r : Rules) (st to : State) (n m : Nest) → is_live st ≡ true → frame_after r (open_at st n) bs ≡ open_at to m → Came r st n to m bs
-came [] r st to n m live e = ([], nest-same st to n m e, subst (λ (s : State). Carried st s [] []) (state-same st to n m e) (λ text vs some l t. (l, t)))
+-- what bytes tell that lead from one frame to another
+abbrev pub Came : Rules → State → Nest → State → Nest → List ℕ → Type 0
+Came r st n to m bs = (nest_all r n (told_all r (open_at st n) bs) ≡ m) × Carried st to bs (told_all r (open_at st n) bs)
+
+pub came : (bs : List ℕ) (r : Rules) (st to : State) (n m : Nest) → is_live st ≡ true → frame_after r (open_at st n) bs ≡ open_at to m → Came r st n to m bs
+came [] r st to n m live e = (nest-same st to n m e, subst (λ (s : State). Carried st s [] []) (state-same st to n m e) (λ text vs some l t. (l, t)))
 came (b ∷ bs) r st to n m live e = by (λ s k l f. came bs r s to k m l f) (turn st b) refl e
   where
-    next : ((s : State) (k : Nest) → is_live s ≡ true → frame_after r (open_at s k) bs ≡ open_at to m → Came r s k to m bs) → (s : State) (us : List Token) → turn st b ≡ leads s us → frame_after r (open_at s (nest_all r n us)) bs ≡ open_at to m
+    next : ((s : State) (k : Nest) → is_live s ≡ true → frame_after r (open_at s k) bs ≡ open_at to m → Came r s k to m bs) → (s : State) (us : List Token) → turn st b ≡ leads s us → frame_after r (placed r s (nest_all r n us)) bs ≡ open_at to m
         → Came r st n to m (b ∷ bs)
     next go s us f h =
-        let (ws, g, c) = go s (nest_all r n us) (subst LeadsLive f (any-live st b live)) h in
-        (us ++ ws, all-more r n us ws ∙ g, carry-step st s to b bs us ws live f c)
+        let k : Nest = nest_all r n us in
+        let o : placed r s k ≡ open_at s k = placed-is r s k bs to m h in
+        let (g, c) = go s k (subst LeadsLive f (any-live st b live)) (ap (λ (x : Frame). frame_after r x bs) (sym o) ∙ h) in
+        let told : us ++ told_all r (open_at s k) bs ≡ told_all r (open_at st n) (b ∷ bs) = ap (λ (x : Frame). us ++ told_all r x bs) (sym o) ∙ ap (λ (x : Outcome). tokens_told x ++ told_all r (settled r n x) bs) (sym f) in (
+          ap (nest_all r n) (sym told) ∙ (all-more r n us (told_all r (open_at s k) bs) ∙ g),
+          subst (Carried st to (b ∷ bs)) told (carry-step st s to b bs us (told_all r (open_at s k) bs) live f c),
+        )
 
     by : ((s : State) (k : Nest) → is_live s ≡ true → frame_after r (open_at s k) bs ≡ open_at to m → Came r s k to m bs) → (o : Outcome) → turn st b ≡ o → frame_after r (settled r n o) bs ≡ open_at to m → Came r st n to m (b ∷ bs)
-    by go (leads s us) f h = next go s us f (placed-open r s (nest_all r n us) bs to m h)
+    by go (leads s us) f h = next go s us f h
     by go (fails x) f h = absurd (broken-never r bs to m h)
 
 -- The bytes up to a token after which only the stream is open.
 
-abbrev Come : Rules → List ℕ → Token → Type 0
-Come r bytes t = (d : Bool) × (root : RawTag) × (f : Content) × (us : List Token) × (head_tokens d root f ≡ us ++ t ∷ []) × Reads bytes (head_tokens d root f) × IsShortest bytes (head_tokens d root f) × KeepsRoot r root f
+abbrev pub Come : Rules → List ℕ → ℕ → Token → Type 0
+Come r bytes b t = (d : Bool) × (root : RawTag) × (f : Content) × (head_tokens d root f ≡ told_all r first_frame bytes ++ t ∷ []) × Reads (bytes ++ b ∷ []) (head_tokens d root f) × IsShortest (bytes ++ b ∷ []) (head_tokens d root f)
+    × KeepsRoot r root f
 
 nil-back : (xs ys : List ℕ) → xs ++ ys ≡ [] → ys ≡ []
 nil-back [] ys e = e
@@ -88,10 +110,11 @@ leaves-end : (r : Rules) (m : RawName) → Leaves r (inside (m ∷ [])) (end_tok
 leaves-end r m = (nothing, [], tt, omega arith, sym (append-nil (end_tokens m)), refl)
 
 come : (r : Rules) (bytes : List ℕ) (b : ℕ) (st to : State) (n : Nest) (m : RawName) (t : Token) → frame_after r first_frame bytes ≡ open_at st n → turn st b ≡ leads to (t ∷ []) → to ≡ words → nest_all r n (t ∷ []) ≡ inside (m ∷ [])
-    → Come r (bytes ++ b ∷ []) t
+    → Come r bytes b t
 come r bytes b st to n m t e f w g =
     let first : State = at stage.Start pending.Nothing false in
-    let (us, h, c) = came bytes r first st start n (first-sound r).live e in
+    let us : List Token = told_all r first_frame bytes in
+    let (h, c) = came bytes r first st start n (first-sound r).live e in
     let sound : IsSound r st n = subst (Sound r) e (after-sound r first_frame bytes (first-sound r)) in
     let last : Left st (b ∷ []) (all_said (t ∷ [])) = left-from st to b (t ∷ []) [] [] sound.live f (subst (λ (s : State). Left s [] []) (sym w) words-left) in
     let short : Tight st (b ∷ []) (t ∷ []) = tight-from st to b (t ∷ []) [] [] sound.live f (no_token t []) (λ xs ys p l. nil-back xs ys (sym p)) in
@@ -102,7 +125,6 @@ come r bytes b st to n m t e f w g =
       s.declared,
       s.root,
       s.content,
-      us,
       sym same,
       subst (Reads (bytes ++ b ∷ [])) same (left-first (bytes ++ b ∷ []) (us ++ t ∷ []) l),
       λ xs ys p q. k xs ys p (subst (λ (x : List Token). Left first xs (all_said x)) (sym same) (first-left xs (head_tokens s.declared s.root s.content) q)),
@@ -152,25 +174,27 @@ is-element (token.TagEnds false ∷ v ∷ us) e = false-true e
 is-element (token.TagEnds true ∷ v ∷ us) e = false-true e
 is-element (u ∷ v ∷ us) e = false-true e
 
-tag-words : (st to : State) (b : ℕ) (x : Bool) → turn st b ≡ leads to (token.TagEnds x ∷ []) → to ≡ words
+pub tag-words : (st to : State) (b : ℕ) (x : Bool) → turn st b ≡ leads to (token.TagEnds x ∷ []) → to ≡ words
 tag-words st to b x e = let f : EndsSo (leads to (token.TagEnds x ∷ [])) = subst EndsSo e (ends-so st b) in f
 
-close-words : (st to : State) (b : ℕ) → turn st b ≡ leads to (token.CloseEnds ∷ []) → to ≡ words
+pub close-words : (st to : State) (b : ℕ) → turn st b ≡ leads to (token.CloseEnds ∷ []) → to ≡ words
 close-words st to b e = let f : EndsSo (leads to (token.CloseEnds ∷ [])) = subst EndsSo e (ends-so st b) in f
 
-header-come : (r : Rules) (bytes : List ℕ) → Come r bytes (token.TagEnds false) → EndsHeader r bytes
-header-come r bytes (d, root, f, us, e, reads, short, keeps) =
-    let none : f ≡ nothing = head-empty d root f us e in
-    (root, (d, subst (λ (g : Content). Reads bytes (head_tokens d root g)) none reads, subst (λ (g : Content). IsShortest bytes (head_tokens d root g)) none short, subst (KeepsRoot r root) none keeps))
+header-come : (r : Rules) (bytes : List ℕ) (b : ℕ) → Come r bytes b (token.TagEnds false) → EndsHeader r (bytes ++ b ∷ [])
+header-come r bytes b (d, root, f, e, reads, short, keeps) =
+    let none : f ≡ nothing = head-empty d root f (told_all r first_frame bytes) e in (
+      root,
+      (d, subst (λ (g : Content). Reads (bytes ++ b ∷ []) (head_tokens d root g)) none reads, subst (λ (g : Content). IsShortest (bytes ++ b ∷ []) (head_tokens d root g)) none short, subst (KeepsRoot r root) none keeps),
+    )
 
-close-come : (r : Rules) (bytes : List ℕ) → Come r bytes token.CloseEnds → EndsTop r bytes
-close-come r bytes (d, root, f, us, e, reads, short, keeps) = (root, f, (d, reads, short, keeps), head-ends d root f us token.CloseEnds e refl)
+close-come : (r : Rules) (bytes : List ℕ) (b : ℕ) → Come r bytes b token.CloseEnds → EndsTop r (bytes ++ b ∷ [])
+close-come r bytes b (d, root, f, e, reads, short, keeps) = (root, f, (d, reads, short, keeps), head-ends d root f (told_all r first_frame bytes) token.CloseEnds e refl)
 
-hollow-come : (r : Rules) (bytes : List ℕ) → Come r bytes (token.TagEnds true) → EndsTop r bytes
-hollow-come r bytes (d, root, f, us, e, reads, short, keeps) = (root, f, (d, reads, short, keeps), head-ends d root f us (token.TagEnds true) e refl)
+hollow-come : (r : Rules) (bytes : List ℕ) (b : ℕ) → Come r bytes b (token.TagEnds true) → EndsTop r (bytes ++ b ∷ [])
+hollow-come r bytes b (d, root, f, e, reads, short, keeps) = (root, f, (d, reads, short, keeps), head-ends d root f (told_all r first_frame bytes) (token.TagEnds true) e refl)
 
-told-come : (r : Rules) (bytes : List ℕ) (b : ℕ) (st to : State) (n : Nest) (us : List Token) (t : Token) → frame_after r first_frame bytes ≡ open_at st n → turn st b ≡ leads to us → us ≡ t ∷ [] → (turn st b ≡ leads to (t ∷ []) → to ≡ words)
-    → is_between_tops (placed r to (nest_all r n us)) ≡ true → Come r (bytes ++ b ∷ []) t
+pub told-come : (r : Rules) (bytes : List ℕ) (b : ℕ) (st to : State) (n : Nest) (us : List Token) (t : Token) → frame_after r first_frame bytes ≡ open_at st n → turn st b ≡ leads to us → us ≡ t ∷ [] → (turn st b ≡ leads to (t ∷ []) → to ≡ words)
+    → is_between_tops (placed r to (nest_all r n us)) ≡ true → Come r bytes b t
 told-come r bytes b st to n us t e f g w h =
     let k : turn st b ≡ leads to (t ∷ []) = f ∙ ap (leads to) g in
     let (m, is) = level-nest to (nest_all r n us) (placed-level r to (nest_all r n us) h) in
@@ -179,7 +203,7 @@ told-come r bytes b st to n us t e f g w h =
 header-led : (r : Rules) (bytes : List ℕ) (b : ℕ) (st : State) (n : Nest) (o : Outcome) → frame_after r first_frame bytes ≡ open_at st n → turn st b ≡ o → (is_between_tops (settled r n o) && is_start_end (tokens_told o)) ≡ true → EndsHeader r (bytes ++ b ∷ [])
 header-led r bytes b st n (leads to us) e f h =
     let (level, told) = both-parts (is_between_tops (placed r to (nest_all r n us))) (is_start_end us) h in
-    header-come r (bytes ++ b ∷ []) (told-come r bytes b st to n us (token.TagEnds false) e f (is-start us told) (tag-words st to b false) level)
+    header-come r bytes b (told-come r bytes b st to n us (token.TagEnds false) e f (is-start us told) (tag-words st to b false) level)
 header-led r bytes b st n (fails x) e f h = false-true h
 
 top-led : (r : Rules) (bytes : List ℕ) (b : ℕ) (st : State) (n : Nest) (o : Outcome) → frame_after r first_frame bytes ≡ open_at st n → turn st b ≡ o → (is_between_tops (settled r n o) && is_element_end (tokens_told o)) ≡ true → EndsTop r (bytes ++ b ∷ [])
@@ -188,8 +212,8 @@ top-led r bytes b st n (leads to us) e f h =
     either level (is-element us told)
   where
     either : is_between_tops (placed r to (nest_all r n us)) ≡ true → (us ≡ token.CloseEnds ∷ []) ⊎ (us ≡ token.TagEnds true ∷ []) → EndsTop r (bytes ++ b ∷ [])
-    either level (inl g) = close-come r (bytes ++ b ∷ []) (told-come r bytes b st to n us token.CloseEnds e f g (close-words st to b) level)
-    either level (inr g) = hollow-come r (bytes ++ b ∷ []) (told-come r bytes b st to n us (token.TagEnds true) e f g (tag-words st to b true) level)
+    either level (inl g) = close-come r bytes b (told-come r bytes b st to n us token.CloseEnds e f g (close-words st to b) level)
+    either level (inr g) = hollow-come r bytes b (told-come r bytes b st to n us (token.TagEnds true) e f g (tag-words st to b true) level)
 top-led r bytes b st n (fails x) e f h = false-true h
 
 no-start : (t : Bool) → (t && false) ≡ true → ⊥

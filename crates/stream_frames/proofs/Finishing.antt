@@ -87,7 +87,7 @@ carry-step st s to b bs us ws live e c text vs some l t =
       subst (Tight st (b ∷ (bs ++ text))) same (tight-from st s b us (bs ++ text) (ws ++ vs) live e (λ z. some (back-nil ws vs (back-nil us (ws ++ vs) z))) u),
     )
 
-carried : (bs : List ℕ) (st to : State) (us : List Token) → is_live st ≡ true → run st bs ≡ leads to us → Carried st to bs us
+pub carried : (bs : List ℕ) (st to : State) (us : List Token) → is_live st ≡ true → run st bs ≡ leads to us → Carried st to bs us
 carried [] st to us live e =
     λ text vs some l t.
     let n : us ≡ [] = sym (same-told st to [] us e) in

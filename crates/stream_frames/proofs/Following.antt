@@ -61,7 +61,7 @@ fails-left : (st : State) (b : ℕ) (f : LexFault) (more : List ℕ) (ts : List 
 fails-left st b f more ts (refusing r) l = not-refused f ts (r.refused more (all_said ts) l)
 fails-left st b f more ts (undecodable e never) (cs, sc, enc, m) = never more (cs, (sc, enc))
 
-left-fails : (st : State) (b : ℕ) (f : LexFault) (more : List ℕ) (ts : List Token) → is_live st ≡ true → turn st b ≡ fails f → Left st (b ∷ more) (all_said ts) → ⊥
+pub left-fails : (st : State) (b : ℕ) (f : LexFault) (more : List ℕ) (ts : List Token) → is_live st ≡ true → turn st b ≡ fails f → Left st (b ∷ more) (all_said ts) → ⊥
 left-fails st b f more ts live e l = fails-left st b f more ts (subst (Does st b) e (does st b live)) l
 
 -- No byte passes 255.

@@ -6,7 +6,7 @@ use Rattle.stream_frames.specs.declared.namespaces.Written.{Written}
 use Rattle.stream_frames.specs.Trees.{RawAttribute, RawTag, attribute_tokens, attributes_tokens, tag_tokens}
 use Rattle.stream_frames.specs.Gathering.{Gathered, gather, gather_all, written, whole_tag}
 
-more-gathered : (g : Gathered) (ts us : List Token) → gather_all g (ts ++ us) ≡ gather_all (gather_all g ts) us
+pub more-gathered : (g : Gathered) (ts us : List Token) → gather_all g (ts ++ us) ≡ gather_all (gather_all g ts) us
 more-gathered g [] us = refl
 more-gathered g (t ∷ ts) us = more-gathered (gather g t) ts us
 

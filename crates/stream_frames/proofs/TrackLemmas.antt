@@ -133,6 +133,13 @@ turned-told s to b l t = by (turn s b) t
     by (leads u us) (same, told, ok) = told
     by (fails g) (same, told, bad) = told
 
+pub turned_few : (s to : State) (b : ℕ) (l : Lexed) → IsTurned s (turn s b) to l → is_few (tokens_of l) ≡ true
+turned_few s to b l t = by (turn s b) refl t
+  where
+    by : (o : Outcome) → turn s b ≡ o → IsTurned s o to l → is_few (tokens_of l) ≡ true
+    by (leads u us) e (same, told, ok) = ap is_few told ∙ turn-few s u b us e
+    by (fails g) e (same, told, bad) = ap is_few told
+
 -- Over an answer.
 
 pub if-open : (x : Result Move FrameFault) (P : Type 0) (m0 : Move) (Q : Move → Type 0) → IfOk x (λ m. m ≡ m0) → OnOk x P → (P → Q m0) → IfOk x Q

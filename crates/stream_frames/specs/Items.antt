@@ -7,7 +7,7 @@ use Rattle.stream_lex.specs.Reading.{Reads}
 use Rattle.stream_frames.specs.declared.rules.Rules.{Rules}
 use Rattle.stream_frames.specs.Trees.{RawTag, Content, nothing, word, element, hollow, tag_tokens, content_tokens, declaration_tokens, KeepsRoot}
 use Rattle.stream_frames.specs.Streams.{IsShortest}
-use Rattle.stream_frames.specs.Nesting.{inside}
+use Rattle.stream_frames.specs.Nesting.{Nest, inside, naming, in_tag, naming_attribute, in_value, closing}
 use Rattle.stream_frames.specs.Framing.{Frame, open_at, frame_next}
 
 -- a declaration or none, the start tag of a stream, and what is in it so far
@@ -63,3 +63,17 @@ is_header_end r f b = is_between_tops (frame_next r f b) && is_start_end (told_a
 
 abbrev pub is_top_end : Rules → Frame → ℕ → Bool
 is_top_end r f b = is_between_tops (frame_next r f b) && is_element_end (told_at f b)
+
+-- whether a header or a top element is open, as far as its start tag has come beyond its `<`
+abbrev pub in_item_nest : Nest → Bool
+in_item_nest (inside (m ∷ x ∷ st)) = true
+in_item_nest (naming st n) = true
+in_item_nest (in_tag st n k) = true
+in_item_nest (naming_attribute st n k) = true
+in_item_nest (in_value st n k) = true
+in_item_nest (closing (x ∷ st) m) = true
+in_item_nest n = false
+
+abbrev pub in_item : Frame → Bool
+in_item (open_at st n) = in_item_nest n
+in_item f = false

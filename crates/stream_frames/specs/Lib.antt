@@ -10,3 +10,13 @@ pub mod Namespaces
 pub mod Items
 pub mod Resolving
 pub mod Gathering
+pub mod Elements
+pub mod Building
+pub mod Builds
+pub mod Turned
+pub mod Reading
+pub mod Fed
+pub mod Parts
+pub mod Proper
+pub mod RoundTrips
+pub mod Widths

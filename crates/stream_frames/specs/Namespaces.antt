@@ -56,9 +56,13 @@ abbrev pub last_layer : Option (List ℕ) → List (List Binding) → List ℕ �
 last_layer given [] prefix = given
 last_layer given (l ∷ ls) prefix = last_layer (last_space given l prefix) ls prefix
 
+-- what is bound before any tag: the default namespace to nothing, and xml
+abbrev pub space_before : List ℕ → Option (List ℕ)
+space_before prefix = if bytes_eq prefix [] then Some [] else if bytes_eq prefix (codes "xml") then Some xml_space else None
+
 -- The prefix xmlns is never declared, so no element may have it.
 abbrev pub space_of : List (List Binding) → List ℕ → Option (List ℕ)
-space_of bindings prefix = if bytes_eq prefix (codes "xmlns") then None else last_layer None bindings prefix
+space_of bindings prefix = if bytes_eq prefix (codes "xmlns") then None else last_layer (space_before prefix) bindings prefix
 
 -- an attribute without a prefix is in no namespace; a declaration is in that of xmlns
 abbrev pub attribute_space : List (List Binding) → List ℕ → Option (List ℕ)
@@ -113,7 +117,3 @@ tag_fault bindings name attributes =
 abbrev pub own : List Written → List Binding
 own [] = []
 own (a ∷ more) = if is_declaration a.name then record { prefix = declared_prefix a.name; space = a.value } ∷ own more else own more
-
--- what is bound before any tag: the default namespace to nothing, and xml
-abbrev pub first_layer : List Binding
-first_layer = record { prefix = []; space = [] } ∷ record { prefix = codes "xml"; space = xml_space } ∷ []

@@ -1,5 +1,6 @@
 -- A tag with its names in their namespaces (Namespaces in XML 1.0).
-use Rattle.std.specs.Prelude.{◌≡◌, ℕ, List, [], ◌∷◌, if◌then◌else◌, Option, Some, None, IsUtf8}
+use Rattle.std.specs.Prelude.{◌≡◌, ℕ, List, [], ◌∷◌, Bool, true, false, ◌&&◌, if◌then◌else◌, Option, Some, None}
+use Rattle.std.specs.Str.{is_utf8}
 use Rattle.stanza_tree.specs.declared.node.Name.{Name}
 use Rattle.stanza_tree.specs.declared.node.Attr.{Attr}
 use Rattle.stream_frames.specs.declared.namespaces.Binding.{Binding}
@@ -24,21 +25,28 @@ abbrev pub attrs_on : List (List Binding) → List Written → List Attr
 attrs_on layers [] = []
 attrs_on layers (a ∷ more) = if is_declaration a.name then attrs_on layers more else attr_on layers a ∷ attrs_on layers more
 
-abbrev pub IsUtf8Name : Name → Type 0
-IsUtf8Name n = IsUtf8 n.space × IsUtf8 n.local
+-- names and values are texts
+abbrev pub is_text_name : Name → Bool
+is_text_name n = is_utf8 n.space && is_utf8 n.local
 
-abbrev pub AreUtf8 : List Attr → Type 0
-AreUtf8 [] = Unit {0}
-AreUtf8 (a ∷ more) = (IsUtf8Name a.name × IsUtf8 a.value) × AreUtf8 more
+abbrev pub is_text_attr : Attr → Bool
+is_text_attr a = is_text_name a.name && is_utf8 a.value
 
--- bytes that are no text, where they should satisfy P; want of memory has no cause here
-abbrev pub IsRefused : Type 0 → TagFault → Type 0
-IsRefused P fault.NoMemory = Unit {0}
-IsRefused P (fault.Names f) = ⊥
-IsRefused P fault.NotUtf8 = P → ⊥
+abbrev pub are_text_attrs : List Attr → Bool
+are_text_attrs [] = true
+are_text_attrs (a ∷ more) = is_text_attr a && are_text_attrs more
+
+abbrev pub is_text_tag : List (List Binding) → List ℕ → List Written → Bool
+is_text_tag layers name attributes = is_text_name (name_on layers name) && are_text_attrs (attrs_on layers attributes)
+
+-- bytes that are no text, by a test; want of memory has no cause here
+abbrev pub IsRefused : Bool → TagFault → Type 0
+IsRefused b fault.NoMemory = Unit {0}
+IsRefused b (fault.Names f) = ⊥
+IsRefused b fault.NotUtf8 = b ≡ false
 
 -- the names are refused, or something is no text
 abbrev pub IsTagFault : List (List Binding) → List ℕ → List Written → TagFault → Type 0
 IsTagFault layers name attributes fault.NoMemory = Unit {0}
 IsTagFault layers name attributes (fault.Names f) = tag_fault layers name attributes ≡ Some f
-IsTagFault layers name attributes fault.NotUtf8 = (tag_fault layers name attributes ≡ None) × ((IsUtf8Name (name_on layers name) × AreUtf8 (attrs_on layers attributes)) → ⊥)
+IsTagFault layers name attributes fault.NotUtf8 = (tag_fault layers name attributes ≡ None) × (is_text_tag layers name attributes ≡ false)

@@ -7,6 +7,11 @@ ghost use Rattle.stream_frames.specs.Trees.{RawTag, Stream, tag_tokens};
 ghost use Rattle.stream_frames.specs.Gathering.{Gathered, gather_all, whole_tag};
 ghost use Rattle.stream_frames.specs.Faults.{IsSyntaxKind};
 ghost use Rattle.stream_frames.specs.Items.{EndsHeader, EndsTop, is_header_end, is_top_end};
+ghost use Rattle.std.specs.Prelude.{Some};
+ghost use Rattle.stream_frames.specs.declared.item.Item.{Item};
+ghost use Rattle.stream_frames.specs.declared.item.Limits.{Limits};
+ghost use Rattle.stream_frames.specs.Reading.{first_reading, went, waiting, is_stopped, rules_of};
+ghost use Rattle.stream_frames.specs.Parts.{IsItem};
 ghost use Rattle.stream_frames.specs.Framing.{frame_next, frame_after, first_frame, is_broken, has_ended, fault_at};
 
 /// Bytes begin a stream exactly where the frame that they lead to is not broken, so the first byte that breaks
@@ -48,4 +53,12 @@ pub fn items_end()
 pub fn tags_are_gathered()
     ensures { (g : Gathered) (t : RawTag) (empty : Bool)
         → gather_all g (tag_tokens t empty) ≡ whole_tag t }
+{}
+
+/// What a framer hands out after a byte, where each item was handed out before the next byte, is the item of the grammar that ends
+/// with that byte: the header; a top element, with its names in their namespaces and its words joined; or the close tag.
+pub fn items_are_those_of_the_grammar()
+    ensures { (l : Limits) (bytes : List ℕ) (b : ℕ) (i : Item)
+        → is_stopped (went l first_reading (bytes ++ b ∷ [])) ≡ false
+        → waiting (went l first_reading (bytes ++ b ∷ [])) ≡ Some i → IsItem (rules_of l) (bytes ++ b ∷ []) i }
 {}

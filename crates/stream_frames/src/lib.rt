@@ -1,13 +1,19 @@
 //! XMPP streams (RFC 6120): the bytes of a client become a header, top elements and a close tag.
 #![tactic(auto)]
 
+mod builder;
+mod built;
+mod framer;
+#[cfg(test)]
+mod framer_tests;
+mod item;
 mod laws;
 #[cfg(test)]
 mod name_tests;
 mod names;
 mod namespaces;
-mod parts;
 mod places;
+pub mod round_trip;
 mod rules;
 mod scan;
 mod tags;
@@ -15,12 +21,13 @@ mod tags;
 mod tests;
 mod tracker;
 
-pub use namespaces::{Binding, NameFault, Written, first_bindings, name_fault, own_bindings};
-pub use parts::TagParts;
+pub use framer::{Framer, Short};
+pub use item::{Item, Limits};
+pub use namespaces::{Binding, NameFault, Written, name_fault, own_bindings};
 pub use rules::Rules;
 pub use scan::syntax_fault;
 pub use tags::{TagFault, resolve};
-pub use tracker::{Heard, Tracker};
+pub use tracker::Tracker;
 
 /// Why no stream goes on with a byte, or why a stream is not read further.
 #[derive(Clone, Copy, Debug, PartialEq, Eq)]

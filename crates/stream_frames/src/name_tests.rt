@@ -1,9 +1,7 @@
 //! Names of tags with the namespaces that are declared, from Namespaces in XML 1.0.
 
 use crate::NameFault::{BadPrefix, NotWellFormed};
-use crate::{
-    Binding, NameFault, TagFault, Written, first_bindings, name_fault, own_bindings, resolve,
-};
+use crate::{Binding, NameFault, TagFault, Written, name_fault, own_bindings, resolve};
 use stanza_tree::Several;
 use std::alloc::Global;
 use std::process::Abort;
@@ -38,11 +36,10 @@ fn written(alloc: Global, attributes: &[(&[u8], &[u8])]) -> Result<Vec<Written>,
     Ok(all)
 }
 
-/// The bindings around a tag: those before any tag, those of a stream, and those of a tag with these attributes.
+/// The bindings around a tag: those of a stream and those of a tag with these attributes.
 fn bindings(alloc: Global, attributes: &[Written]) -> Result<Vec<Several<Binding>>, Fail> {
     let outer: [(&[u8], &[u8]); 3] = [(b"", b"jabber:client"), (b"p", b"urn:p"), (b"q", b"urn:p")];
     let mut all = Vec::new(alloc);
-    all.push(first_bindings(alloc)?)?;
     all.push(layer(alloc, outer.as_slice())?)?;
     all.push(own_bindings(alloc, attributes)?)?;
     Ok(all)

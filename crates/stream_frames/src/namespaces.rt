@@ -2,7 +2,7 @@
 
 ghost use Rattle.std.specs.Prelude.{◌≡◌, None, IfOk};
 ghost use Rattle.std.specs.Option.{option_copied};
-ghost use Rattle.stream_frames.specs.Namespaces.{colon_at, has_prefix, prefix_of, local_of, is_declaration, declared_prefix, may_undo, may_declare, last_space, last_layer, space_of, attribute_space, has_unbound, is_forbidden, has_forbidden, is_twin, has_twin, has_twins, tag_fault, own, first_layer};
+ghost use Rattle.stream_frames.specs.Namespaces.{colon_at, has_prefix, prefix_of, local_of, is_declaration, declared_prefix, may_undo, may_declare, last_space, last_layer, space_of, attribute_space, has_unbound, is_forbidden, has_forbidden, is_twin, has_twin, has_twins, tag_fault, own, space_before};
 
 use stanza_tree::{NoMemory, Several};
 use std::alloc::Global;
@@ -104,7 +104,7 @@ fn may_be_declared(prefix: &[u8], space: &[u8]) -> bool
 }
 
 /// What the last binding of the prefix binds it to, or else what was given.
-fn last_bound<'a>(
+pub(crate) fn last_bound<'a>(
     given: Option<&'a [u8]>,
     bindings: &'a [Binding],
     prefix: &[u8],
@@ -121,7 +121,7 @@ fn last_bound<'a>(
 }
 
 /// The same through the bindings of each element, outermost first.
-fn last_in_layers<'a>(
+pub(crate) fn last_in_layers<'a>(
     given: Option<&'a [u8]>,
     layers: &'a [Several<Binding>],
     prefix: &[u8],
@@ -135,6 +135,19 @@ fn last_in_layers<'a>(
     found
 }
 
+/// What the prefix is bound to before any tag: the default namespace to nothing, and `xml`.
+pub(crate) fn bound_before(prefix: &[u8]) -> Option<&'static [u8]>
+    ensures { option_copied result ≡ space_before prefix.now }
+{
+    if prefix == b"".as_slice() {
+        Some(&[])
+    } else if prefix == b"xml".as_slice() {
+        Some(XML_SPACE)
+    } else {
+        None
+    }
+}
+
 /// What the prefix stands for.
 pub(crate) fn bound<'a>(bindings: &'a [Several<Binding>], prefix: &[u8]) -> Option<&'a [u8]>
     ensures { option_copied result ≡ space_of bindings.now prefix.now }
@@ -142,7 +155,7 @@ pub(crate) fn bound<'a>(bindings: &'a [Several<Binding>], prefix: &[u8]) -> Opti
     if prefix == b"xmlns".as_slice() {
         None
     } else {
-        last_in_layers(None, bindings, prefix)
+        last_in_layers(bound_before(prefix), bindings, prefix)
     }
 }
 
@@ -222,8 +235,8 @@ fn any_twins(bindings: &[Several<Binding>], attributes: &[Written]) -> bool
     false
 }
 
-/// The fault of a tag by its names. The bindings are the `first_bindings`, those of each element round it, outermost first, and
-/// then its own. The time grows with the square of the attributes.
+/// The fault of a tag by its names. The bindings are those of each element round it, outermost first, and then
+/// its own. The time grows with the square of the attributes.
 pub fn name_fault(
     bindings: &[Several<Binding>],
     name: &[u8],
@@ -259,16 +272,6 @@ fn bind(alloc: Global, prefix: &[u8], space: &[u8]) -> Result<Binding, NoMemory>
     let prefix = copied(alloc, prefix)?;
     let space = copied(alloc, space)?;
     Ok(Binding { prefix, space })
-}
-
-/// What is bound before any tag: the default namespace to nothing, and `xml`.
-pub fn first_bindings(alloc: Global) -> Result<Several<Binding>, NoMemory>
-    ensures { IfOk result (λ s. s ≡ first_layer) }
-{
-    let mut first = Vec::new(alloc);
-    first.push(bind(alloc, b"", b"")?)?;
-    first.push(bind(alloc, b"xml", XML_SPACE)?)?;
-    Ok(Several::of(first))
 }
 
 /// The prefix that a declaration of that name declares; empty for the default namespace.

@@ -24,7 +24,7 @@ pub fn syntax_fault(
 {
     let mut tracker = Tracker::new(alloc, rules);
     for (at, byte) in bytes.iter().enumerate() {
-        if let Some(fault) = tracker.step(*byte)?.fault {
+        if let Some(fault) = tracker.step(*byte)? {
             return Ok(Some((at + 1, fault)));
         }
     }

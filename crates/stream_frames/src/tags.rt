@@ -1,9 +1,10 @@
 //! A tag becomes an element without children: its names get their namespaces (Namespaces in XML 1.0).
 
-ghost use Rattle.std.specs.Prelude.{◌≡◌, [], ◌∷◌, ◌++◌, None, IsUtf8, IfOk, IfErr, OnOk};
+ghost use Rattle.std.specs.Prelude.{◌≡◌, [], ◌∷◌, ◌++◌, true, ◌&&◌, None, IfOk, IfErr, OnOk};
 ghost use Rattle.std.specs.Option.{option_copied};
+ghost use Rattle.std.specs.Str.{is_utf8};
 ghost use Rattle.stream_frames.specs.Namespaces.{space_of, attribute_space, tag_fault};
-ghost use Rattle.stream_frames.specs.Resolving.{or_none, name_on, attr_on, attrs_on, IsUtf8Name, AreUtf8, IsRefused, IsTagFault};
+ghost use Rattle.stream_frames.specs.Resolving.{or_none, name_on, attr_on, attrs_on, is_text_attr, are_text_attrs, is_text_tag, IsRefused, IsTagFault};
 
 use crate::namespaces::{
     Binding, NameFault, Written, attribute_bound, bound, declares, local, name_fault, prefix,
@@ -32,10 +33,10 @@ impl From<AllocError> for TagFault {
     }
 }
 
-fn text(alloc: Global, bytes: &[u8]) -> Result<Text, TagFault>
+pub(crate) fn text(alloc: Global, bytes: &[u8]) -> Result<Text, TagFault>
     ensures ok { IfOk result (λ t. t ≡ bytes.now) }
-    ensures utf8 { OnOk result (IsUtf8 bytes.now) }
-    ensures err { IfErr result (IsRefused (IsUtf8 bytes.now)) }
+    ensures utf8 { OnOk result (is_utf8 bytes.now ≡ true) }
+    ensures err { IfErr result (IsRefused (is_utf8 bytes.now)) }
 {
     match Text::of(alloc, bytes) {
         Ok(text) => Ok(text),
@@ -46,7 +47,8 @@ fn text(alloc: Global, bytes: &[u8]) -> Result<Text, TagFault>
 
 fn full_name(alloc: Global, space: &[u8], local: &[u8]) -> Result<Name, TagFault>
     ensures ok { IfOk result (λ n. n ≡ record { space = space.now; local = local.now }) }
-    ensures err { IfErr result (IsRefused (IsUtf8 space.now × IsUtf8 local.now)) }
+    ensures utf8 { OnOk result ((is_utf8 space.now && is_utf8 local.now) ≡ true) }
+    ensures err { IfErr result (IsRefused (is_utf8 space.now && is_utf8 local.now)) }
 {
     let space = text(alloc, space)?;
     let local = text(alloc, local)?;
@@ -54,7 +56,7 @@ fn full_name(alloc: Global, space: &[u8], local: &[u8]) -> Result<Name, TagFault
 }
 
 /// A namespace, or none.
-fn space_or_none(space: Option<&[u8]>) -> &[u8]
+pub(crate) fn space_or_none(space: Option<&[u8]>) -> &[u8]
     ensures { result.now ≡ or_none (option_copied space.entry) }
 {
     match space {
@@ -69,7 +71,8 @@ fn full_attr(
     attribute: &Written,
 ) -> Result<Attr, TagFault>
     ensures ok { IfOk result (λ a. a ≡ attr_on layers.now attribute.now) }
-    ensures err { IfErr result (IsRefused (IsUtf8Name (attr_on layers.now attribute.now).name × IsUtf8 attribute.now.value)) }
+    ensures utf8 { OnOk result (is_text_attr (attr_on layers.now attribute.now) ≡ true) }
+    ensures err { IfErr result (IsRefused (is_text_attr (attr_on layers.now attribute.now))) }
 {
     let written = attribute.name.slice();
     let space = space_or_none(attribute_bound(layers, written));
@@ -91,7 +94,8 @@ fn full_attrs(
     attributes: &[Written],
 ) -> Result<Several<Attr>, TagFault>
     ensures ok { IfOk result (λ s. s ≡ attrs_on layers.now attributes.now) }
-    ensures err { IfErr result (IsRefused (AreUtf8 (attrs_on layers.now attributes.now))) }
+    ensures utf8 { OnOk result (are_text_attrs (attrs_on layers.now attributes.now) ≡ true) }
+    ensures err { IfErr result (IsRefused (are_text_attrs (attrs_on layers.now attributes.now))) }
 {
     let mut attrs = Vec::new(alloc);
     for attribute in attributes {
@@ -105,8 +109,8 @@ fn full_attrs(
     Ok(Several::of(attrs))
 }
 
-/// The element that a tag begins, without children. The bindings are the `first_bindings`, those of each element round it,
-/// outermost first, and then its own.
+/// The element that a tag begins, without children. The bindings are those of each element round it, outermost first,
+/// and then its own.
 pub fn resolve(
     alloc: Global,
     layers: &[Several<Binding>],
@@ -117,6 +121,7 @@ pub fn resolve(
     ensures attrs { IfOk result (λ e. e.attrs ≡ attrs_on layers.now attributes.now) }
     ensures bare { IfOk result (λ e. e.children ≡ []) }
     ensures ok { OnOk result (tag_fault layers.now name.now attributes.now ≡ None) }
+    ensures utf8 { OnOk result (is_text_tag layers.now name.now attributes.now ≡ true) }
     ensures fault { IfErr result (IsTagFault layers.now name.now attributes.now) }
 {
     if let Some(fault) = name_fault(layers, name, attributes) {

@@ -1,17 +1,19 @@
 //! Where the bytes of a stream stand: its syntax alone, without namespaces and without limits on bytes.
 
-ghost use Rattle.std.specs.Prelude.{◌≡◌, ◌<◌, ◌^◌, [], true, false, None, Some, IfOk, IfErr, OnOk, OnErr};
+ghost use Rattle.std.specs.Prelude.{◌≡◌, ℕ, ◌<◌, ◌^◌, [], true, false, None, Some, IfOk, IfErr, OnOk, OnErr};
 ghost use Rattle.stream_lex.specs.declared.stages.State.{State};
-ghost use Rattle.stream_lex.specs.Leading.{tokens_of};
+ghost use Rattle.stream_lex.specs.Leading.{tokens_of, IsTurned};
 ghost use Rattle.stream_frames.specs.Framing.{open_at, ended, first_frame, frame_next, is_broken, has_ended, lexical_fault, fault_at};
 ghost use Rattle.stream_lex.specs.Live.{is_live};
 ghost use Rattle.stream_lex.specs.Turns.{turn};
-ghost use Rattle.stream_frames.specs.Items.{is_between_tops, tokens_told, told_at};
+ghost use Rattle.stream_frames.specs.Items.{is_between_tops, told_at};
 ghost use Rattle.stream_frames.specs.Stacks.{raw};
 ghost use Rattle.stream_frames.specs.Moves.{tokens_move, breaks};
 ghost use Rattle.stream_frames.specs.Trees.{RawName, is_space};
 ghost use Rattle.stream_frames.specs.declared.rules.Rules.{Rules};
-ghost use Rattle.stream_frames.specs.Tracking.{nest_at, moved, framed, frame_of, tried, judged, fault_told};
+ghost use Rattle.stream_frames.specs.Turned.{Lexes};
+ghost use Rattle.stream_frames.specs.Items.{in_item, in_item_nest};
+ghost use Rattle.stream_frames.specs.Tracking.{is_few, nest_at, moved, framed, frame_of, tried, judged, fault_told};
 
 use crate::FrameFault;
 use crate::names::{Names, OpenName};
@@ -178,50 +180,48 @@ fn fault_after_end(byte: u8) -> FrameFault
     }
 }
 
-/// What one byte gave.
-#[derive(Clone, Copy)]
-pub struct Heard {
-    /// The tokens that it told, in a stream that is open.
-    pub lexed: Lexed,
-    /// Its fault, where it is the first with which no stream goes on.
-    pub fault: Option<FrameFault>,
-}
-
-/// A byte that tells nothing.
-fn untold(fault: Option<FrameFault>) -> Heard
-    ensures told { tokens_of result.lexed ≡ [] }
-    ensures fault { result.fault ≡ fault }
+/// What a byte tells that tells nothing.
+fn untold() -> Lexed
+    ensures { tokens_of result ≡ [] }
 {
-    let lexed = Lexed {
+    Lexed {
         tokens: [Token::CloseEnds; 4],
         count: 0,
         fault: None,
-    };
-    Heard { lexed, fault }
+    }
 }
 
-/// What a byte does in an open stream, or its fault; where the lexical layer is then, and what the byte told.
-fn read(
-    rules: Rules,
-    state: State,
-    place: Place,
-    open: &Names,
-    byte: u8,
-) -> (Result<Move, FrameFault>, State, Lexed)
+/// Whether a place is in a header or in a top element.
+fn is_place_in_item(place: Place, open: &Names) -> bool
+    ensures { (n : RawName) → result ≡ in_item_nest (nest_at place open.now n) }
+{
+    match place {
+        Place::Start | Place::Declared => false,
+        Place::Inside => open.count() > 1,
+        Place::Naming | Place::InTag(_) | Place::NamingAttribute(_) | Place::InValue(_) => true,
+        Place::Closing(_) => open.count() > 1,
+    }
+}
+
+/// What the lexical layer makes of a byte, and where it is then.
+#[derive(Clone, Copy)]
+pub(crate) struct Turned {
+    pub(crate) lexed: Lexed,
+    pub(crate) state: State,
+}
+
+/// What a byte does in an open stream, or its fault.
+fn read(rules: Rules, place: Place, open: &Names, turned: &Turned) -> Result<Move, FrameFault>
     requires deep { rules.depth < 2 ^ 63 }
     requires wide { rules.attributes < 2 ^ 63 }
-    requires live { is_live state ≡ true }
-    ensures live { is_live result.1 ≡ true }
-    ensures told { tokens_of result.2 ≡ tokens_told (turn state byte) }
-    ensures ok { IfOk result.0 (λ m. (n : RawName) → (frame_next rules (open_at state (nest_at place open.now n)) byte ≡ frame_of result.1 (moved m open.now n))
-        × (is_broken (frame_next rules (open_at state (nest_at place open.now n)) byte) ≡ false)) }
-    ensures err { IfErr result.0 (λ f. (n : RawName) → (is_broken (frame_next rules (open_at state (nest_at place open.now n)) byte) ≡ true)
-        × (f ≡ fault_at rules (open_at state (nest_at place open.now n)) byte)) }
+    ensures ok { IfOk result (λ m. (s : State) (b : ℕ) (n : RawName) → IsTurned s (turn s b) turned.now.state turned.now.lexed
+        → (frame_next rules (open_at s (nest_at place open.now n)) b ≡ frame_of turned.now.state (moved m open.now n))
+        × (is_broken (frame_next rules (open_at s (nest_at place open.now n)) b) ≡ false)) }
+    ensures err { IfErr result (λ f. (s : State) (b : ℕ) (n : RawName) → IsTurned s (turn s b) turned.now.state turned.now.lexed
+        → (is_broken (frame_next rules (open_at s (nest_at place open.now n)) b) ≡ true)
+        × (f ≡ fault_at rules (open_at s (nest_at place open.now n)) b)) }
 {
-    let mut lex = Lex::at(state);
-    let lexed = lex.step(byte);
-    let judged = judge(rules, place, lex.state, open, &lexed);
-    (judged, lex.state, lexed)
+    judge(rules, place, turned.state, open, &turned.lexed)
 }
 
 /// A reader of the syntax of one stream, byte by byte: of its names, how its tags nest, and what stands between top elements.
@@ -237,7 +237,7 @@ pub struct Tracker {
 }
 
 impl Model for Tracker {
-    ghost use Rattle.std.specs.Prelude.{◌≡◌, ◌<◌, ◌^◌, true};
+    ghost use Rattle.std.specs.Prelude.{◌≡◌, ℕ, ◌<◌, ◌^◌, true};
     ghost use Rattle.stream_lex.specs.Live.{is_live};
     ghost use Rattle.stream_frames.specs.Stacks.{raw};
     ghost use Rattle.stream_frames.specs.Tracking.{Tracked, framed};
@@ -266,46 +266,87 @@ impl Tracker {
         }
     }
 
-    /// Reads a byte. Answers what it told, and its fault where it is the first with which no stream goes on. After a fault
-    /// every byte is taken and nothing answered. Where there was no memory the tracker is as before.
-    pub fn step(&mut self, byte: u8) -> Result<Heard, NoMemory>
+    /// What the lexical layer makes of a byte.
+    pub(crate) fn lex(&self, byte: u8) -> Turned
+        ensures turned { Lexes self.now.frame byte result }
+        ensures told { tokens_of result.lexed ≡ told_at self.now.frame byte }
+        ensures few { is_few (tokens_of result.lexed) ≡ true }
+    {
+        match self.standing {
+            Standing::Open(_) => {
+                let mut lex = Lex::at(self.state);
+                let lexed = lex.step(byte);
+                Turned {
+                    lexed,
+                    state: lex.state,
+                }
+            }
+            Standing::Ended | Standing::Broken => Turned {
+                lexed: untold(),
+                state: self.state,
+            },
+        }
+    }
+
+    /// Reads a byte of which the lexical layer makes this. Answers its fault where it is the first with which no stream goes
+    /// on. Where there was no memory the tracker is as before.
+    pub(crate) fn step_lexed(
+        &mut self,
+        byte: u8,
+        turned: &Turned,
+    ) -> Result<Option<FrameFault>, NoMemory>
+        requires { Lexes self.old.frame byte turned.now }
         ensures frame { OnOk result (self.new ≡ record self.old { frame = frame_next self.old.rules self.old.frame byte }) }
-        ensures fault { IfOk result (λ h. h.fault ≡ fault_told self.old.rules self.old.frame byte) }
-        ensures told { IfOk result (λ h. tokens_of h.lexed ≡ told_at self.old.frame byte) }
+        ensures fault { IfOk result (λ f. f ≡ fault_told self.old.rules self.old.frame byte) }
         ensures err { OnErr result (self.new ≡ self.old) }
     {
         match self.standing {
-            Standing::Open(place) => {
-                let (judged, state, lexed) = read(self.rules, self.state, place, &self.open, byte);
-                match judged {
-                    Ok(made) => {
-                        make(
-                            self.alloc,
-                            made,
-                            &mut self.standing,
-                            &mut self.open,
-                            &mut self.name,
-                        )?;
-                        self.state = state;
-                        Ok(Heard { lexed, fault: None })
-                    }
-                    Err(fault) => {
-                        self.standing = Standing::Broken;
-                        Ok(Heard {
-                            lexed,
-                            fault: Some(fault),
-                        })
-                    }
+            Standing::Open(place) => match read(self.rules, place, &self.open, turned) {
+                Ok(made) => {
+                    make(
+                        self.alloc,
+                        made,
+                        &mut self.standing,
+                        &mut self.open,
+                        &mut self.name,
+                    )?;
+                    self.state = turned.state;
+                    Ok(None)
                 }
-            }
+                Err(fault) => {
+                    self.standing = Standing::Broken;
+                    Ok(Some(fault))
+                }
+            },
             Standing::Ended => {
                 if is_white(byte as u32) {
-                    return Ok(untold(None));
+                    return Ok(None);
                 }
                 self.standing = Standing::Broken;
-                Ok(untold(Some(fault_after_end(byte))))
+                Ok(Some(fault_after_end(byte)))
             }
-            Standing::Broken => Ok(untold(None)),
+            Standing::Broken => Ok(None),
+        }
+    }
+
+    /// Reads a byte. Answers its fault where it is the first with which no stream goes on. After a fault every byte is taken and
+    /// nothing answered. Where there was no memory the tracker is as before.
+    pub fn step(&mut self, byte: u8) -> Result<Option<FrameFault>, NoMemory>
+        ensures frame { OnOk result (self.new ≡ record self.old { frame = frame_next self.old.rules self.old.frame byte }) }
+        ensures fault { IfOk result (λ f. f ≡ fault_told self.old.rules self.old.frame byte) }
+        ensures err { OnErr result (self.new ≡ self.old) }
+    {
+        let turned = self.lex(byte);
+        self.step_lexed(byte, &turned)
+    }
+
+    /// Whether a header or a top element is open, as far as its start tag has come beyond its `<`.
+    pub(crate) fn is_in_item(&self) -> bool
+        ensures { result ≡ in_item self.now.frame }
+    {
+        match self.standing {
+            Standing::Open(place) => is_place_in_item(place, &self.open),
+            Standing::Ended | Standing::Broken => false,
         }
     }
 

@@ -1,0 +1,63 @@
+-- What a builder stands for, and what it is ready for.
+use Rattle.std.specs.Prelude.{◌≡◌, ℕ, ◌+◌, ◌*◌, ◌<◌, ◌≤◌, List, [], ◌∷◌, ◌++◌, map, reverse, length, true, Option, Some, None, vec_len, vec_capacity, string_bytes, string_len, string_capacity}
+use Rattle.stream_lex.specs.declared.Token.{Token}
+use Rattle.stream_frames.specs.declared.built.Builder.{Builder}
+use Rattle.stream_frames.specs.declared.built.OpenElement.{OpenElement}
+use Rattle.stream_frames.specs.declared.built.Parent.{Parent}
+use Rattle.stream_frames.specs.declared.built.Ready.{Ready}
+use Rattle.stream_frames.specs.declared.built.Ready.TheVariants as ready
+use Rattle.stream_frames.specs.declared.item.Item.TheVariants as item
+use Rattle.stream_frames.specs.Gathering.{Gathered, gather}
+use Rattle.stream_frames.specs.Building.{Opened, Building, settled_words, ended_in, closed_in, build_all}
+use Rattle.stream_frames.specs.Tracking.{are_words}
+use Rattle.stream_lex.specs.declared.Token.TheVariants as token
+
+abbrev pub open_parent : Parent → Opened
+open_parent p = record { name = p.name; attrs = p.attrs; children = p.children.items }
+
+abbrev pub open_element : OpenElement → Opened
+open_element x = record { name = x.name; attrs = x.attrs; children = x.children.items }
+
+-- the open elements, the innermost first
+abbrev pub opened : Option OpenElement → List Parent → List Opened
+opened None ps = []
+opened (Some x) ps = open_element x ∷ reverse (map open_parent ps)
+
+abbrev pub tag_of : Builder → Gathered
+tag_of b = record { name = b.name.items; attributes = b.attributes.items; attribute = b.attribute.items; value = string_bytes b.value }
+
+abbrev pub building : Builder → Building
+building b = record { tag = tag_of b; layers = b.layers.items; opened = opened b.innermost b.others.items; words = string_bytes b.words; item = b.item }
+
+-- room for so many more children
+abbrev pub HasChildRoom : ℕ → Option OpenElement → Type 0
+HasChildRoom n None = Unit {0}
+HasChildRoom n (Some x) = vec_len x.children + n ≤ vec_capacity x.children
+
+-- there is the room that it takes
+abbrev pub IsReady : Builder → List Token → Ready → Type 0
+IsReady b ts (ready.NameByte x) = vec_len b.name < vec_capacity b.name
+IsReady b ts (ready.AttributeByte x) = vec_len b.attribute < vec_capacity b.attribute
+IsReady b ts (ready.ValueChar c) = string_len b.value + 4 ≤ string_capacity b.value
+IsReady b ts ready.ValueEnd = vec_len b.attributes < vec_capacity b.attributes
+IsReady b ts ready.Words = (string_len b.words + 4 * length ts ≤ string_capacity b.words) × (are_words ts ≡ true)
+IsReady b ts (ready.Header e t own) = vec_len b.layers < vec_capacity b.layers
+IsReady b ts (ready.Begins x own) = (vec_len b.layers < vec_capacity b.layers) × (vec_len b.others < vec_capacity b.others) × HasChildRoom 2 b.innermost
+IsReady b ts (ready.Hollow e) = HasChildRoom 2 b.innermost
+IsReady b ts ready.Closes = HasChildRoom 1 b.innermost
+IsReady b ts r = Unit {0}
+
+-- what it does
+abbrev pub applied : Ready → List Token → Building → Building
+applied ready.Nothing ts b = b
+applied (ready.Tag v) ts b = record b { tag = record { name = v.items; attributes = []; attribute = []; value = [] } }
+applied (ready.NameByte x) ts b = record b { tag = gather b.tag (token.NameByte x) }
+applied (ready.Attribute v) ts b = record b { tag = record { name = b.tag.name; attributes = b.tag.attributes; attribute = v.items; value = [] } }
+applied (ready.AttributeByte x) ts b = record b { tag = gather b.tag (token.AttrByte x) }
+applied (ready.ValueChar c) ts b = record b { tag = gather b.tag (token.Value c) }
+applied ready.ValueEnd ts b = record b { tag = gather b.tag token.ValueEnds }
+applied ready.Words ts b = build_all b ts
+applied (ready.Header e t own) ts b = record b { layers = b.layers ++ own ∷ []; item = Some (item.Header e t) }
+applied (ready.Begins x own) ts b = record b { layers = b.layers ++ own ∷ []; opened = open_element x ∷ settled_words b.words b.opened; words = [] }
+applied (ready.Hollow e) ts b = ended_in e b.words b.opened b
+applied ready.Closes ts b = closed_in b.opened b

@@ -1,0 +1,412 @@
+//! Elements, made while the tokens of a stream come.
+
+ghost use Rattle.std.specs.Prelude.{◌≡◌, ℕ, ◌<◌, ◌≤◌, ◌+◌, ◌*◌, List, [], ◌∷◌, ◌++◌, length, true, false, None, Some, IfOk, IfErr, OnOk, OnErr, vec_len, vec_capacity, string_bytes, string_len, string_capacity};
+ghost use Rattle.std.specs.Option.{option_copied, is_some};
+ghost use Rattle.std.specs.Str.{is_utf8};
+ghost use Rattle.stream_frames.specs.Namespaces.{own, space_of};
+ghost use Rattle.stream_frames.specs.Resolving.{or_none, is_text_tag, IsRefused, IsTagFault};
+ghost use Rattle.stream_frames.specs.Elements.{inside_of, element_with, with_words, fault_of_tag};
+ghost use Rattle.stream_lex.specs.declared.Token.TheVariants as token;
+ghost use Rattle.stream_frames.specs.Building.{Building, IsStartFault, IsFaultOf, AreFaultOf, is_all_text, tag_judged, told_judged, nothing_built, build, build_all, last_closed, settled_words, closed_in, ended_in, with_child};
+ghost use Rattle.stream_frames.specs.Gathering.{gather};
+ghost use Rattle.stream_frames.specs.Tracking.{is_few, are_words};
+ghost use Rattle.stream_frames.specs.declared.built.Ready.TheVariants as ready;
+ghost use Rattle.stream_frames.specs.Builds.{opened, tag_of, building, HasChildRoom, IsReady, applied, open_element, open_parent};
+
+use crate::built::{Builder, OpenElement, Parent, Ready};
+use crate::item::Item;
+use crate::namespaces::{Binding, Written, bound_before, last_bound, last_in_layers, own_bindings};
+use crate::tags::{TagFault, resolve, space_or_none, text};
+use stanza_tree::{Attr, Element, Name, NoMemory, Node, Several, Text};
+use std::alloc::Global;
+use std::mem;
+use stream_lex::Token;
+
+fn one_byte(alloc: Global, byte: u8) -> Result<Vec<u8>, NoMemory>
+    ensures { IfOk result (λ v. v.items ≡ byte ∷ []) }
+{
+    let mut bytes = Vec::new(alloc);
+    bytes.push(byte)?;
+    Ok(bytes)
+}
+
+/// The default namespace inside a tag that declares these bindings.
+#[tactic(auto, using(crate::proofs::TextLemmas::layer_more))]
+fn default_bound<'a>(layers: &'a [Several<Binding>], own: &'a [Binding]) -> Option<&'a [u8]>
+    ensures { option_copied result ≡ space_of (layers.now ++ own.now ∷ []) [] }
+{
+    last_bound(last_in_layers(bound_before(b""), layers, b""), own, b"")
+}
+
+/// The same as a text.
+fn default_space(
+    alloc: Global,
+    layers: &[Several<Binding>],
+    own: &[Binding],
+) -> Result<Text, TagFault>
+    ensures ok { IfOk result (λ t. t ≡ or_none (space_of (layers.now ++ own.now ∷ []) [])) }
+    ensures utf8 { OnOk result (is_utf8 (or_none (space_of (layers.now ++ own.now ∷ []) [])) ≡ true) }
+    ensures err { IfErr result (IsRefused (is_utf8 (or_none (space_of (layers.now ++ own.now ∷ []) [])))) }
+{
+    text(alloc, space_or_none(default_bound(layers, own)))
+}
+
+/// Words become a child, unless there are none.
+fn push_words(children: &mut Vec<Node>, words: String)
+    requires { vec_len children.old < vec_capacity children.old }
+    ensures items { children.new.items ≡ children.old.items ++ with_words (string_bytes words) [] }
+    ensures len { vec_len children.new ≤ vec_len children.old + 1 }
+    ensures capacity { vec_capacity children.new ≡ vec_capacity children.old }
+{
+    if !words.is_empty() {
+        children.push_reserved(Node::Words(Text::of_string(words)));
+    }
+}
+
+/// An element at its end, after its last words.
+fn closed_element(element: OpenElement, words: String) -> Element
+    requires { vec_len element.children < vec_capacity element.children }
+    ensures { result ≡ last_closed (string_bytes words) (open_element element) }
+{
+    let OpenElement {
+        name,
+        attrs,
+        mut children,
+    } = element;
+    push_words(&mut children, words);
+    let children = Several::of(children);
+    Element {
+        name,
+        attrs,
+        children,
+    }
+}
+
+/// An element with a child more.
+fn with_closed(parent: Parent, element: Element) -> OpenElement
+    ensures { open_element result ≡ with_child [] element (open_parent parent) }
+{
+    let Parent {
+        name,
+        attrs,
+        mut children,
+    } = parent;
+    children.push_reserved(Node::Child(element));
+    OpenElement {
+        name,
+        attrs,
+        children,
+    }
+}
+
+impl Builder {
+    /// The words, which are then none.
+    fn take_words(&mut self) -> String
+        ensures words { string_bytes result ≡ string_bytes self.old.words }
+        ensures kept { building self.new ≡ record (building self.old) { words = [] } }
+        ensures parts { (self.new.innermost ≡ self.old.innermost) × (self.new.others ≡ self.old.others) × (self.new.layers ≡ self.old.layers) }
+    {
+        mem::replace(&mut self.words, String::new(self.alloc))
+    }
+
+    /// Nothing of a stream yet. Takes no memory.
+    pub(crate) fn new(alloc: Global) -> Builder
+        ensures { building result ≡ nothing_built }
+    {
+        Builder {
+            alloc,
+            name: Vec::new(alloc),
+            attributes: Vec::new(alloc),
+            attribute: Vec::new(alloc),
+            value: String::new(alloc),
+            layers: Vec::new(alloc),
+            innermost: None,
+            others: Vec::new(alloc),
+            words: String::new(alloc),
+            item: None,
+        }
+    }
+
+    /// The element of the tag that was begun last, and the bindings that it declares. Leaves room for these.
+    fn tag_element(&mut self) -> Result<(Element, Several<Binding>), TagFault>
+        ensures kept { building self.new ≡ building self.old }
+        ensures parts { (self.new.innermost ≡ self.old.innermost) × (self.new.others ≡ self.old.others) }
+        ensures element { IfOk result (λ p. p.0 ≡ element_with (inside_of (building self.old).layers (tag_of self.old)) (tag_of self.old) []) }
+        ensures own { IfOk result (λ p. p.1 ≡ own self.old.attributes.items) }
+        ensures room { OnOk result (vec_len self.new.layers < vec_capacity self.new.layers) }
+        ensures ok { OnOk result (fault_of_tag (building self.old).layers (tag_of self.old) ≡ None) }
+        ensures utf8 { OnOk result (is_text_tag (inside_of (building self.old).layers (tag_of self.old)) self.old.name.items self.old.attributes.items ≡ true) }
+        ensures fault { IfErr result (IsTagFault (inside_of (building self.old).layers (tag_of self.old)) self.old.name.items self.old.attributes.items) }
+    {
+        let own = own_bindings(self.alloc, self.attributes.as_slice())?;
+        self.layers.reserve(1)?;
+        self.layers.push_reserved(own);
+        let made = resolve(
+            self.alloc,
+            self.layers.as_slice(),
+            self.name.as_slice(),
+            self.attributes.as_slice(),
+        );
+        match (made, self.layers.pop()) {
+            (Ok(element), Some(own)) => Ok((element, own)),
+            (Err(fault), _) => Err(fault),
+            (Ok(_), None) => unreachable!(),
+        }
+    }
+
+    /// What the start tag that was begun last will do.
+    fn ready_for_start(&mut self) -> Result<Ready, TagFault>
+        ensures kept { building self.new ≡ building self.old }
+        ensures applied { IfOk result (λ r. (b : Building) → b ≡ building self.old → applied r (token.TagEnds false ∷ []) b ≡ build b (token.TagEnds false)) }
+        ensures ready { IfOk result (IsReady self.new (token.TagEnds false ∷ [])) }
+        ensures ok { OnOk result (fault_of_tag (building self.old).layers (tag_of self.old) ≡ None) }
+        ensures utf8 { OnOk result (is_all_text (building self.old) false ≡ true) }
+        ensures fault { IfErr result (IsStartFault (building self.old) false) }
+    {
+        let (element, own) = self.tag_element()?;
+        if self.layers.is_empty() {
+            let space = default_space(self.alloc, self.layers.as_slice(), own.slice())?;
+            return Ok(Ready::Header(element, space, own));
+        }
+        if let Some(innermost) = &mut self.innermost {
+            innermost.children.reserve(2)?;
+        }
+        self.others.reserve(1)?;
+        let Element {
+            name,
+            attrs,
+            children,
+        } = element;
+        let children = children.into_vec();
+        Ok(Ready::Begins(
+            OpenElement {
+                name,
+                attrs,
+                children,
+            },
+            own,
+        ))
+    }
+
+    /// What the empty-element tag that was begun last will do.
+    fn ready_for_hollow(&mut self) -> Result<Ready, TagFault>
+        ensures kept { building self.new ≡ building self.old }
+        ensures applied { IfOk result (λ r. (b : Building) → b ≡ building self.old → applied r (token.TagEnds true ∷ []) b ≡ build b (token.TagEnds true)) }
+        ensures ready { IfOk result (IsReady self.new (token.TagEnds true ∷ [])) }
+        ensures ok { OnOk result (fault_of_tag (building self.old).layers (tag_of self.old) ≡ None) }
+        ensures utf8 { OnOk result (is_all_text (building self.old) true ≡ true) }
+        ensures fault { IfErr result (IsStartFault (building self.old) true) }
+    {
+        let (element, _) = self.tag_element()?;
+        if let Some(innermost) = &mut self.innermost {
+            innermost.children.reserve(2)?;
+        }
+        Ok(Ready::Hollow(element))
+    }
+
+    /// What a token will do.
+    fn ready_for(&mut self, token: Token) -> Result<Ready, TagFault>
+        ensures kept { building self.new ≡ building self.old }
+        ensures applied { IfOk result (λ r. applied r (token ∷ []) (building self.old) ≡ build_all (building self.old) (token ∷ [])) }
+        ensures ready { IfOk result (IsReady self.new (token ∷ [])) }
+        ensures ok { OnOk result (tag_judged (building self.old) token ≡ None) }
+        ensures fault { IfErr result (IsFaultOf (building self.old) token) }
+    {
+        match token {
+            Token::TagOpens(byte) => Ok(Ready::Tag(one_byte(self.alloc, byte)?)),
+            Token::NameByte(byte) => {
+                self.name.reserve(1)?;
+                Ok(Ready::NameByte(byte))
+            }
+            Token::AttrOpens(byte) => Ok(Ready::Attribute(one_byte(self.alloc, byte)?)),
+            Token::AttrByte(byte) => {
+                self.attribute.reserve(1)?;
+                Ok(Ready::AttributeByte(byte))
+            }
+            Token::Value(c) => {
+                self.value.reserve(4)?;
+                Ok(Ready::ValueChar(c))
+            }
+            Token::ValueEnds => {
+                self.attributes.reserve(1)?;
+                Ok(Ready::ValueEnd)
+            }
+            Token::Word(_) => {
+                self.words.reserve(4)?;
+                Ok(Ready::Words)
+            }
+            Token::TagEnds { empty: false } => self.ready_for_start(),
+            Token::TagEnds { empty: true } => self.ready_for_hollow(),
+            Token::CloseEnds => {
+                if let Some(innermost) = &mut self.innermost {
+                    innermost.children.reserve(1)?;
+                }
+                Ok(Ready::Closes)
+            }
+            Token::CloseOpens(_) | Token::ValueOpens | Token::Declaration => Ok(Ready::Nothing),
+        }
+    }
+
+    /// What the tokens of a byte will do. Takes the memory for it, and changes nothing else.
+    pub(crate) fn prepare(&mut self, told: &[Token]) -> Result<Ready, TagFault>
+        requires few { is_few told.now ≡ true }
+        requires short { length told.now ≤ 4 }
+        ensures kept { building self.new ≡ building self.old }
+        ensures applied { IfOk result (λ r. applied r told.now (building self.old) ≡ build_all (building self.old) told.now) }
+        ensures ready { IfOk result (IsReady self.new told.now) }
+        ensures ok { OnOk result (told_judged (building self.old) told.now ≡ None) }
+        ensures fault { IfErr result (AreFaultOf (building self.old) told.now) }
+    {
+        match told {
+            [] => Ok(Ready::Nothing),
+            [token] => self.ready_for(*token),
+            _ => {
+                self.words.reserve(16)?;
+                Ok(Ready::Words)
+            }
+        }
+    }
+
+    /// Adds a character of words, in an open element.
+    fn add_word(&mut self, token: Token)
+        requires room { string_len self.old.words + 4 ≤ string_capacity self.old.words }
+        requires word { are_words (token ∷ []) ≡ true }
+        requires inside { is_some self.old.innermost ≡ true }
+        ensures built { building self.new ≡ build (building self.old) token }
+        ensures parts { self.new.innermost ≡ self.old.innermost }
+        ensures len { string_len self.new.words ≤ string_len self.old.words + 4 }
+        ensures capacity { string_capacity self.old.words ≤ string_capacity self.new.words }
+    {
+        if let Token::Word(c) = token {
+            match self.words.push(c) {
+                Ok(()) => {}
+                Err(_) => unreachable!(),
+            }
+        }
+    }
+
+    /// Adds the characters of words; between top elements they are passed over.
+    fn add_words(&mut self, told: &[Token])
+        requires room { string_len self.old.words + 4 * length told.now ≤ string_capacity self.old.words }
+        requires words { are_words told.now ≡ true }
+        ensures { building self.new ≡ build_all (building self.old) told.now }
+    {
+        if self.innermost.is_none() {
+            return;
+        }
+        for token in told {
+            self.add_word(*token);
+        }
+    }
+
+    /// Closes the innermost element, which then is a child of the one round it, or a top element.
+    fn close(&mut self)
+        requires { HasChildRoom 1 self.old.innermost }
+        ensures { building self.new ≡ closed_in (building self.old).opened (building self.old) }
+    {
+        let words = self.take_words();
+        let Some(innermost) = self.innermost.take() else {
+            self.item = Some(Item::CloseTag);
+            return;
+        };
+        let element = closed_element(innermost, words);
+        self.layers.pop();
+        match self.others.pop() {
+            Some(parent) => self.innermost = Some(with_closed(parent, element)),
+            None => self.item = Some(Item::Top(element)),
+        }
+    }
+
+    /// Begins an element in the innermost one.
+    fn begin(&mut self, element: OpenElement, own: Several<Binding>)
+        requires layers { vec_len self.old.layers < vec_capacity self.old.layers }
+        requires others { vec_len self.old.others < vec_capacity self.old.others }
+        requires children { HasChildRoom 2 self.old.innermost }
+        ensures { building self.new ≡ applied (ready.Begins element own) [] (building self.old) }
+    {
+        self.layers.push_reserved(own);
+        let words = self.take_words();
+        if let Some(outside) = self.innermost.replace(element) {
+            let OpenElement {
+                name,
+                attrs,
+                mut children,
+            } = outside;
+            push_words(&mut children, words);
+            self.others.push_reserved(Parent {
+                name,
+                attrs,
+                children,
+            });
+        }
+    }
+
+    /// Adds an element without content to the innermost one, or ends a top element.
+    fn add_hollow(&mut self, element: Element)
+        requires children { HasChildRoom 2 self.old.innermost }
+        ensures { building self.new ≡ ended_in element (building self.old).words (building self.old).opened (building self.old) }
+    {
+        let words = self.take_words();
+        match self.innermost.take() {
+            Some(mut innermost) => {
+                push_words(&mut innermost.children, words);
+                innermost.children.push_reserved(Node::Child(element));
+                self.innermost = Some(innermost);
+            }
+            None => self.item = Some(Item::Top(element)),
+        }
+    }
+
+    /// Does what was prepared. Takes no memory.
+    pub(crate) fn apply(&mut self, ready: Ready, told: &[Token])
+        requires { IsReady self.old told.now ready }
+        ensures { building self.new ≡ applied ready told.now (building self.old) }
+    {
+        match ready {
+            Ready::Nothing => {}
+            Ready::Tag(name) => {
+                self.name = name;
+                self.attributes = Vec::new(self.alloc);
+                self.attribute = Vec::new(self.alloc);
+                self.value = String::new(self.alloc);
+            }
+            Ready::NameByte(byte) => self.name.push_reserved(byte),
+            Ready::Attribute(name) => {
+                self.attribute = name;
+                self.value = String::new(self.alloc);
+            }
+            Ready::AttributeByte(byte) => self.attribute.push_reserved(byte),
+            Ready::ValueChar(c) => self.add_value(c),
+            Ready::ValueEnd => {
+                let name = mem::replace(&mut self.attribute, Vec::new(self.alloc));
+                let value = mem::replace(&mut self.value, String::new(self.alloc));
+                self.attributes.push_reserved(Written {
+                    name: Several::of(name),
+                    value: Several::of(value.into_bytes()),
+                });
+            }
+            Ready::Words => self.add_words(told),
+            Ready::Header(root, default_space, own) => {
+                self.layers.push_reserved(own);
+                self.item = Some(Item::Header {
+                    root,
+                    default_space,
+                });
+            }
+            Ready::Begins(element, own) => self.begin(element, own),
+            Ready::Hollow(element) => self.add_hollow(element),
+            Ready::Closes => self.close(),
+        }
+    }
+
+    /// Adds a character to the value that is being read.
+    fn add_value(&mut self, c: char)
+        requires { string_len self.old.value + 4 ≤ string_capacity self.old.value }
+        ensures { building self.new ≡ record (building self.old) { tag = gather (tag_of self.old) (token.Value c) } }
+    {
+        match self.value.push(c) {
+            Ok(()) => {}
+            Err(_) => unreachable!(),
+        }
+    }
+}

@@ -1,0 +1,237 @@
+//! The bytes of a stream become items, however they are cut.
+
+ghost use Rattle.std.specs.Prelude.{◌≡◌, ◌≤◌, ◌<◌, ◌+◌, List, ℕ, take, length, true, false, IfOk, IfErr, OnOk, OnErr, Some, None};
+ghost use Rattle.std.specs.Option.{option_copied};
+ghost use Rattle.stream_frames.specs.Reading.{Reading, reads, stopped, first_reading, reading_next, reading_after, byte_judged, waiting, handed, is_ready, is_done, is_stopped, taken, is_large_item, rules_of};
+ghost use Rattle.stream_frames.specs.Fed.{Fed, IsPrepared};
+ghost use Rattle.stream_frames.specs.Framing.{frame_next};
+ghost use Rattle.stream_frames.specs.Items.{told_at, in_item};
+ghost use Rattle.stream_frames.specs.Tracking.{is_few};
+ghost use Rattle.stream_frames.specs.Building.{build_all};
+ghost use Rattle.stream_frames.specs.Builds.{building};
+
+use crate::FrameFault;
+use crate::built::{Builder, Ready};
+use crate::item::{Item, Limits};
+use crate::namespaces::NameFault;
+use crate::rules::Rules;
+use crate::tags::TagFault;
+use crate::tracker::Tracker;
+use stanza_tree::{NoMemory, length};
+use std::alloc::Global;
+use std::marker::Model;
+use stream_lex::Token;
+
+/// What the tokens of a byte will do, or the fault by its names of a tag that they end.
+fn prepared(builder: &mut Builder, told: &[Token]) -> Result<Result<Ready, FrameFault>, NoMemory>
+    requires few { is_few told.now ≡ true }
+    requires short { length told.now ≤ 4 }
+    ensures kept { building builder.new ≡ building builder.old }
+    ensures prepared { IfOk result (λ p. IsPrepared builder.new told.now p) }
+{
+    match builder.prepare(told) {
+        Ok(ready) => Ok(Ok(ready)),
+        Err(TagFault::NoMemory) => Err(NoMemory),
+        Err(TagFault::Names(NameFault::BadPrefix)) => Ok(Err(FrameFault::BadPrefix)),
+        Err(TagFault::Names(NameFault::NotWellFormed)) => Ok(Err(FrameFault::NotWellFormed)),
+        Err(TagFault::NotUtf8) => Ok(Err(FrameFault::BadEncoding)),
+    }
+}
+
+/// Whether the canonical spelling of an item is past its limit.
+fn is_large(limits: Limits, item: &Option<Item>) -> bool
+    ensures { result ≡ is_large_item limits item.now }
+{
+    match item {
+        Some(Item::Header { root, .. }) => limits.canonical < length(root),
+        Some(Item::Top(element)) => limits.canonical < length(element),
+        _ => false,
+    }
+}
+
+/// Reads a byte of a stream that has no fault so far, or answers its fault.
+fn advance(
+    limits: Limits,
+    tracker: &mut Tracker,
+    builder: &mut Builder,
+    extent: u64,
+    byte: u8,
+) -> Result<Option<FrameFault>, NoMemory>
+    requires { tracker.old.rules ≡ rules_of limits }
+    ensures rules { tracker.new.rules ≡ tracker.old.rules }
+    ensures fault { IfOk result (λ f. f ≡ byte_judged limits tracker.old.frame (building builder.old) extent byte) }
+    ensures reads { IfOk result (λ f. f ≡ None → (tracker.new.frame ≡ frame_next (rules_of limits) tracker.old.frame byte) × (building builder.new ≡ build_all (building builder.old) (told_at tracker.old.frame byte))) }
+    ensures extent { IfOk result (λ f. f ≡ None → in_item tracker.new.frame ≡ true → extent < limits.bytes) }
+    ensures err { OnErr result ((tracker.new ≡ tracker.old) × (building builder.new ≡ building builder.old)) }
+{
+    let is_full = extent >= limits.bytes as u64;
+    if is_full && tracker.is_in_item() {
+        return Ok(Some(FrameFault::TooLong));
+    }
+    let turned = tracker.lex(byte);
+    let told = turned.lexed.told();
+    let prepared = prepared(builder, told)?;
+    let fault = tracker.step_lexed(byte, &turned)?;
+    if is_full && tracker.is_in_item() {
+        return Ok(Some(FrameFault::TooLong));
+    }
+    if fault.is_some() {
+        return Ok(fault);
+    }
+    match prepared {
+        Ok(ready) => builder.apply(ready, told),
+        Err(fault) => return Ok(Some(fault)),
+    }
+    if is_large(limits, &builder.item) {
+        return Ok(Some(FrameFault::TooLong));
+    }
+    Ok(None)
+}
+
+/// There was no memory to read on. The first `taken` bytes of the piece were read, and the framer is as after these.
+#[derive(Clone, Copy, Debug, PartialEq, Eq)]
+pub struct Short {
+    pub taken: usize,
+}
+
+/// A reader of the bytes of a stream (RFC 6120, 4.2): a header, top elements and a close tag, or the first fault.
+///
+/// The pieces that it is fed are the bytes of one stream, cut anywhere. It keeps the item that is being read and the names and
+/// bindings of what is open; after a fault it keeps nothing.
+#[derive(Drop)]
+pub struct Framer {
+    alloc: Global,
+    limits: Limits,
+    tracker: Tracker,
+    builder: Builder,
+    extent: u64,
+    offset: u64,
+    fault: Option<FrameFault>,
+}
+
+impl Model for Framer {
+    ghost use Rattle.std.specs.Prelude.{◌≡◌, ◌≤◌, ◌^◌};
+    ghost use Rattle.stream_frames.specs.Builds.{building};
+    ghost use Rattle.stream_frames.specs.Reading.{rules_of};
+    ghost use Rattle.stream_frames.specs.Fed.{Fed, reading_of};
+    ghost use Rattle.std.specs.Coded.{codes};
+    ghost use Rattle.stanza_tree.specs.contracts.node.Node as node;
+
+    ghost Value = { Fed };
+
+    ghost coded = { Prim.hlevel (codes, node.the_row.coded) };
+
+    ghost view = { λ f. record { limits = f.limits; reading = reading_of f.fault f.tracker.frame (building f.builder) f.extent f.offset } };
+
+    ghost invariant = { λ f. (f.tracker.rules ≡ rules_of f.limits) × (f.extent ≤ 2 ^ 32) };
+}
+
+impl Limits {
+    fn rules(self) -> Rules
+        ensures { result ≡ rules_of self }
+    {
+        Rules {
+            depth: self.depth as u64,
+            attributes: self.attrs as u64,
+            loose: false,
+        }
+    }
+}
+
+impl Framer {
+    /// A framer that has read nothing.
+    pub fn new(alloc: Global, limits: Limits) -> Result<Framer, NoMemory>
+        ensures { IfOk result (λ f. f ≡ record { limits = limits; reading = first_reading }) }
+    {
+        Ok(Framer {
+            alloc,
+            limits,
+            tracker: Tracker::new(alloc, limits.rules()),
+            builder: Builder::new(alloc),
+            extent: 0,
+            offset: 0,
+            fault: None,
+        })
+    }
+
+    /// Reads a byte, or has its fault.
+    fn step(&mut self, byte: u8) -> Result<(), NoMemory>
+        requires { is_stopped self.old.reading ≡ false }
+        ensures ok { OnOk result (self.new ≡ record self.old { reading = reading_next self.old.limits self.old.reading byte }) }
+        ensures err { OnErr result (self.new ≡ self.old) }
+    {
+        let fault = advance(
+            self.limits,
+            &mut self.tracker,
+            &mut self.builder,
+            self.extent,
+            byte,
+        )?;
+        self.offset = self.offset.saturating_add(1);
+        if fault.is_some() {
+            self.fault = fault;
+            self.tracker = Tracker::new(self.alloc, self.limits.rules());
+            self.builder = Builder::new(self.alloc);
+        } else if self.tracker.is_in_item() {
+            self.extent += 1;
+        } else {
+            self.extent = 1;
+        }
+        Ok(())
+    }
+
+    /// Whether an item or a fault waits.
+    fn is_done(&self) -> bool
+        ensures { result ≡ is_done self.now.reading }
+    {
+        self.fault.is_some() || self.builder.item.is_some()
+    }
+
+    /// Reads a piece up to the byte that ends an item or has a fault, and else to its end: how many bytes were taken. After a
+    /// fault every piece is taken whole. Costs the piece's length; at the end of an item its size too, and at the end of a tag the
+    /// square of its attributes.
+    #[tactic(auto, using(crate::proofs::FeedLemmas::stays, crate::proofs::FeedLemmas::after_one, crate::proofs::FeedLemmas::rest_going))]
+    pub fn feed(&mut self, piece: &[u8]) -> Result<usize, Short>
+        requires { is_ready self.old.reading ≡ true }
+        ensures limits { self.new.limits ≡ self.old.limits }
+        ensures taken { IfOk result (λ n. n ≡ taken self.old.limits self.old.reading piece.now) }
+        ensures read { IfOk result (λ n. self.new.reading ≡ reading_after self.old.limits self.old.reading (take n piece.now)) }
+        ensures short { IfErr result (λ s. s.taken < taken self.old.limits self.old.reading piece.now) }
+        ensures kept { IfErr result (λ s. self.new.reading ≡ reading_after self.old.limits self.old.reading (take s.taken piece.now)) }
+    {
+        if self.fault.is_some() {
+            return Ok(piece.len());
+        }
+        for (i, byte) in piece.iter().enumerate() {
+            if self.step(*byte).is_err() {
+                return Err(Short { taken: i });
+            }
+            if self.is_done() {
+                return Ok(i + 1);
+            }
+        }
+        Ok(piece.len())
+    }
+
+    /// The item that waits. A fault is answered at every call.
+    pub fn next(&mut self) -> Option<Item>
+        ensures item { result ≡ waiting self.old.reading }
+        ensures handed { self.new ≡ record self.old { reading = handed self.old.reading } }
+    {
+        match self.fault {
+            Some(fault) => Some(Item::Broken(fault, self.offset)),
+            None => self.builder.item.take(),
+        }
+    }
+
+    /// A new stream begins, and its offsets from 0. What was half read is dropped. Takes no memory.
+    pub fn restart(&mut self)
+        ensures { self.new ≡ record self.old { reading = first_reading } }
+    {
+        self.tracker = Tracker::new(self.alloc, self.limits.rules());
+        self.builder = Builder::new(self.alloc);
+        self.extent = 0;
+        self.offset = 0;
+        self.fault = None;
+    }
+}
