@@ -47,3 +47,4 @@ pub mod RoundTripInsert
 pub mod ProperStreams
 pub mod ProperTops
 pub mod ProperMaking
+pub mod Faulting

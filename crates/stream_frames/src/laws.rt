@@ -7,11 +7,12 @@ ghost use Rattle.stream_frames.specs.Trees.{RawTag, Stream, tag_tokens};
 ghost use Rattle.stream_frames.specs.Gathering.{Gathered, gather_all, whole_tag};
 ghost use Rattle.stream_frames.specs.Faults.{IsSyntaxKind};
 ghost use Rattle.stream_frames.specs.Items.{EndsHeader, EndsTop, is_header_end, is_top_end};
-ghost use Rattle.std.specs.Prelude.{Some};
+ghost use Rattle.std.specs.Prelude.{◌+◌, length, take, Some};
+ghost use Rattle.stream_frames.specs.declared.FrameFault.{FrameFault};
 ghost use Rattle.stream_frames.specs.declared.item.Item.{Item};
 ghost use Rattle.stream_frames.specs.declared.item.Limits.{Limits};
-ghost use Rattle.stream_frames.specs.Reading.{first_reading, went, waiting, is_stopped, rules_of};
-ghost use Rattle.stream_frames.specs.Parts.{IsItem};
+ghost use Rattle.stream_frames.specs.Reading.{Reading, reading_after, taken, is_ready, handed, first_reading, stopped, told_number, went, waiting, is_stopped, rules_of};
+ghost use Rattle.stream_frames.specs.Parts.{IsItem, IsFirstFault};
 ghost use Rattle.stream_frames.specs.Framing.{frame_next, frame_after, first_frame, is_broken, has_ended, fault_at};
 
 /// Bytes begin a stream exactly where the frame that they lead to is not broken, so the first byte that breaks
@@ -61,4 +62,24 @@ pub fn items_are_those_of_the_grammar()
     ensures { (l : Limits) (bytes : List ℕ) (b : ℕ) (i : Item)
         → is_stopped (went l first_reading (bytes ++ b ∷ [])) ≡ false
         → waiting (went l first_reading (bytes ++ b ∷ [])) ≡ Some i → IsItem (rules_of l) (bytes ++ b ∷ []) i }
+{}
+
+/// A framer stops at the first byte that has a fault, with this fault and the byte's number: a byte past the limit of its header or
+/// top element; or one with which no stream goes on, and its kind; or the `>` of a tag whose names are refused; or the end of what has
+/// a canonical spelling past the limit.
+pub fn faults_are_exact()
+    ensures stops { (l : Limits) (bytes : List ℕ) (b : ℕ) (f : FrameFault) (k : ℕ)
+        → is_stopped (went l first_reading bytes) ≡ false → went l first_reading (bytes ++ b ∷ []) ≡ stopped f k
+        → IsFirstFault l bytes b f × (k ≡ told_number (length bytes + 1)) }
+    ensures goes_on { (l : Limits) (bytes : List ℕ) (b : ℕ) (f : FrameFault)
+        → is_stopped (went l first_reading (bytes ++ b ∷ [])) ≡ false → IsFirstFault l bytes b f → ⊥ }
+{}
+
+/// However a stream is cut into pieces, the framer that takes them, and hands out each item as it comes, stands where their bytes
+/// lead.
+pub fn cuts_make_no_difference()
+    ensures piece { (l : Limits) (s : Reading) (piece : List ℕ) → is_ready s ≡ true
+        → reading_after l s (take (taken l s piece) piece) ≡ went l s (take (taken l s piece) piece) }
+    ensures pieces { (l : Limits) (s : Reading) (xs ys : List ℕ) → went l s (xs ++ ys) ≡ went l (went l s xs) ys }
+    ensures handed { (l : Limits) (s : Reading) (b : ℕ) (bs : List ℕ) → went l (handed s) (b ∷ bs) ≡ went l s (b ∷ bs) }
 {}
