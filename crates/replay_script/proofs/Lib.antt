@@ -1,3 +1,4 @@
 mod CharacterLemmas
 mod NumberLemmas
+mod StanzaLemmas
 mod UserLemmas

@@ -11,7 +11,9 @@ use Rattle.std.specs.Fmt.{decimal}
 use Rattle.std.specs.List.{list_all}
 use Rattle.std.specs.Str.Parse.{AllDigits, digits_value}
 use Rattle.sm_resume.specs.Spelling.{AreDigits, hexadecimal}
-use Rattle.replay_script.specs.Numbers.{number_of, paired, are_dice, dice_of}
+use Rattle.hex.specs.Hex.{decode_of}
+use Rattle.std.specs.Prelude.{Ok}
+use Rattle.replay_script.specs.Numbers.{number_of, paired, are_dice, dice_of, may_be_bytes, decoded, bytes_of}
 
 both : (a b : Bool) → a ≡ true → b ≡ true → (a && b) ≡ true
 both true b p q = q
@@ -104,3 +106,6 @@ pub dice-read : (text : List ℕ) (r : Option (List ℕ)) → IfSome r (λ dice.
     → ((dice : List ℕ) → AreDigits dice → hexadecimal dice ≡ text → r ≡ Some dice) → r ≡ dice_of text
 dice-read text (Some dice) spelt found = sym (dice-found text dice spelt.0 spelt.1)
 dice-read text None spelt found = none-is (dice_of text) (λ dice h. let is = dice-spelt text dice h in let e = found dice is.0 is.1 in absurd (cc))
+
+pub bytes_read : (text bytes : List ℕ) → may_be_bytes text ≡ true → decode_of text ≡ Ok bytes → bytes_of text ≡ Some bytes
+bytes_read text bytes may are = cond-true (may_be_bytes text) (decoded (decode_of text)) None may ∙ ap decoded are

@@ -5,3 +5,4 @@ pub mod Numbers
 pub mod Prints
 pub mod Readings
 pub mod Scripts
+pub mod Stanzas

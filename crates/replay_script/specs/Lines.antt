@@ -1,5 +1,5 @@
 -- What each line of a script is. Its fields are separated by one space.
-use Rattle.std.specs.Prelude.{◌≡◌, ◌≤◌, ℕ, ◌==◌, nat_lt, nat_le, Bool, true, not, ◌&&◌, List, [], ◌∷◌, length, codes, bytes_eq, Option, Some, None, Result, Ok, Err, is_some, if◌then◌else◌}
+use Rattle.std.specs.Prelude.{◌≡◌, ◌≤◌, ⊤, ℕ, ◌==◌, nat_lt, nat_le, Bool, true, not, ◌&&◌, List, [], ◌∷◌, length, codes, bytes_eq, Option, Some, None, Result, Ok, Err, is_some, if◌then◌else◌}
 use Rattle.std.specs.List.{slice_split, list_all, list_any}
 use Rattle.jid_core.specs.Addresses.{Address, address_of}
 use Rattle.jid_core.specs.Preparation.{is_local, local_of, resource_of}
@@ -7,12 +7,16 @@ use Rattle.jid_core.specs.declared.fault.JidFault.{JidFault}
 use Rattle.house_model.specs.declared.event.Event.{Event}
 use Rattle.house_model.specs.declared.event.Event.TheVariants.{OpenLine, Login, Bind, Act, Pull}
 use Rattle.house_model.specs.Histories.{Meets}
+use Rattle.house_model.specs.declared.stanza.Stanza.TheVariants.{Message}
+use Rattle.house_model.specs.declared.stanza.MessageForm.TheVariants.{Headline}
+use Rattle.stanza_tree.specs.declared.node.Element.{Element}
 use Rattle.replay_script.specs.declared.step.Step.{Step}
 use Rattle.replay_script.specs.declared.step.Step.TheVariants as step
 use Rattle.replay_script.specs.Characters.{is_token}
 use Rattle.replay_script.specs.Notices.{notice_of}
-use Rattle.replay_script.specs.Numbers.{number_of, line_number_of, dice_of}
+use Rattle.replay_script.specs.Numbers.{number_of, line_number_of, dice_of, bytes_of}
 use Rattle.replay_script.specs.Readings.{on, cut}
+use Rattle.replay_script.specs.Stanzas.{stanza_in, headline_receiver}
 
 -- `open W`
 abbrev pub open_of : List ℕ → Option Event
@@ -61,7 +65,7 @@ note_of text =
     cut rest (λ t rest. on (number_of t) (λ t.
     cut rest (λ address words. on (notice_of address words) (λ stanza. Some (Act w stanza t)))))))
 
--- a line but for the first, by its word
+-- the event of a line, by its word
 abbrev pub event_by : List ℕ → List ℕ → Option Event
 event_by word rest =
     if bytes_eq word (codes "open") then open_of rest
@@ -115,8 +119,33 @@ house_of text =
     cut text (λ domain rest. on (domain_of domain) (λ domain.
     cut rest (λ users workers. on (users_of users) (λ users. on (workers_of workers) (λ workers. Some (step.Begin domain users workers))))))
 
+-- `feed W HEX`
+abbrev pub feed_of : List ℕ → Option Step
+feed_of text = cut text (λ w hex. on (line_number_of w) (λ w. on (bytes_of hex) (λ bytes. Some (step.Feed w bytes))))
+
+-- `fresh W`
+abbrev pub fresh_of : List ℕ → Option Step
+fresh_of text = on (line_number_of text) (λ w. Some (step.Fresh w))
+
+-- a headline message to an address is an event, and every other stanza is told as it is
+abbrev pub step_to : ℕ → ℕ → Element → Option Address → Step
+step_to w t e (Some to) = step.Event (Act w (Message (Some to) Headline e) t)
+step_to w t e None = step.Other w t e
+
+-- `stanza W T XML`
+abbrev pub stanza_of : List ℕ → Option Step
+stanza_of text =
+    cut text (λ w rest. on (line_number_of w) (λ w.
+    cut rest (λ t xml. on (number_of t) (λ t. on (stanza_in xml) (λ e. Some (step_to w t e (headline_receiver e)))))))
+
+-- a line by its word
 abbrev pub step_by : List ℕ → List ℕ → Option Step
-step_by word rest = if bytes_eq word (codes "house") then house_of rest else on (event_by word rest) (λ e. Some (step.Event e))
+step_by word rest =
+    if bytes_eq word (codes "house") then house_of rest
+    else if bytes_eq word (codes "feed") then feed_of rest
+    else if bytes_eq word (codes "fresh") then fresh_of rest
+    else if bytes_eq word (codes "stanza") then stanza_of rest
+    else on (event_by word rest) (λ e. Some (step.Event e))
 
 -- a line of a script, without its line feed
 abbrev pub step_of : List ℕ → Option Step
@@ -126,3 +155,6 @@ step_of line = cut line step_by
 abbrev pub StepFits : Step → Type 0
 StepFits (step.Begin domain users workers) = (list_all is_local users ≡ true) × (length users ≤ 4096)
 StepFits (step.Event e) = Meets e
+StepFits (step.Feed w bytes) = ⊤
+StepFits (step.Fresh w) = ⊤
+StepFits (step.Other w t e) = ⊤

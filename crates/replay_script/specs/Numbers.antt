@@ -1,9 +1,11 @@
--- Numbers and sixteen bytes as a script writes them.
-use Rattle.std.specs.Prelude.{ℕ, ◌+◌, ◌*◌, ◌^◌, ◌==◌, nat_lt, Bool, ◌&&◌, List, [], ◌∷◌, length, bytes_eq, Option, Some, None, if◌then◌else◌}
-use Rattle.std.specs.List.{list_all}
-use Rattle.std.specs.Char.{digit_value}
+-- Numbers and bytes as a script writes them.
+use Rattle.std.specs.Prelude.{ℕ, ◌+◌, ◌*◌, ◌^◌, ◌==◌, nat_lt, Bool, not, ◌&&◌, List, [], ◌∷◌, length, bytes_eq, Option, Some, None, Result, Ok, Err, if◌then◌else◌}
+use Rattle.std.specs.List.{list_all, list_any}
+use Rattle.std.specs.Char.{digit_value, is_ascii_uppercase}
 use Rattle.std.specs.Fmt.{decimal}
 use Rattle.std.specs.Str.Parse.{digits_value}
+use Rattle.hex.specs.Hex.{decode_of}
+use Rattle.hex.specs.declared.error.FromHexError.{FromHexError}
 use Rattle.sm_resume.specs.Spelling.{hexadecimal}
 
 -- the number below 2^64 that is written so in decimal, without leading zeros
@@ -31,3 +33,15 @@ are_dice bytes = (length bytes == 16) && list_all (λ b. nat_lt b 256) bytes
 -- the sixteen bytes that are written so, as 32 lower-case hexadecimal digits
 unfoldable pub dice_of : List ℕ → Option (List ℕ)
 dice_of text = if are_dice (paired text) && bytes_eq (hexadecimal (paired text)) text then Some (paired text) else None
+
+abbrev pub decoded : Result (List ℕ) FromHexError → Option (List ℕ)
+decoded (Ok bytes) = Some bytes
+decoded (Err fault) = None
+
+-- at least one byte, and no upper-case letter
+abbrev pub may_be_bytes : List ℕ → Bool
+may_be_bytes text = nat_lt 0 (length text) && not (list_any is_ascii_uppercase text)
+
+-- HEX: one or more bytes, each as two hexadecimal digits, whose letters are lower-case
+abbrev pub bytes_of : List ℕ → Option (List ℕ)
+bytes_of text = if may_be_bytes text then decoded (decode_of text) else None

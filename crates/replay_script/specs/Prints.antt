@@ -1,9 +1,14 @@
--- What is printed of a turn: one line.
+-- What is printed of a turn, and of an item of a stream: one line.
 use Rattle.std.specs.Prelude.{ℕ, List, [], ◌∷◌, ◌++◌, Bool, true, false, codes, flat_map}
 use Rattle.std.specs.Fmt.{decimal}
 use Rattle.house_model.specs.declared.reply.Reply.{Reply}
 use Rattle.house_model.specs.declared.reply.Reply.TheVariants.{Opened, Done, Bound, Frame, Nothing, Absent, Unready, NoUser}
 use Rattle.house_model.specs.Histories.{Outcome, Made, Short, Turn}
+use Rattle.stanza_tree.specs.Spelling.{text}
+use Rattle.stream_frames.specs.declared.FrameFault.{FrameFault}
+use Rattle.stream_frames.specs.declared.FrameFault.TheVariants.{NotWellFormed, Restricted, BadPrefix, BadFormat, TooLong, TooDeep, TooManyAttrs, BadEncoding}
+use Rattle.stream_frames.specs.declared.item.Item.{Item}
+use Rattle.stream_frames.specs.declared.item.Item.TheVariants.{Header, Top, CloseTag, Broken}
 
 -- these bytes and a line feed
 abbrev pub line : List ℕ → List ℕ
@@ -34,3 +39,22 @@ print_outcome Short = []
 -- the lines of a history, one after another
 abbrev pub prints : List Turn → List ℕ
 prints h = flat_map (λ (x : Turn). print_outcome x.outcome) h
+
+-- Items of a stream.
+
+abbrev pub fault_number : FrameFault → ℕ
+fault_number NotWellFormed = 1
+fault_number Restricted = 2
+fault_number BadPrefix = 3
+fault_number BadFormat = 4
+fault_number TooLong = 5
+fault_number TooDeep = 6
+fault_number TooManyAttrs = 7
+fault_number BadEncoding = 8
+
+-- a top element is printed in its canonical spelling, and a fault by its number and the number of its byte
+abbrev pub print_item : Item → List ℕ
+print_item (Header root space) = line (codes "item header")
+print_item (Top e) = line (codes "item top " ++ text e)
+print_item CloseTag = line (codes "item close")
+print_item (Broken fault offset) = codes "item broken " ++ (decimal (fault_number fault) ++ (codes " " ++ line (decimal offset)))

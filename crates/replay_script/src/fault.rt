@@ -4,6 +4,7 @@ ghost use Rattle.std.specs.Prelude.{◌≡◌};
 use jid_core::JidFault;
 use stanza_tree::{NoMemory, TextFault};
 use std::alloc::AllocFailed;
+use stream_frames::Short;
 
 /// Why a line was not read.
 #[derive(Clone, Copy, Debug, PartialEq, Eq)]
@@ -59,5 +60,15 @@ impl From<JidFault> for LineFault {
             JidFault::Long(_) => LineFault::Bad,
             JidFault::Bad(_, _) => LineFault::Bad,
         }
+    }
+}
+
+impl From<Short> for LineFault {
+    ghost use Rattle.replay_script.specs.declared.fault.LineFault.TheVariants as fault;
+
+    ghost from_gives = { λ _ f. f ≡ fault.NoMemory };
+
+    fn from(_short: Short) -> LineFault {
+        LineFault::NoMemory
     }
 }

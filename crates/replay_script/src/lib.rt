@@ -1,4 +1,4 @@
-//! Lines of a script as steps, and what is printed of replies.
+//! Lines of a script as steps, and what is printed of replies and of items.
 #![tactic(auto)]
 
 mod event;
@@ -9,11 +9,13 @@ mod numbers;
 mod opening;
 mod print;
 mod read;
+mod stanza;
 pub mod step;
 #[cfg(test)]
 mod tests;
 
 pub use fault::LineFault;
-pub use print::print_reply;
+pub use print::{print_item, print_reply};
 pub use read::read_line;
+pub use stanza::LIMITS;
 pub use step::Step;

@@ -1,8 +1,15 @@
-//! Numbers and dice, as a script writes them.
+//! Numbers, dice and bytes, as a script writes them.
 ghost use Rattle.std.specs.Prelude.{◌≡◌, IfSome, ◌<◌};
-ghost use Rattle.replay_script.specs.Numbers.{number_of, line_number_of, dice_of};
+ghost use Rattle.std.specs.Char.{is_ascii_uppercase};
+ghost use Rattle.std.specs.List.{list_any};
+ghost use Rattle.replay_script.specs.Numbers.{number_of, line_number_of, dice_of, may_be_bytes, bytes_of};
+ghost use Rattle.replay_script.specs.Readings.{Gives};
 
+use crate::fault::LineFault;
+use hex::FromHexError;
 use sm_resume::{read_digits, read_number};
+use stanza_tree::Several;
+use std::alloc::Global;
 
 /// How many lines for connections a house may have.
 pub(crate) const MOST_WORKERS: u64 = 1024;
@@ -31,4 +38,32 @@ pub(crate) fn read_dice(field: &[u8]) -> Option<[u8; 16]>
     ensures { result ≡ dice_of field.now }
 {
     read_digits(field)
+}
+
+fn has_upper(field: &[u8]) -> bool
+    ensures { result ≡ list_any is_ascii_uppercase field.now }
+{
+    field.iter().any(|b| b.is_ascii_uppercase())
+}
+
+fn may_be_bytes(field: &[u8]) -> bool
+    ensures { result ≡ may_be_bytes field.now }
+{
+    !field.is_empty() && !has_upper(field)
+}
+
+/// One or more bytes as pairs of lower-case hexadecimal digits.
+pub(crate) fn read_bytes(alloc: Global, field: &[u8]) -> Result<Several<u8>, LineFault>
+    ensures { Gives (bytes_of field.now) result }
+{
+    if !may_be_bytes(field) {
+        return Err(LineFault::Bad);
+    }
+    match hex::decode(alloc, field) {
+        Ok(bytes) => Ok(Several::of(bytes)),
+        Err(FromHexError::OutOfMemory) => Err(LineFault::NoMemory),
+        Err(FromHexError::OddLength) => Err(LineFault::Bad),
+        Err(FromHexError::InvalidHexCharacter { .. }) => Err(LineFault::Bad),
+        Err(FromHexError::InvalidStringLength) => Err(LineFault::Bad),
+    }
 }

@@ -1,10 +1,12 @@
-//! What is printed of a reply.
-ghost use Rattle.std.specs.Prelude.{◌≡◌, ◌++◌, OnOk};
-ghost use Rattle.replay_script.specs.Prints.{print_of, frame_line};
+//! What is printed of a reply, and of an item of a stream.
+ghost use Rattle.std.specs.Prelude.{◌≡◌, ◌++◌, OnOk, OnErr, codes};
+ghost use Rattle.stanza_tree.specs.Spelling.{text};
+ghost use Rattle.replay_script.specs.Prints.{print_of, frame_line, line, fault_number, print_item};
 
 use house_model::Reply;
-use stanza_tree::NoMemory;
+use stanza_tree::{Element, NoMemory, write};
 use std::alloc::Global;
+use stream_frames::{FrameFault, Item};
 
 /// Appends the line of a reply. `frame` is the text of the frame that was given.
 pub fn print_reply(reply: &Reply, frame: &[u8], out: &mut Vec<u8>) -> Result<(), NoMemory>
@@ -34,4 +36,48 @@ fn print_frame(text: &[u8], out: &mut Vec<u8>) -> Result<(), NoMemory>
     out.extend_from_slice(text)?;
     out.push(b'\n')?;
     Ok(())
+}
+
+/// Appends the line of an item, whole or not at all. Costs the canonical spelling of a top element.
+pub fn print_item(item: &Item, out: &mut Vec<u8>) -> Result<(), NoMemory>
+    ensures ok { OnOk result (out.new.items ≡ out.old.items ++ print_item item.now) }
+    ensures err { OnErr result (out.new.items ≡ out.old.items) }
+{
+    match item {
+        Item::Header { .. } => out.extend_from_slice(b"item header\n"),
+        Item::Top(element) => print_top(element, out),
+        Item::CloseTag => out.extend_from_slice(b"item close\n"),
+        Item::Broken(fault, offset) => {
+            let alloc: Global = *out.allocator();
+            let line = format!(in alloc; "item broken {} {}\n", number_of(*fault), *offset)?;
+            out.extend_from_slice(line.as_bytes())
+        }
+    }
+}
+
+fn print_top(element: &Element, out: &mut Vec<u8>) -> Result<(), NoMemory>
+    ensures ok { OnOk result (out.new.items ≡ out.old.items ++ line (codes "item top " ++ text element.now)) }
+    ensures err { OnErr result (out.new.items ≡ out.old.items) }
+{
+    let mut line = Vec::new(*out.allocator());
+    line.extend_from_slice(b"item top ")?;
+    write(element, &mut line)?;
+    line.push(b'\n')?;
+    out.extend_from_slice(line.as_slice())
+}
+
+/// The number of a fault, as it is printed.
+fn number_of(fault: FrameFault) -> u8
+    ensures { result ≡ fault_number fault }
+{
+    match fault {
+        FrameFault::NotWellFormed => 1,
+        FrameFault::Restricted => 2,
+        FrameFault::BadPrefix => 3,
+        FrameFault::BadFormat => 4,
+        FrameFault::TooLong => 5,
+        FrameFault::TooDeep => 6,
+        FrameFault::TooManyAttrs => 7,
+        FrameFault::BadEncoding => 8,
+    }
 }

@@ -1,7 +1,7 @@
 //! What a line of a script does.
 use house_model::Event;
 use jid_core::{Jid, Part};
-use stanza_tree::Several;
+use stanza_tree::{Element, Several};
 
 /// The step of a line.
 #[derive(Drop)]
@@ -14,4 +14,19 @@ pub enum Step {
     },
     /// An event happens in the house.
     Event(Event),
+    /// The bytes go to the framer of connection `w`.
+    Feed {
+        w: u32,
+        bytes: Several<u8>,
+    },
+    /// The framer of connection `w` begins a new stream.
+    Fresh {
+        w: u32,
+    },
+    /// Connection `w` sends a stanza at moment `t` that is no headline message to an address.
+    Other {
+        w: u32,
+        t: u64,
+        element: Element,
+    },
 }

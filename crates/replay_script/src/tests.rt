@@ -2,13 +2,23 @@
 
 use super::*;
 use house_model::Reply;
+use stanza_tree::{Element, Text};
+use std::alloc::Global;
+use std::process::Abort;
 use std::test::Fail;
+use stream_frames::FrameFault::{
+    BadEncoding, BadFormat, BadPrefix, NotWellFormed, Restricted, TooDeep, TooLong, TooManyAttrs,
+};
+use stream_frames::Item;
 
 // The kind of a line's step, or why it has none.
 fn word_of(step: &Result<Step, LineFault>) -> &[u8] {
     match step {
         Ok(Step::Begin { .. }) => b"house",
         Ok(Step::Event(_)) => b"event",
+        Ok(Step::Feed { .. }) => b"feed",
+        Ok(Step::Fresh { .. }) => b"fresh",
+        Ok(Step::Other { .. }) => b"other",
         Err(LineFault::Bad) => b"bad",
         Err(LineFault::NoMemory) => b"no memory",
     }
@@ -53,6 +63,89 @@ fn lines_are_read(rt: HostRuntime) {
     }
 }
 
+const STREAM_LINES: [(&[u8], &[u8]); 14] = [
+    (b"feed 0 78", b"feed"),
+    (b"feed 1023 00ff0a", b"feed"),
+    (b"feed 1024 78", b"bad"),
+    (b"feed 0 787", b"bad"),
+    (b"feed 0 7A", b"bad"),
+    (b"feed 0 7g", b"bad"),
+    (b"feed 0 ", b"bad"),
+    (b"feed 0", b"bad"),
+    (b"feed 0 78 78", b"bad"),
+    (b"feed 0 78 ", b"bad"),
+    (b"fresh 0", b"fresh"),
+    (b"fresh 1024", b"bad"),
+    (b"fresh 0 ", b"bad"),
+    (b"fresh", b"bad"),
+];
+
+#[test]
+fn lines_of_streams_are_read(rt: HostRuntime) {
+    for (line, want) in STREAM_LINES {
+        let step = read_line(rt.alloc(), line);
+        assert!(rt; word_of(&step) == want, "{line:?}");
+    }
+}
+
+#[test]
+fn bytes_are_pairs_of_digits(rt: HostRuntime) {
+    let step = read_line(rt.alloc(), b"feed 3 00ff0a9b");
+    let is_right = match &step {
+        Ok(Step::Feed { w, bytes }) => *w == 3 && bytes.slice() == [0, 255, 10, 155].as_slice(),
+        _ => false,
+    };
+    assert!(rt; is_right);
+}
+
+const STANZA_LINES: [(&[u8], &[u8]); 25] = [
+    (
+        b"stanza 0 5 <message to='alice@example.org/a' type='headline'><body>h\xc3\xa9</body></message>",
+        b"event",
+    ),
+    (
+        b"stanza 0 5 <message type='headline' to='example.org'/>",
+        b"event",
+    ),
+    (b"stanza 0 5 <message to='alice@example.org'/>", b"other"),
+    (
+        b"stanza 0 5 <message to='alice@example.org' type='chat'/>",
+        b"other",
+    ),
+    (b"stanza 0 5 <message type='headline'/>", b"other"),
+    (b"stanza 0 5 <message type='headline' to='@'/>", b"other"),
+    (b"stanza 0 5 <presence/>", b"other"),
+    (b"stanza 0 5 <iq><q xmlns='urn:x'/></iq>", b"other"),
+    (
+        b"stanza 0 5 <c:iq xmlns:c='jabber:client'></c:iq>",
+        b"other",
+    ),
+    (b"stanza 0 5 <presence/> ", b"bad"),
+    (b"stanza 0 5  <presence/>", b"bad"),
+    (b"stanza 0 5 <![CDATA[ ]]><presence/>", b"bad"),
+    (b"stanza 0 5 <presence/><presence/>", b"bad"),
+    (b"stanza 0 5 <presence>", b"bad"),
+    (b"stanza 0 5 <presence/", b"bad"),
+    (b"stanza 0 5 <presence></iq>", b"bad"),
+    (b"stanza 0 5 <presence>&x;</presence>", b"bad"),
+    (b"stanza 0 5 <stream:presence/>", b"bad"),
+    (b"stanza 0 5 <presence xmlns='urn:x'/>", b"bad"),
+    (b"stanza 0 5 <body/>", b"bad"),
+    (b"stanza 0 5 </stream>", b"bad"),
+    (b"stanza 0 5 presence", b"bad"),
+    (b"stanza 0 5 ", b"bad"),
+    (b"stanza 0 <presence/>", b"bad"),
+    (b"stanza 1024 5 <presence/>", b"bad"),
+];
+
+#[test]
+fn stanzas_are_read(rt: HostRuntime) {
+    for (line, want) in STANZA_LINES {
+        let step = read_line(rt.alloc(), line);
+        assert!(rt; word_of(&step) == want, "{line:?}");
+    }
+}
+
 const PRINTS: [(Reply, &[u8]); 9] = [
     (Reply::Opened(17), b"opened 17\n"),
     (Reply::Done, b"done\n"),
@@ -73,4 +166,48 @@ fn replies_are_printed(rt: HostRuntime) -> Result<(), Fail> {
         assert!(rt; out.as_slice() == want);
     }
     Ok(())
+}
+
+fn expect_print(rt: &impl Abort, alloc: Global, item: &Item, want: &[u8]) -> Result<(), Fail> {
+    let mut out = Vec::new(alloc);
+    print_item(item, &mut out)?;
+    assert!(rt; out.as_slice() == want);
+    Ok(())
+}
+
+const FAULTS: [(Item, &[u8]); 8] = [
+    (Item::Broken(NotWellFormed, 1), b"item broken 1 1\n"),
+    (Item::Broken(Restricted, 20), b"item broken 2 20\n"),
+    (Item::Broken(BadPrefix, 300), b"item broken 3 300\n"),
+    (Item::Broken(BadFormat, 117), b"item broken 4 117\n"),
+    (Item::Broken(TooLong, 65_653), b"item broken 5 65653\n"),
+    (Item::Broken(TooDeep, 118), b"item broken 6 118\n"),
+    (Item::Broken(TooManyAttrs, 119), b"item broken 7 119\n"),
+    (
+        Item::Broken(BadEncoding, u64::MAX),
+        b"item broken 8 18446744073709551615\n",
+    ),
+];
+
+#[test]
+fn faults_are_printed(rt: HostRuntime) -> Result<(), Fail> {
+    for (item, want) in &FAULTS {
+        expect_print(&rt, rt.alloc(), item, want)?;
+    }
+    Ok(())
+}
+
+#[test]
+fn items_are_printed(rt: HostRuntime) -> Result<(), Fail> {
+    let alloc = rt.alloc();
+    let root = Element::new(alloc, b"http://etherx.jabber.org/streams", b"stream")?;
+    let default_space = Text::of(alloc, b"jabber:client")?;
+    let header = Item::Header {
+        root,
+        default_space,
+    };
+    let top = Item::Top(Element::new(alloc, b"jabber:client", b"presence")?);
+    expect_print(&rt, alloc, &header, b"item header\n")?;
+    expect_print(&rt, alloc, &top, b"item top <presence/>\n")?;
+    expect_print(&rt, alloc, &Item::CloseTag, b"item close\n")
 }

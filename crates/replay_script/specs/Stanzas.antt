@@ -1,0 +1,75 @@
+-- The stanza of a `stanza` line.
+use Rattle.std.specs.Prelude.{ℕ, ◌==◌, nat_lt, nat_le, Bool, false, not, ◌&&◌, ◌||◌, List, length, slice_index, take, codes, bytes_eq, Option, Some, None, Result, Ok, Err, if◌then◌else◌}
+use Rattle.stanza_tree.specs.Attributes.{attr_of}
+use Rattle.stanza_tree.specs.Spelling.{client_space}
+use Rattle.stanza_tree.specs.declared.node.Element.{Element}
+use Rattle.jid_core.specs.Addresses.{Address, address_of}
+use Rattle.jid_core.specs.declared.fault.JidFault.{JidFault}
+use Rattle.stream_frames.specs.Reading.{Reading, first_reading, reading_after, waiting, handed, taken}
+use Rattle.stream_frames.specs.declared.item.Item.{Item}
+use Rattle.stream_frames.specs.declared.item.Item.TheVariants as item
+use Rattle.stream_frames.specs.declared.item.Limits.{Limits}
+use Rattle.replay_script.specs.Readings.{on}
+
+-- what every stream is held to
+abbrev pub limits : Limits
+limits = record { bytes = 65536; depth = 32; attrs = 64; canonical = 196608 }
+
+-- a reading once bytes were fed to it, up to the first that ends an item or has a fault
+abbrev pub fed : Reading → List ℕ → Reading
+fed s bytes = reading_after limits s (take (taken limits s bytes) bytes)
+
+-- the header of a stream whose default namespace is jabber:client, and which declares no prefix
+unfoldable pub client_header : List ℕ
+client_header = codes "<stream xmlns='jabber:client'>"
+
+-- inside that stream, its header having been handed out
+abbrev pub in_client_stream : Reading
+in_client_stream = handed (fed first_reading client_header)
+
+-- a text begins with a tag: with `<`, and not with `<!`
+abbrev pub begins_with_tag : List ℕ → Bool
+begins_with_tag xml = nat_lt 1 (length xml) && (slice_index xml 0 == 60) && not (slice_index xml 1 == 33)
+
+abbrev pub top_in : Option Item → Option Element
+top_in (Some (item.Top e)) = Some e
+top_in (Some (item.Header e space)) = None
+top_in (Some item.CloseTag) = None
+top_in (Some (item.Broken f k)) = None
+top_in None = None
+
+-- the item that a text gives in that stream: it ends with the last byte, and none ended before
+abbrev pub item_of : List ℕ → Option Item
+item_of xml = if taken limits in_client_stream xml == length xml then waiting (reading_after limits in_client_stream xml) else None
+
+-- XML: the one element that a text of at most 65,536 bytes spells in that stream
+abbrev pub element_of : List ℕ → Option Element
+element_of xml = if nat_le (length xml) 65536 && begins_with_tag xml then top_in (item_of xml) else None
+
+-- RFC 6120, 8.1: a message, a presence or an iq
+abbrev pub is_stanza : Element → Bool
+is_stanza e =
+    bytes_eq e.name.space client_space && (bytes_eq e.name.local (codes "message") || bytes_eq e.name.local (codes "presence") || bytes_eq e.name.local (codes "iq"))
+
+abbrev pub stanza_in : List ℕ → Option Element
+stanza_in xml = on (element_of xml) (λ e. if is_stanza e then Some e else None)
+
+-- RFC 6121, 5.2.2: a message of the type `headline`
+abbrev pub is_headline_type : Option (List ℕ) → Bool
+is_headline_type None = false
+is_headline_type (Some value) = bytes_eq value (codes "headline")
+
+abbrev pub is_headline : Element → Bool
+is_headline e = bytes_eq e.name.local (codes "message") && is_headline_type (attr_of (codes "type") e.attrs)
+
+-- the address that a text is read as, if it is one
+abbrev pub address_if : Result Address JidFault → Option Address
+address_if (Ok a) = Some a
+address_if (Err fault) = None
+
+abbrev pub receiver_of : Element → Option Address
+receiver_of e = on (attr_of (codes "to") e.attrs) (λ text. address_if (address_of text))
+
+-- to whom a headline message goes
+abbrev pub headline_receiver : Element → Option Address
+headline_receiver e = if is_headline e then receiver_of e else None
