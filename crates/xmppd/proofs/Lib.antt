@@ -1,4 +1,8 @@
+pub mod Conjunctions
+pub mod Endings
 pub mod Feeds
+pub mod GrammarLemmas
+pub mod Passwords
 pub mod Plays
 pub mod Takings
-pub mod Words
+pub mod TaskLemmas

@@ -1,13 +1,19 @@
 //! A chat server for one XMPP domain (RFC 6120, RFC 6121).
 #![tactic(auto)]
 
+mod account;
+#[cfg(test)]
+mod account_tests;
+mod laws;
 mod lines;
+mod output;
 mod replay;
 mod run;
 mod standard;
 mod status;
 #[cfg(test)]
 mod tests;
+mod words;
 
 use crate::run::run;
 use crate::standard::{ReaderSource, WriterSink};
@@ -23,23 +29,37 @@ fn main(rt: HostRuntime) -> ExitCode {
 }
 
 fn run_on(rt: &HostRuntime) -> Status {
-    let Ok(words) = words_of(rt) else {
-        return Status::NoMemory;
+    let words = match words_of(rt) {
+        Ok(words) => words,
+        Err(status) => return status,
     };
     let mut source = ReaderSource::new(rt.reader());
     let mut sink = WriterSink::new(io::writer(rt));
     run(rt, rt.alloc(), words.as_slice(), &mut source, &mut sink)
 }
 
-fn words_of(rt: &HostRuntime) -> io::Result<Vec<Text>> {
+/// The words after the program's name. One that is not UTF-8 is a bad word.
+fn words_of(rt: &HostRuntime) -> Result<Vec<Text>, Status> {
+    let args = match env::args(rt) {
+        Ok(args) => args,
+        Err(error) => return Err(without_words(error.kind())),
+    };
     let mut words = Vec::new(rt.alloc());
-    for word in env::args(rt)?.skip(1) {
+    for word in args.skip(1) {
         match Text::of(rt.alloc(), word.as_bytes()) {
             Ok(text) => words.push(text)?,
-            Err(_) => return Err(io::Error::from(io::ErrorKind::OutOfMemory)),
+            Err(_) => return Err(Status::NoMemory),
         }
     }
     Ok(words)
+}
+
+/// The status where the system's words could not be had.
+fn without_words(kind: io::ErrorKind) -> Status {
+    match kind {
+        io::ErrorKind::InvalidData => Status::Usage,
+        _ => Status::NoMemory,
+    }
 }
 
 /// Writes the line of a status.

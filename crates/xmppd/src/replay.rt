@@ -6,13 +6,14 @@ ghost use Rattle.house_model.specs.States.{State};
 ghost use Rattle.outside.specs.Devices.{Rose};
 ghost use Rattle.replay_script.specs.Scripts.{Makes};
 ghost use Rattle.xmppd.specs.Readings.{unread};
-ghost use Rattle.xmppd.specs.Runs.{Front, Replayed, Going, Taking, Opens, Plays, Opening, Turning, Ending, told};
+ghost use Rattle.xmppd.specs.Runs.{Replayed, Going, Taking, Opens, Plays, Opening, Turning, Ending, told};
 
 use crate::lines::{Reader, Taken};
+use crate::output::write_all;
 use crate::status::Status;
 use house_core::House;
 use house_model::{Event, Reply};
-use outside::{Put, Sink, Source};
+use outside::{Sink, Source};
 use replay_script::{LineFault, Step, print_reply, read_line};
 use stanza_tree::NoMemory;
 use std::alloc::Global;
@@ -86,7 +87,9 @@ fn house_of(alloc: Global, line: &[u8]) -> Result<House, LineFault>
             users,
             workers,
         } => Ok(House::new(alloc, &domain, users.slice(), workers)?),
-        Step::Event(_) => Err(LineFault::Bad),
+        Step::Event(_) | Step::Feed { .. } | Step::Fresh { .. } | Step::Other { .. } => {
+            Err(LineFault::Bad)
+        }
     }
 }
 
@@ -166,7 +169,8 @@ impl Player {
         self.print.clear();
         let event = match read_line(alloc, self.line.as_slice())? {
             Step::Event(event) => event,
-            Step::Begin { .. } => return Err(LineFault::Bad),
+            Step::Begin { .. } | Step::Feed { .. } | Step::Fresh { .. } | Step::Other { .. } =>
+                return Err(LineFault::Bad),
         };
         if line_of(&event) as usize >= self.house.workers() || !self.house.is_plain(&event) {
             return Err(LineFault::Bad);
@@ -215,25 +219,4 @@ fn enact(house: &mut House, event: &Event, frame: &mut Vec<u8>) -> Result<Reply,
         Event::Act { w, stanza, t } => house.act(*w, stanza, *t),
         Event::Pull { w, t } => Ok(house.pull(*w, *t, frame)),
     }
-}
-
-/// Writes all of these bytes.
-fn write_all<K: Sink>(sink: &mut K, bytes: &[u8]) -> Result<(), Status>
-    ensures falls { K.faults sink.old ≤ K.faults sink.new }
-    ensures failed { OnErr result (Rose (K.faults sink.old) (K.faults sink.new)) }
-    ensures told { IfErr result (λ s. s ≡ Status.WriteFault) }
-    ensures added { (taken : List ℕ) → K.took sink.old ≡ Some taken → OnOk result (K.took sink.new ≡ Some (taken ++ bytes.now)) }
-    ensures front { (taken : List ℕ) → K.took sink.old ≡ Some taken → OnErr result (Front taken bytes.now (K.took sink.new)) }
-{
-    let mut rest = bytes;
-    for _turn in 0..=bytes.len() {
-        if rest.is_empty() {
-            return Ok(());
-        }
-        match sink.write(rest) {
-            Put::Taken(count) => rest = &rest[count..],
-            Put::Failed => return Err(Status::WriteFault),
-        }
-    }
-    Ok(())
 }

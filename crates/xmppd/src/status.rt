@@ -2,6 +2,7 @@
 ghost use Rattle.std.specs.Prelude.{◌≡◌};
 
 use stanza_tree::NoMemory;
+use std::alloc::AllocFailed;
 
 /// The end of a run. Each has a number for the system, and all but `Done` a line for people.
 #[derive(Clone, Copy, Debug, PartialEq, Eq)]
@@ -24,8 +25,12 @@ pub enum Status {
 }
 
 impl Status {
+    ghost use Rattle.xmppd.specs.Statuses.{number_of};
+
     /// The number that the program ends with.
-    pub fn number(self) -> u8 {
+    pub fn number(self) -> u8
+        ensures { result ≡ number_of self }
+    {
         match self {
             Status::Done => 0,
             Status::Usage => 2,
@@ -45,6 +50,16 @@ impl From<NoMemory> for Status {
     ghost from_gives = { λ _ s. s ≡ status.NoMemory };
 
     fn from(_error: NoMemory) -> Status {
+        Status::NoMemory
+    }
+}
+
+impl<T: Drop> From<AllocFailed<T>> for Status {
+    ghost use Rattle.xmppd.specs.declared.status.Status.TheVariants as status;
+
+    ghost from_gives = { λ _ s. s ≡ status.NoMemory };
+
+    fn from(_error: AllocFailed<T>) -> Status {
         Status::NoMemory
     }
 }

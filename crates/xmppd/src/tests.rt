@@ -329,7 +329,7 @@ fn lines_and_stanzas_have_limits(rt: HostRuntime) -> Result<(), Fail> {
     Ok(())
 }
 
-// The one word `replay`, and no other words.
+// Words that are no command.
 #[test]
 fn other_words_are_no_command(rt: HostRuntime) -> Result<(), Fail> {
     let cases: [&[&[u8]]; 5] = [

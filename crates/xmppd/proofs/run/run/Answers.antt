@@ -1,7 +1,7 @@
 use Rattle.std.proofs.Common.{rules}
-use Rattle.std.specs.Prelude.{codes}
-use Rattle.xmppd.proofs.Words.{one_word}
+use Rattle.xmppd.proofs.Endings.{replay_unread}
 use Rattle.xmppd.proofs.run.run.Goals as goal
 
-pub returns-in-len1-clause-usage : goal.returns-in-len1-clause-usage
-returns-in-len1-clause-usage g c = λ other. absurd (other (one_word c.args.words.now c.command-item.result (codes "replay") (search rules) (search rules)))
+pub returns-in-Err-clause-replayed : goal.returns-in-Err-clause-replayed
+returns-in-Err-clause-replayed g c = λ is.
+    replay_unread c.args.words.now (g.S.Source.left c.args.source.now) (g.S.Source.left c.args.source.now) (g.K.Sink.took c.args.sink.now) c.in-Err.status (search rules) is

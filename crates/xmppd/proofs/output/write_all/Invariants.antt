@@ -1,6 +1,6 @@
 use Rattle.std.proofs.Common.{◌≡◌, ◌≤◌, ◌+◌, ◌++◌, List, ℕ, length}
 use Rattle.std.specs.Prelude.{Some}
-use Rattle.xmppd.proofs.replay.write_all.Given as goal
+use Rattle.xmppd.proofs.output.write_all.Given as goal
 
 abbrev pub invariant-loop-turn : goal.invariant-loop-turn
 invariant-loop-turn g l = record {

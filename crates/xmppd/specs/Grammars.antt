@@ -1,0 +1,35 @@
+-- What clap is told of the commands.
+use Rattle.std.specs.Prelude.{◌≡◌, ◌≢◌, ℕ, true, List, [], ◌∷◌, Option, Some, None, Result, Ok, Err, ⊤, codes}
+use Rattle.clap.specs.Words.{App, Kinds, Rule, new_app, new_rule, with_rule}
+use Rattle.clap.specs.declared.builder.action.ArgAction.TheVariants.{Set}
+use Rattle.xmppd.specs.declared.status.Status.{Status}
+use Rattle.xmppd.specs.declared.status.Status.TheVariants as status
+
+-- a command whose words come without its name, and that has neither help nor a version
+abbrev pub bare : List ℕ → App
+bare name = let app = new_app name in record app { top = record app.top { no_binary_name = true; disable_help_flag = true; disable_version_flag = true } }
+
+-- a positional word that must be there
+abbrev pub wanted : List ℕ → Rule
+wanted id = record (new_rule id) { required = true; action = Some Set }
+
+-- `account NAME SALT`
+abbrev pub account_grammar : App
+account_grammar = with_rule (with_rule (bare (codes "account")) (wanted (codes "NAME"))) (wanted (codes "SALT"))
+
+-- words were read without fault, or have a fault of one of these kinds; or there was no memory to read them
+abbrev pub Parses : {M : Type 0} → Kinds → Result M Status → Type 0
+Parses kinds (Ok m) = kinds ≡ []
+Parses kinds (Err status.Usage) = kinds ≢ []
+Parses kinds (Err status.NoMemory) = ⊤
+Parses kinds (Err status.Done) = ⊥
+Parses kinds (Err (status.Accounts line)) = ⊥
+Parses kinds (Err (status.Script line)) = ⊥
+Parses kinds (Err status.ReadFault) = ⊥
+Parses kinds (Err status.WriteFault) = ⊥
+Parses kinds (Err status.ListenFault) = ⊥
+
+-- two words
+abbrev pub pair_in : List (List ℕ) → Option (List ℕ × List ℕ)
+pair_in (first ∷ second ∷ []) = Some (first, second)
+pair_in _ = None
