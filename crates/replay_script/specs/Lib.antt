@@ -1,4 +1,5 @@
 pub mod Characters
+pub mod Deeds
 pub mod Lines
 pub mod Notices
 pub mod Numbers
@@ -6,3 +7,4 @@ pub mod Prints
 pub mod Readings
 pub mod Scripts
 pub mod Stanzas
+pub mod Valid

@@ -16,7 +16,7 @@ use Rattle.replay_script.specs.Characters.{is_token}
 use Rattle.replay_script.specs.Notices.{notice_of}
 use Rattle.replay_script.specs.Numbers.{number_of, line_number_of, dice_of, bytes_of}
 use Rattle.replay_script.specs.Readings.{on, cut}
-use Rattle.replay_script.specs.Stanzas.{stanza_in, headline_receiver}
+use Rattle.replay_script.specs.Stanzas.{stanza_in, is_headline, receiver_of}
 
 -- `open W`
 abbrev pub open_of : List ℕ → Option Event
@@ -127,16 +127,15 @@ feed_of text = cut text (λ w hex. on (line_number_of w) (λ w. on (bytes_of hex
 abbrev pub fresh_of : List ℕ → Option Step
 fresh_of text = on (line_number_of text) (λ w. Some (step.Fresh w))
 
--- a headline message to an address is an event, and every other stanza is told as it is
-abbrev pub step_to : ℕ → ℕ → Element → Option Address → Step
-step_to w t e (Some to) = step.Event (Act w (Message (Some to) Headline e) t)
-step_to w t e None = step.Other w t e
+-- a headline message is an event, and every other stanza is told as it is
+abbrev pub step_to : ℕ → ℕ → Element → Step
+step_to w t e = if is_headline e then step.Event (Act w (Message (receiver_of e) Headline e) t) else step.Other w t e
 
 -- `stanza W T XML`
 abbrev pub stanza_of : List ℕ → Option Step
 stanza_of text =
     cut text (λ w rest. on (line_number_of w) (λ w.
-    cut rest (λ t xml. on (number_of t) (λ t. on (stanza_in xml) (λ e. Some (step_to w t e (headline_receiver e)))))))
+    cut rest (λ t xml. on (number_of t) (λ t. on (stanza_in xml) (λ e. Some (step_to w t e))))))
 
 -- a line by its word
 abbrev pub step_by : List ℕ → List ℕ → Option Step

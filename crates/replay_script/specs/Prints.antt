@@ -1,9 +1,9 @@
 -- What is printed of a turn, and of an item of a stream: one line.
-use Rattle.std.specs.Prelude.{ℕ, List, [], ◌∷◌, ◌++◌, Bool, true, false, codes, flat_map}
+use Rattle.std.specs.Prelude.{ℕ, List, [], ◌∷◌, ◌++◌, Bool, true, false, codes}
 use Rattle.std.specs.Fmt.{decimal}
 use Rattle.house_model.specs.declared.reply.Reply.{Reply}
 use Rattle.house_model.specs.declared.reply.Reply.TheVariants.{Opened, Done, Bound, Frame, Nothing, Absent, Unready, NoUser}
-use Rattle.house_model.specs.Histories.{Outcome, Made, Short, Turn}
+use Rattle.house_model.specs.Histories.{Outcome, Made, Short}
 use Rattle.stanza_tree.specs.Spelling.{text}
 use Rattle.stream_frames.specs.declared.FrameFault.{FrameFault}
 use Rattle.stream_frames.specs.declared.FrameFault.TheVariants.{NotWellFormed, Restricted, BadPrefix, BadFormat, TooLong, TooDeep, TooManyAttrs, BadEncoding}
@@ -35,10 +35,6 @@ print_of NoUser text = line (codes "no user")
 abbrev pub print_outcome : Outcome → List ℕ
 print_outcome (Made reply text) = print_of reply text
 print_outcome Short = []
-
--- the lines of a history, one after another
-abbrev pub prints : List Turn → List ℕ
-prints h = flat_map (λ (x : Turn). print_outcome x.outcome) h
 
 -- Items of a stream.
 

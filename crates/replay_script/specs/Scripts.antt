@@ -6,9 +6,10 @@ use Rattle.house_model.specs.declared.event.Event.{Event}
 use Rattle.house_model.specs.States.{State, opening}
 use Rattle.house_model.specs.Keeping.{keep}
 use Rattle.house_model.specs.Plain.{is_plain}
-use Rattle.house_model.specs.Histories.{Turn, after, line_of, IsOpening, Legal}
+use Rattle.house_model.specs.Histories.{after, line_of, IsOpening, Legal}
 use Rattle.replay_script.specs.declared.step.Step.{Step}
 use Rattle.replay_script.specs.declared.step.Step.TheVariants as step
+use Rattle.replay_script.specs.Deeds.{Deed, AreDone, step_at, turns_of}
 use Rattle.replay_script.specs.Lines.{step_of}
 
 -- a byte before lines: it begins the first, and is a line of its own where it is a line feed
@@ -53,19 +54,17 @@ pub record Makes (text : List ℕ) (o : State) : Type 0 where
 abbrev pub step_in : List ℕ → Option Step
 step_in line = step_of (text_of line)
 
-abbrev pub step_at : Turn → Option Step
-step_at x = Some (step.Event x.event)
+-- the first line makes the house, and each later line is one deed
+abbrev pub Spells : List (List ℕ) → State → List Deed → Type 0
+Spells [] o ds = ds ≡ []
+Spells (first ∷ more) o ds = Makes (text_of first) o × (map step_in more ≡ map step_at ds)
 
--- the first line makes the house, and each later line is the event of one turn
-abbrev pub Spells : List (List ℕ) → State → List Turn → Type 0
-Spells [] o h = h ≡ []
-Spells (first ∷ more) o h = Makes (text_of first) o × (map step_in more ≡ map step_at h)
-
--- these lines were played: all are within the limits, and the turns are those of a legal history
-pub record IsPlayed (lines : List (List ℕ)) (o : State) (h : List Turn) : Type 0 where
+-- these lines were played: all are within the limits, each deed was done, and the turns are those of a legal history
+pub record IsPlayed (lines : List (List ℕ)) (o : State) (ds : List Deed) : Type 0 where
   pub starts : IsOpening o
-  pub legal : Legal o h
-  pub spelt : Spells lines o h
+  pub legal : Legal o (turns_of ds)
+  pub spelt : Spells lines o ds
+  pub done : AreDone o ds
   pub within : AreWithin 0 lines
 
 -- the event may come in this state: its line is there, and every case that it reaches is built
@@ -73,11 +72,19 @@ pub record IsPossible (st : State) (e : Event) : Type 0 where
   pub line : line_of e < st.workers
   pub plain : is_plain (keep st) e ≡ true
 
--- the line is no first line, or no later one after this history
-abbrev pub IsOutside : List (List ℕ) → State → List Turn → List ℕ → Type 0
-IsOutside [] o h line = (s : State) → Makes (text_of line) s → ⊥
-IsOutside (first ∷ more) o h line = (e : Event) → step_in line ≡ Some (step.Event e) → IsPossible (after o h) e → ⊥
+-- the step may come there; nothing is built of a stanza that is no headline message
+abbrev pub MayCome : State → Step → Type 0
+MayCome st (step.Begin domain users workers) = ⊥
+MayCome st (step.Event e) = IsPossible st e
+MayCome st (step.Feed w bytes) = w < st.workers
+MayCome st (step.Fresh w) = w < st.workers
+MayCome st (step.Other w t e) = ⊥
+
+-- the line is no first line, or no later one after these
+abbrev pub IsOutside : List (List ℕ) → State → List Deed → List ℕ → Type 0
+IsOutside [] o ds line = (s : State) → Makes (text_of line) s → ⊥
+IsOutside (first ∷ more) o ds line = (s : Step) → step_in line ≡ Some s → MayCome (after o (turns_of ds)) s → ⊥
 
 -- the line after these can't be played: it passes a limit, is of no grammar, or names what is not there or not built
-abbrev pub IsRefused : List (List ℕ) → State → List Turn → List ℕ → Type 0
-IsRefused lines o h line = (IsWithin (size_of lines) line → ⊥) ⊎ IsOutside lines o h line
+abbrev pub IsRefused : List (List ℕ) → State → List Deed → List ℕ → Type 0
+IsRefused lines o ds line = (IsWithin (size_of lines) line → ⊥) ⊎ IsOutside lines o ds line

@@ -69,7 +69,3 @@ address_if (Err fault) = None
 
 abbrev pub receiver_of : Element → Option Address
 receiver_of e = on (attr_of (codes "to") e.attrs) (λ text. address_if (address_of text))
-
--- to whom a headline message goes
-abbrev pub headline_receiver : Element → Option Address
-headline_receiver e = if is_headline e then receiver_of e else None

@@ -3,7 +3,7 @@ ghost use Rattle.std.specs.Prelude.{◌≡◌, ◌≤◌, length, IfOk};
 ghost use Rattle.stanza_tree.specs.Spelling.{text};
 ghost use Rattle.replay_script.specs.Lines.{StepFits, stanza_of};
 ghost use Rattle.replay_script.specs.Readings.{Gives};
-ghost use Rattle.replay_script.specs.Stanzas.{limits, client_header, in_client_stream, begins_with_tag, item_of, element_of, is_stanza, stanza_in, is_headline, headline_receiver};
+ghost use Rattle.replay_script.specs.Stanzas.{limits, client_header, in_client_stream, begins_with_tag, item_of, element_of, is_stanza, stanza_in, is_headline, receiver_of};
 
 use crate::fault::LineFault;
 use crate::fields::first_field;
@@ -36,17 +36,13 @@ pub(crate) fn read_stanza(alloc: Global, rest: &[u8]) -> Result<Step, LineFault>
     let (t, xml) = first_field(rest).ok_or(LineFault::Bad)?;
     let t = read_decimal(t).ok_or(LineFault::Bad)?;
     let element = stanza_in(alloc, xml)?;
-    match headline_receiver(alloc, &element)? {
-        Some(to) => {
-            let stanza = Stanza::Message {
-                to: Some(to),
-                form: MessageForm::Headline,
-                element,
-            };
-            Ok(Step::Event(Event::Act { w, stanza, t }))
-        }
-        None => Ok(Step::Other { w, t, element }),
+    if !is_headline(&element) {
+        return Ok(Step::Other { w, t, element });
     }
+    let to = receiver_of(alloc, &element)?;
+    let form = MessageForm::Headline;
+    let stanza = Stanza::Message { to, form, element };
+    Ok(Step::Event(Event::Act { w, stanza, t }))
 }
 
 /// The stanza that a text spells.
@@ -86,13 +82,10 @@ fn is_headline(element: &Element) -> bool
     }
 }
 
-/// To whom a headline message goes: None for one without an address that can be read, and for any other stanza.
-fn headline_receiver(alloc: Global, element: &Element) -> Result<Option<Jid>, NoMemory>
-    ensures { IfOk result (λ to. to ≡ headline_receiver element.now) }
+/// To whom a stanza goes: None for one without an address that can be read.
+fn receiver_of(alloc: Global, element: &Element) -> Result<Option<Jid>, NoMemory>
+    ensures { IfOk result (λ to. to ≡ receiver_of element.now) }
 {
-    if !is_headline(element) {
-        return Ok(None);
-    }
     let Some(value) = element.attr(b"to") else {
         return Ok(None);
     };

@@ -112,8 +112,8 @@ const STANZA_LINES: [(&[u8], &[u8]); 25] = [
         b"stanza 0 5 <message to='alice@example.org' type='chat'/>",
         b"other",
     ),
-    (b"stanza 0 5 <message type='headline'/>", b"other"),
-    (b"stanza 0 5 <message type='headline' to='@'/>", b"other"),
+    (b"stanza 0 5 <message type='headline'/>", b"event"),
+    (b"stanza 0 5 <message type='headline' to='@'/>", b"event"),
     (b"stanza 0 5 <presence/>", b"other"),
     (b"stanza 0 5 <iq><q xmlns='urn:x'/></iq>", b"other"),
     (

@@ -4,5 +4,7 @@ pub mod Feeds
 pub mod GrammarLemmas
 pub mod Passwords
 pub mod Plays
+pub mod StreamLemmas
 pub mod Takings
 pub mod TaskLemmas
+pub mod Valid

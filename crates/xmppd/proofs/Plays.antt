@@ -1,36 +1,51 @@
 -- A script's play goes on by a line, or stops there.
-use Rattle.std.proofs.Common.{◌≡◌, ℕ, suc, ◌+◌, ◌^◌, ◌<◌, ◌≤◌, List, [], ◌∷◌, ◌++◌, length, length-append, true, arith, refl, sym, ap, subst, ◌∙◌, append_assoc, append-nil, inl, inr}
+use Rattle.std.proofs.Common.{◌≡◌, ℕ, suc, ◌+◌, ◌^◌, ◌<◌, ◌≤◌, List, [], ◌∷◌, ◌++◌, length, length-append, arith, refl, sym, ap, subst, ◌∙◌, append_assoc, append-nil, inl, inr}
 use Rattle.std.specs.Prelude.{map, Option, Some, None}
 use Rattle.std.proofs.lemmas.List.{map-append}
 use Rattle.std.proofs.lemmas.Grind.{flat_map-append}
-use Rattle.house_model.specs.declared.event.Event.{Event}
 use Rattle.house_model.specs.States.{State, nowhere, opening}
 use Rattle.house_model.specs.Keeping.{Kept}
 use Rattle.house_model.specs.Plain.{is_plain}
-use Rattle.house_model.specs.Histories.{Turn, line_of, after, StandsFor}
+use Rattle.house_model.specs.Histories.{Turn, after, StandsFor}
 use Rattle.house_model.proofs.HearLaws.{all-hear}
 use Rattle.house_model.proofs.Turns.{turns-counted, lines-kept}
 use Rattle.replay_script.specs.declared.step.Step.{Step}
 use Rattle.replay_script.specs.declared.step.Step.TheVariants as step
 use Rattle.replay_script.specs.Lines.{step_of}
-use Rattle.replay_script.specs.Prints.{print_outcome, prints}
-use Rattle.replay_script.specs.Scripts.{Makes, Spells, AreWithin, IsWithin, IsPlayed, IsPossible, IsOutside, lines_of, size_of, step_in, step_at}
+use Rattle.replay_script.specs.Deeds.{Deed, Turned, Fed, Renewed, Framers, IsDone, AreDone, step_at, turn_in, turns_of, no_framers, framers_next, framers_after, print_deed, prints_from, prints}
+use Rattle.replay_script.specs.Scripts.{Makes, Spells, AreWithin, IsWithin, IsPlayed, MayCome, IsOutside, lines_of, size_of, step_in}
 use Rattle.xmppd.specs.declared.status.Status.{Status}
 use Rattle.xmppd.specs.declared.status.Status.TheVariants as status
 use Rattle.xmppd.specs.Readings.{TakesLine, Ends, unread}
-use Rattle.xmppd.specs.Runs.{Front, Replayed, Along, Going, Stopping, PlaysTurn}
+use Rattle.xmppd.specs.Runs.{Front, Replayed, Along, Going, Stopping, MayComeHere, PlaysLine}
 
 -- one line more
-spells-push : (lines : List (List ℕ)) (o : State) (h : List Turn) (line : List ℕ) (x : Turn) → 0 < length lines → Spells lines o h
-    → step_in line ≡ step_at x → Spells (lines ++ line ∷ []) o (h ++ x ∷ [])
-spells-push [] o h line x some spelt is = absurd (omega arith)
-spells-push (first ∷ more) o h line x some spelt is = (
+spells-push : (lines : List (List ℕ)) (o : State) (ds : List Deed) (line : List ℕ) (d : Deed) → 0 < length lines → Spells lines o ds
+    → step_in line ≡ step_at d → Spells (lines ++ line ∷ []) o (ds ++ d ∷ [])
+spells-push [] o ds line d some spelt is = absurd (omega arith)
+spells-push (first ∷ more) o ds line d some spelt is = (
   spelt.0,
   map-append step_in more (line ∷ [])
       ∙ ap (λ (s : Option Step). map step_in more ++ s ∷ []) is
-      ∙ ap (λ steps. steps ++ step_at x ∷ []) spelt.1
-      ∙ sym (map-append step_at h (x ∷ [])),
+      ∙ ap (λ steps. steps ++ step_at d ∷ []) spelt.1
+      ∙ sym (map-append step_at ds (d ∷ [])),
 )
+
+done-push : (o : State) (ds : List Deed) (d : Deed) → AreDone o ds → IsDone o d → AreDone o (ds ++ d ∷ [])
+done-push o [] d all one = (one, tt)
+done-push o (e ∷ ds) d all one = (all.0, done-push o ds d all.1 one)
+
+turns-push : (ds : List Deed) (d : Deed) → turns_of (ds ++ d ∷ []) ≡ turns_of ds ++ turn_in d
+turns-push ds d = flat_map-append turn_in ds (d ∷ []) ∙ ap (λ (h : List Turn). turns_of ds ++ h) (append-nil (turn_in d))
+
+framers-push : (fs : Framers) (ds : List Deed) (d : Deed) → framers_after fs (ds ++ d ∷ []) ≡ framers_next (framers_after fs ds) d
+framers-push fs [] d = refl
+framers-push fs (e ∷ ds) d = framers-push (framers_next fs e) ds d
+
+prints-push-from : (fs : Framers) (ds : List Deed) (d : Deed) → prints_from fs (ds ++ d ∷ []) ≡ prints_from fs ds ++ print_deed (framers_after fs ds) d
+prints-push-from fs [] d = append-nil (print_deed fs d)
+prints-push-from fs (e ∷ ds) d =
+    ap (λ bytes. print_deed fs e ++ bytes) (prints-push-from (framers_next fs e) ds d) ∙ sym (append_assoc (print_deed fs e) (prints_from (framers_next fs e) ds) (print_deed (framers_after (framers_next fs e) ds) d))
 
 within-push : (read : ℕ) (lines : List (List ℕ)) (line : List ℕ) → AreWithin read lines → IsWithin (read + size_of lines) line → AreWithin read (lines ++ line ∷ [])
 within-push read [] line within one = (subst (λ (n : ℕ). IsWithin n line) (omega arith) one, tt)
@@ -41,16 +56,17 @@ size-push : (lines : List (List ℕ)) (line : List ℕ) → size_of (lines ++ li
 size-push [] line = omega arith
 size-push (first ∷ more) line = omega (arith, size-push more line)
 
-prints-push : (h : List Turn) (x : Turn) → prints (h ++ x ∷ []) ≡ prints h ++ print_outcome x.outcome
-prints-push h x =
-    flat_map-append (λ (y : Turn). print_outcome y.outcome) h (x ∷ []) ∙ ap (λ bytes. prints h ++ bytes) (append-nil (print_outcome x.outcome))
+prints-push : (framers : Framers) (ds : List Deed) (d : Deed) → framers ≡ framers_after no_framers ds → prints (ds ++ d ∷ []) ≡ prints ds ++ print_deed framers d
+prints-push framers ds d is = prints-push-from no_framers ds d ∙ ap (λ (fs : Framers). prints ds ++ print_deed fs d) (sym is)
 
-pub along-on : (left coming coming_now : Option (List ℕ)) (given given_now : ℕ) (house house_now : Kept) (number : ℕ) (text out : List ℕ) (lines : List (List ℕ)) (start : State) (turns : List Turn)
-    → Along left coming given house number lines start turns → (t : TakesLine coming coming_now given given_now text) → (p : PlaysTurn house house_now text out)
-    → Along left coming_now given_now house_now (number + 1) (lines ++ t.line ∷ []) start (turns ++ p.turn ∷ [])
-along-on left coming coming_now given given_now house house_now number text out lines start turns a t p = record {
-  stands = p.stands start turns a.stands;
-  spelt = spells-push lines start turns t.line p.turn a.some a.spelt (ap step_of (sym t.text_is) ∙ p.spelt);
+pub along-on : (left coming coming_now : Option (List ℕ)) (given given_now : ℕ) (house house_now : Kept) (framers framers_now : Framers) (number : ℕ) (text out : List ℕ) (lines : List (List ℕ)) (start : State) (deeds : List Deed)
+    → Along left coming given house framers number lines start deeds → (t : TakesLine coming coming_now given given_now text) → (p : PlaysLine house house_now framers framers_now text out)
+    → Along left coming_now given_now house_now framers_now (number + 1) (lines ++ t.line ∷ []) start (deeds ++ p.plays.deed ∷ [])
+along-on left coming coming_now given given_now house house_now framers framers_now number text out lines start deeds a t p = record {
+  stands = subst (λ (h : List Turn). StandsFor start h house_now) (sym (turns-push deeds p.plays.deed)) (p.plays.stands start (turns_of deeds) a.stands);
+  framed = p.plays.framed ∙ (ap (λ (fs : Framers). framers_next fs p.plays.deed) a.framed ∙ sym (framers-push no_framers deeds p.plays.deed));
+  spelt = spells-push lines start deeds t.line p.plays.deed a.some a.spelt (ap step_of (sym t.text_is) ∙ (p.spelt ∙ p.plays.spelt));
+  done = done-push start deeds p.plays.deed a.done (p.plays.done start (turns_of deeds) a.stands);
   within = within-push 0 lines t.line a.within (subst (λ (n : ℕ). IsWithin n t.line) (a.size ∙ omega arith) t.within);
   some = omega (arith, length-append lines (t.line ∷ []));
   each = omega (arith, length-append lines (t.line ∷ []), a.each, t.given, t.some);
@@ -63,46 +79,52 @@ along-on left coming coming_now given given_now house house_now number text out 
       (next.0, (next.1.0, old.1.1 ∙ ap (λ more. lines ++ more) next.1.1 ∙ sym (append_assoc lines (t.line ∷ []) (lines_of next.0))));
 }
 
-pub turns-few : (left coming took took_now : Option (List ℕ)) (given : ℕ) (house : Kept) (number : ℕ) → Going left coming took took_now given house number → house.turns < 2 ^ 63
-turns-few left coming took took_now given house number g =
+pub turns-few : (left coming took took_now : Option (List ℕ)) (given : ℕ) (house : Kept) (framers : Framers) (number : ℕ) → Going left coming took took_now given house framers number → house.turns < 2 ^ 63
+turns-few left coming took took_now given house framers number g =
     let a = g.along in
-    let counted = turns-counted g.start g.turns house a.stands in
-    let few = length-spelt g.lines g.start g.turns a.spelt in
-    less house.turns (length g.turns) (length g.lines) given counted few a.each a.most
+    let counted = turns-counted g.start (turns_of g.deeds) house a.stands in
+    let few = length-spelt g.lines g.start g.deeds a.spelt in
+    less house.turns (length (turns_of g.deeds)) (length g.lines) given counted few a.each a.most
   where
     length-map : {X Y : Type 0} (f : X → Y) (xs : List X) → length (map f xs) ≡ length xs
     length-map f [] = refl
     length-map f (x ∷ more) = ap suc (length-map f more)
 
-    length-spelt : (lines : List (List ℕ)) (o : State) (h : List Turn) → Spells lines o h → length h ≤ length lines
-    length-spelt [] o h spelt = omega (arith, ap length spelt)
-    length-spelt (first ∷ more) o h spelt = omega (arith, ap length spelt.1, length-map step_in more, length-map step_at h)
+    turns-long : (ds : List Deed) → length (turns_of ds) ≤ length ds
+    turns-long [] = omega arith
+    turns-long (Turned x ∷ ds) = let e = turns-long ds in omega (arith, e)
+    turns-long (Fed w bytes ∷ ds) = let e = turns-long ds in omega (arith, e)
+    turns-long (Renewed w ∷ ds) = let e = turns-long ds in omega (arith, e)
+
+    length-spelt : (lines : List (List ℕ)) (o : State) (ds : List Deed) → Spells lines o ds → length (turns_of ds) ≤ length lines
+    length-spelt [] o ds spelt = omega (arith, ap length spelt, turns-long ds)
+    length-spelt (first ∷ more) o ds spelt = omega (arith, ap length spelt.1, length-map step_in more, length-map step_at ds, turns-long ds)
 
     less : (a b c d : ℕ) → a ≡ b → b ≤ c → c ≤ d → d ≤ 1073741824 → a < 2 ^ 63
     less a b c d same few each most = omega (arith, same, few, each, most)
 
 -- what was written once one more print was
-pub written-on : (took : Option (List ℕ)) (before now : Option (List ℕ)) (h : List Turn) (x : Turn) (out : List ℕ)
-    → ((taken : List ℕ) → took ≡ Some taken → before ≡ Some (taken ++ prints h)) → ((taken : List ℕ) → before ≡ Some taken → now ≡ Some (taken ++ out))
-    → out ≡ print_outcome x.outcome → (taken : List ℕ) → took ≡ Some taken → now ≡ Some (taken ++ prints (h ++ x ∷ []))
-written-on took before now h x out old added is taken told =
-    added (taken ++ prints h) (old taken told)
-    ∙ ap Some (append_assoc taken (prints h) out ∙ ap (λ bytes. taken ++ bytes) (ap (λ bytes. prints h ++ bytes) is ∙ sym (prints-push h x)))
+pub written-on : (took : Option (List ℕ)) (before now : Option (List ℕ)) (framers : Framers) (ds : List Deed) (d : Deed) (out : List ℕ) → framers ≡ framers_after no_framers ds
+    → ((taken : List ℕ) → took ≡ Some taken → before ≡ Some (taken ++ prints ds)) → ((taken : List ℕ) → before ≡ Some taken → now ≡ Some (taken ++ out))
+    → out ≡ print_deed framers d → (taken : List ℕ) → took ≡ Some taken → now ≡ Some (taken ++ prints (ds ++ d ∷ []))
+written-on took before now framers ds d out framed old added is taken told =
+    added (taken ++ prints ds) (old taken told)
+    ∙ ap Some (append_assoc taken (prints ds) out ∙ ap (λ bytes. taken ++ bytes) (ap (λ bytes. prints ds ++ bytes) is ∙ sym (prints-push framers ds d framed)))
 
-pub going-on : (left coming coming_now took before now : Option (List ℕ)) (given given_now : ℕ) (house house_now : Kept) (number : ℕ) (text out : List ℕ)
-    → Going left coming took before given house number → TakesLine coming coming_now given given_now text → PlaysTurn house house_now text out
-    → ((taken : List ℕ) → before ≡ Some taken → now ≡ Some (taken ++ out)) → Going left coming_now took now given_now house_now (number + 1)
-going-on left coming coming_now took before now given given_now house house_now number text out g t p added = record {
+pub going-on : (left coming coming_now took before now : Option (List ℕ)) (given given_now : ℕ) (house house_now : Kept) (framers framers_now : Framers) (number : ℕ) (text out : List ℕ)
+    → Going left coming took before given house framers number → TakesLine coming coming_now given given_now text → PlaysLine house house_now framers framers_now text out
+    → ((taken : List ℕ) → before ≡ Some taken → now ≡ Some (taken ++ out)) → Going left coming_now took now given_now house_now framers_now (number + 1)
+going-on left coming coming_now took before now given given_now house house_now framers framers_now number text out g t p added = record {
   lines = g.lines ++ t.line ∷ [];
   start = g.start;
-  turns = g.turns ++ p.turn ∷ [];
-  along = along-on left coming coming_now given given_now house house_now number text out g.lines g.start g.turns g.along t p;
-  written = written-on took before now g.turns p.turn out g.written added p.printed;
+  deeds = g.deeds ++ p.plays.deed ∷ [];
+  along = along-on left coming coming_now given given_now house house_now framers framers_now number text out g.lines g.start g.deeds g.along t p;
+  written = written-on took before now framers g.deeds p.plays.deed out g.along.framed g.written added p.plays.printed;
 }
 
-played : (left coming : Option (List ℕ)) (given : ℕ) (house : Kept) (number : ℕ) (lines : List (List ℕ)) (start : State) (turns : List Turn)
-    → Along left coming given house number lines start turns → IsPlayed lines start turns
-played left coming given house number lines start turns a = record { starts = a.stands.starts; legal = a.stands.legal; spelt = a.spelt; within = a.within }
+played : (left coming : Option (List ℕ)) (given : ℕ) (house : Kept) (framers : Framers) (number : ℕ) (lines : List (List ℕ)) (start : State) (deeds : List Deed)
+    → Along left coming given house framers number lines start deeds → IsPlayed lines start deeds
+played left coming given house framers number lines start deeds a = record { starts = a.stands.starts; legal = a.stands.legal; spelt = a.spelt; done = a.done; within = a.within }
 
 unread-none : (held : List ℕ) (o : Option (List ℕ)) → unread held o ≡ Some [] → o ≡ Some []
 unread-none held None h = absurd (cc)
@@ -118,14 +140,14 @@ unread-none (b ∷ more) (Some left) h = absurd (empty (b ∷ more ++ left) h)
     empty xs e = let n : 1 ≡ 0 = ap first e in omega (arith, n)
 
 -- the end of the script
-pub stop-done : (left coming : Option (List ℕ)) (held : List ℕ) (left_now took now : Option (List ℕ)) (given : ℕ) (house : Kept) (number : ℕ)
-    → Going left coming took now given house number → Ends coming (unread held left_now) → Replayed left left_now took now status.Done
-stop-done left coming held left_now took now given house number g ends = record {
+pub stop-done : (left coming : Option (List ℕ)) (held : List ℕ) (left_now took now : Option (List ℕ)) (given : ℕ) (house : Kept) (framers : Framers) (number : ℕ)
+    → Going left coming took now given house framers number → Ends coming (unread held left_now) → Replayed left left_now took now status.Done
+stop-done left coming held left_now took now given house framers number g ends = record {
   lines = g.lines;
   start = g.start;
-  turns = g.turns;
-  played = played left coming given house number g.lines g.start g.turns g.along;
-  heard = all-hear g.start g.turns g.along.stands.starts g.along.stands.legal;
+  deeds = g.deeds;
+  played = played left coming given house framers number g.lines g.start g.deeds g.along;
+  heard = all-hear g.start (turns_of g.deeds) g.along.stands.starts g.along.stands.legal;
   number = tt;
   read = λ all told.
       let old = g.along.read all told in
@@ -135,15 +157,15 @@ stop-done left coming held left_now took now given house number g ends = record 
 }
 
 -- no line could be taken
-pub stop-taking : (left coming left_now took now : Option (List ℕ)) (given : ℕ) (house : Kept) (number : ℕ) (s : Status)
-    → Going left coming took now given house number → Stopping s coming given number → Replayed left left_now took now s
-stop-taking left coming left_now took now given house number status.Done g stop = absurd stop
-stop-taking left coming left_now took now given house number (status.Script n) g stop = record {
+pub stop-taking : (left coming left_now took now : Option (List ℕ)) (given : ℕ) (house : Kept) (framers : Framers) (number : ℕ) (s : Status)
+    → Going left coming took now given house framers number → Stopping s coming given number → Replayed left left_now took now s
+stop-taking left coming left_now took now given house framers number status.Done g stop = absurd stop
+stop-taking left coming left_now took now given house framers number (status.Script n) g stop = record {
   lines = g.lines;
   start = g.start;
-  turns = g.turns;
-  played = played left coming given house number g.lines g.start g.turns g.along;
-  heard = all-hear g.start g.turns g.along.stands.starts g.along.stands.legal;
+  deeds = g.deeds;
+  played = played left coming given house framers number g.lines g.start g.deeds g.along;
+  heard = all-hear g.start (turns_of g.deeds) g.along.stands.starts g.along.stands.legal;
   number = stop.0 ∙ g.along.count;
   read = λ all told.
       let old = g.along.read all told in
@@ -151,47 +173,55 @@ stop-taking left coming left_now took now given house number (status.Script n) g
       (lines_of old.0, (old.1.1, (passes.0, (passes.1.0, (passes.1.1.0, inl (λ within. passes.1.1.1 (subst (λ (m : ℕ). IsWithin m passes.0) (sym g.along.size) within)))))));
   written = g.written;
 }
-stop-taking left coming left_now took now given house number status.ReadFault g stop = record {
+stop-taking left coming left_now took now given house framers number status.ReadFault g stop = record {
   lines = g.lines;
   start = g.start;
-  turns = g.turns;
-  played = played left coming given house number g.lines g.start g.turns g.along;
-  heard = all-hear g.start g.turns g.along.stands.starts g.along.stands.legal;
+  deeds = g.deeds;
+  played = played left coming given house framers number g.lines g.start g.deeds g.along;
+  heard = all-hear g.start (turns_of g.deeds) g.along.stands.starts g.along.stands.legal;
   number = tt;
   read = λ all told. let old = g.along.read all told in (lines_of old.0, (old.1.1, tt));
   written = g.written;
 }
-stop-taking left coming left_now took now given house number status.WriteFault g stop = absurd stop
-stop-taking left coming left_now took now given house number status.NoMemory g stop = record {
+stop-taking left coming left_now took now given house framers number status.WriteFault g stop = absurd stop
+stop-taking left coming left_now took now given house framers number status.NoMemory g stop = record {
   lines = g.lines;
   start = g.start;
-  turns = g.turns;
-  played = played left coming given house number g.lines g.start g.turns g.along;
-  heard = all-hear g.start g.turns g.along.stands.starts g.along.stands.legal;
+  deeds = g.deeds;
+  played = played left coming given house framers number g.lines g.start g.deeds g.along;
+  heard = all-hear g.start (turns_of g.deeds) g.along.stands.starts g.along.stands.legal;
   number = tt;
   read = λ all told. let old = g.along.read all told in (lines_of old.0, (old.1.1, tt));
   written = g.written;
 }
-stop-taking left coming left_now took now given house number status.Usage g stop = absurd stop
-stop-taking left coming left_now took now given house number (status.Accounts n) g stop = absurd stop
-stop-taking left coming left_now took now given house number status.ListenFault g stop = absurd stop
+stop-taking left coming left_now took now given house framers number status.Usage g stop = absurd stop
+stop-taking left coming left_now took now given house framers number (status.Accounts n) g stop = absurd stop
+stop-taking left coming left_now took now given house framers number status.ListenFault g stop = absurd stop
 
-outside-later : (lines : List (List ℕ)) (o : State) (h : List Turn) (line : List ℕ) → 0 < length lines
-    → ((e : Event) → step_in line ≡ Some (step.Event e) → IsPossible (after o h) e → ⊥) → IsOutside lines o h line
-outside-later [] o h line some never = absurd (omega arith)
-outside-later (first ∷ more) o h line some never = never
+outside-later : (lines : List (List ℕ)) (o : State) (ds : List Deed) (line : List ℕ) → 0 < length lines
+    → ((s : Step) → step_in line ≡ Some s → MayCome (after o (turns_of ds)) s → ⊥) → IsOutside lines o ds line
+outside-later [] o ds line some never = absurd (omega arith)
+outside-later (first ∷ more) o ds line some never = never
+
+-- what may come by the machine may come by what is kept
+may-come : (o : State) (h : List Turn) (house : Kept) (s : Step) → StandsFor o h house → MayCome (after o h) s → MayComeHere house s
+may-come o h house (step.Begin domain users workers) stands may = may
+may-come o h house (step.Event e) stands may = (omega (arith, may.line, lines-kept o h house stands), ap (λ (k : Kept). is_plain k e) stands.kept ∙ may.plain)
+may-come o h house (step.Feed w bytes) stands may = omega (arith, may, lines-kept o h house stands)
+may-come o h house (step.Fresh w) stands may = omega (arith, may, lines-kept o h house stands)
+may-come o h house (step.Other w t e) stands may = may
 
 -- the line can't be played
-pub stop-bad : (left coming coming_now left_now took now : Option (List ℕ)) (given given_now : ℕ) (house : Kept) (number : ℕ) (text : List ℕ)
-    → Going left coming took now given house number → TakesLine coming coming_now given given_now text
-    → ((e : Event) → step_of text ≡ Some (step.Event e) → line_of e < length house.lines → is_plain house e ≡ true → ⊥)
+pub stop-bad : (left coming coming_now left_now took now : Option (List ℕ)) (given given_now : ℕ) (house : Kept) (framers : Framers) (number : ℕ) (text : List ℕ)
+    → Going left coming took now given house framers number → TakesLine coming coming_now given given_now text
+    → ((s : Step) → step_of text ≡ Some s → MayComeHere house s → ⊥)
     → Replayed left left_now took now (status.Script number)
-stop-bad left coming coming_now left_now took now given given_now house number text g t never = record {
+stop-bad left coming coming_now left_now took now given given_now house framers number text g t never = record {
   lines = g.lines;
   start = g.start;
-  turns = g.turns;
-  played = played left coming given house number g.lines g.start g.turns g.along;
-  heard = all-hear g.start g.turns g.along.stands.starts g.along.stands.legal;
+  deeds = g.deeds;
+  played = played left coming given house framers number g.lines g.start g.deeds g.along;
+  heard = all-hear g.start (turns_of g.deeds) g.along.stands.starts g.along.stands.legal;
   number = g.along.count;
   read = λ all told.
       let old = g.along.read all told in
@@ -205,10 +235,8 @@ stop-bad left coming coming_now left_now took now given given_now house number t
               lines_of first.0,
               (
                 first.1.1,
-                inr (outside-later g.lines g.start g.turns t.line g.along.some (λ e is possible.
-                    never e (ap step_of t.text_is ∙ is)
-                    (omega (arith, possible.line, lines-kept g.start g.turns house g.along.stands))
-                    (ap (λ (k : Kept). is_plain k e) g.along.stands.kept ∙ possible.plain))),
+                inr (outside-later g.lines g.start g.deeds t.line g.along.some (λ s is may.
+                    never s (ap step_of t.text_is ∙ is) (may-come g.start (turns_of g.deeds) house s g.along.stands may))),
               ),
             ),
           ),
@@ -218,37 +246,37 @@ stop-bad left coming coming_now left_now took now given given_now house number t
 }
 
 -- memory was wanting
-pub stop-short : (left coming left_now took now : Option (List ℕ)) (given : ℕ) (house : Kept) (number : ℕ)
-    → Going left coming took now given house number → Replayed left left_now took now status.NoMemory
-stop-short left coming left_now took now given house number g = stop-taking left coming left_now took now given house number status.NoMemory g tt
+pub stop-short : (left coming left_now took now : Option (List ℕ)) (given : ℕ) (house : Kept) (framers : Framers) (number : ℕ)
+    → Going left coming took now given house framers number → Replayed left left_now took now status.NoMemory
+stop-short left coming left_now took now given house framers number g = stop-taking left coming left_now took now given house framers number status.NoMemory g tt
 
 -- the print of a turn was written in part
-pub stop-writing : (left coming coming_now left_now took before now : Option (List ℕ)) (given given_now : ℕ) (house house_now : Kept) (number : ℕ) (text out : List ℕ)
-    → Going left coming took before given house number → TakesLine coming coming_now given given_now text → PlaysTurn house house_now text out
+pub stop-writing : (left coming coming_now left_now took before now : Option (List ℕ)) (given given_now : ℕ) (house house_now : Kept) (framers framers_now : Framers) (number : ℕ) (text out : List ℕ)
+    → Going left coming took before given house framers number → TakesLine coming coming_now given given_now text → PlaysLine house house_now framers framers_now text out
     → ((taken : List ℕ) → before ≡ Some taken → Front taken out now) → Replayed left left_now took now status.WriteFault
-stop-writing left coming coming_now left_now took before now given given_now house house_now number text out g t p front = record {
+stop-writing left coming coming_now left_now took before now given given_now house house_now framers framers_now number text out g t p front = record {
   lines = g.lines ++ t.line ∷ [];
   start = g.start;
-  turns = g.turns ++ p.turn ∷ [];
-  played = played left coming_now given_now house_now (number + 1) (g.lines ++ t.line ∷ []) g.start (g.turns ++ p.turn ∷ [])
-      (along-on left coming coming_now given given_now house house_now number text out g.lines g.start g.turns g.along t p);
+  deeds = g.deeds ++ p.plays.deed ∷ [];
+  played = played left coming_now given_now house_now framers_now (number + 1) (g.lines ++ t.line ∷ []) g.start (g.deeds ++ p.plays.deed ∷ [])
+      (along-on left coming coming_now given given_now house house_now framers framers_now number text out g.lines g.start g.deeds g.along t p);
   heard =
-      let next = along-on left coming coming_now given given_now house house_now number text out g.lines g.start g.turns g.along t p in
-      all-hear g.start (g.turns ++ p.turn ∷ []) next.stands.starts next.stands.legal;
+      let next = along-on left coming coming_now given given_now house house_now framers framers_now number text out g.lines g.start g.deeds g.along t p in
+      all-hear g.start (turns_of (g.deeds ++ p.plays.deed ∷ [])) next.stands.starts next.stands.legal;
   number = tt;
   read = λ all told.
-      let old = (along-on left coming coming_now given given_now house house_now number text out g.lines g.start g.turns g.along t p).read all told in
+      let old = (along-on left coming coming_now given given_now house house_now framers framers_now number text out g.lines g.start g.deeds g.along t p).read all told in
       (lines_of old.0, (old.1.1, tt));
   written = λ taken told.
-      let part = front (taken ++ prints g.turns) (g.written taken told) in (
-        prints g.turns ++ part.0,
+      let part = front (taken ++ prints g.deeds) (g.written taken told) in (
+        prints g.deeds ++ part.0,
         (
           part.1.0,
           (
-            prints-push g.turns p.turn
-                ∙ ap (λ bytes. prints g.turns ++ bytes) (sym p.printed ∙ part.1.1.0)
-                ∙ sym (append_assoc (prints g.turns) part.0 part.1.0),
-            part.1.1.1 ∙ ap Some (append_assoc taken (prints g.turns) part.0),
+            prints-push framers g.deeds p.plays.deed g.along.framed
+                ∙ ap (λ bytes. prints g.deeds ++ bytes) (sym p.plays.printed ∙ part.1.1.0)
+                ∙ sym (append_assoc (prints g.deeds) part.0 part.1.0),
+            part.1.1.1 ∙ ap Some (append_assoc taken (prints g.deeds) part.0),
           ),
         ),
       );
@@ -260,7 +288,7 @@ unread-nil None = refl
 unread-nil (Some left) = refl
 
 none-played : IsPlayed [] (opening nowhere [] 0) []
-none-played = record { starts = (nowhere, [], 0, refl); legal = tt; spelt = refl; within = tt }
+none-played = record { starts = (nowhere, [], 0, refl); legal = tt; spelt = refl; done = tt; within = tt }
 
 none-written : (took : Option (List ℕ)) (taken : List ℕ) → took ≡ Some taken → took ≡ Some (taken ++ [])
 none-written took taken told = told ∙ ap Some (sym (append-nil taken))
@@ -269,7 +297,7 @@ pub first-done : (left left_now took : Option (List ℕ)) (held : List ℕ) → 
 first-done left left_now took held ends = record {
   lines = [];
   start = opening nowhere [] 0;
-  turns = [];
+  deeds = [];
   played = none-played;
   heard = all-hear (opening nowhere [] 0) [] none-played.starts none-played.legal;
   number = tt;
@@ -284,7 +312,7 @@ first-taking left left_now took status.Done stop = absurd stop
 first-taking left left_now took (status.Script n) stop = record {
   lines = [];
   start = opening nowhere [] 0;
-  turns = [];
+  deeds = [];
   played = none-played;
   heard = all-hear (opening nowhere [] 0) [] none-played.starts none-played.legal;
   number = stop.0;
@@ -296,7 +324,7 @@ first-taking left left_now took (status.Script n) stop = record {
 first-taking left left_now took status.ReadFault stop = record {
   lines = [];
   start = opening nowhere [] 0;
-  turns = [];
+  deeds = [];
   played = none-played;
   heard = all-hear (opening nowhere [] 0) [] none-played.starts none-played.legal;
   number = tt;
@@ -307,7 +335,7 @@ first-taking left left_now took status.WriteFault stop = absurd stop
 first-taking left left_now took status.NoMemory stop = record {
   lines = [];
   start = opening nowhere [] 0;
-  turns = [];
+  deeds = [];
   played = none-played;
   heard = all-hear (opening nowhere [] 0) [] none-played.starts none-played.legal;
   number = tt;
@@ -323,7 +351,7 @@ pub first-bad : (left coming_now left_now took : Option (List ℕ)) (given_now :
 first-bad left coming_now left_now took given_now text t never = record {
   lines = [];
   start = opening nowhere [] 0;
-  turns = [];
+  deeds = [];
   played = none-played;
   heard = all-hear (opening nowhere [] 0) [] none-played.starts none-played.legal;
   number = refl;
@@ -337,14 +365,16 @@ pub first-short : (left left_now took : Option (List ℕ)) → Replayed left lef
 first-short left left_now took = first-taking left left_now took status.NoMemory tt
 
 pub first-going : (left coming_now took : Option (List ℕ)) (given_now : ℕ) (text : List ℕ) (house : Kept) (o : State)
-    → TakesLine (unread [] left) coming_now 0 given_now text → Makes text o → StandsFor o [] house → Going left coming_now took took given_now house 2
+    → TakesLine (unread [] left) coming_now 0 given_now text → Makes text o → StandsFor o [] house → Going left coming_now took took given_now house no_framers 2
 first-going left coming_now took given_now text house o t makes stands = record {
   lines = t.line ∷ [];
   start = o;
-  turns = [];
+  deeds = [];
   along = record {
     stands = stands;
+    framed = refl;
     spelt = (subst (λ x. Makes x o) t.text_is makes, refl);
+    done = tt;
     within = (t.within, tt);
     some = omega arith;
     each = omega (arith, t.given, t.some);

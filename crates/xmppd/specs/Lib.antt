@@ -4,3 +4,4 @@ pub mod Grammars
 pub mod Readings
 pub mod Runs
 pub mod Statuses
+pub mod Streams

@@ -7,18 +7,19 @@ use Rattle.house_model.specs.Keeping.{Kept}
 use Rattle.house_model.specs.Plain.{is_plain}
 use Rattle.house_model.specs.Frames.{AllHear}
 use Rattle.house_model.specs.Histories.{Turn, made, short, line_of, StandsFor}
+use Rattle.replay_script.specs.declared.step.Step.{Step}
 use Rattle.replay_script.specs.declared.step.Step.TheVariants as step
 use Rattle.replay_script.specs.declared.fault.LineFault.{LineFault}
 use Rattle.replay_script.specs.declared.fault.LineFault.TheVariants.{Bad, NoMemory}
 use Rattle.replay_script.specs.Lines.{step_of}
-use Rattle.replay_script.specs.Prints.{print_outcome, prints}
+use Rattle.replay_script.specs.Deeds.{Deed, Framers, IsDone, AreDone, step_at, turn_in, turns_of, no_framers, framers_next, framers_after, print_deed, prints}
 use Rattle.replay_script.specs.Scripts.{Makes, Spells, AreWithin, IsPlayed, IsRefused, lines_of, size_of}
 use Rattle.xmppd.specs.declared.status.Status.{Status}
 use Rattle.xmppd.specs.declared.status.Status.TheVariants as status
 use Rattle.xmppd.specs.Readings.{TakesLine, PassesLimit, Ends}
 
 -- where a script's play stops: at its end, or at the line after those that were played
-abbrev pub StopsAt : Status → List (List ℕ) → State → List Turn → List (List ℕ) → Option (List ℕ) → Type 0
+abbrev pub StopsAt : Status → List (List ℕ) → State → List Deed → List (List ℕ) → Option (List ℕ) → Type 0
 StopsAt status.Done lines o h more left = (more ≡ []) × (left ≡ Some [])
 StopsAt (status.Script n) lines o h more left = (line : List ℕ) × ((rest : List (List ℕ)) × ((more ≡ line ∷ rest) × IsRefused lines o h line))
 StopsAt status.ReadFault lines o h more left = ⊤
@@ -56,23 +57,26 @@ IsWritten status.Usage taken prints now = ⊥
 IsWritten (status.Accounts n) taken prints now = ⊥
 IsWritten status.ListenFault taken prints now = ⊥
 
--- A script was played. The first lines of what the source had left are these turns of a legal history, what follows them says why
--- the play stopped there, what the sink took since are their prints, and each connection pulled its session's frames in order.
+-- A script was played. The first lines of what the source had left are these deeds, whose turns are a legal history; what follows
+-- them says why the play stopped there, what the sink took since are their prints, and each connection pulled its session's frames
+-- in order.
 pub record Replayed (left left_now took took_now : Option (List ℕ)) (s : Status) : Type 0 where
   pub lines : List (List ℕ)
   pub start : State
-  pub turns : List Turn
-  pub played : IsPlayed lines start turns
-  pub heard : AllHear start turns
+  pub deeds : List Deed
+  pub played : IsPlayed lines start deeds
+  pub heard : AllHear start (turns_of deeds)
   pub number : IsNumbered s (length lines)
-  pub read : (all : List ℕ) → left ≡ Some all → (more : List (List ℕ)) × ((lines_of all ≡ lines ++ more) × StopsAt s lines start turns more left_now)
-  pub written : (taken : List ℕ) → took ≡ Some taken → IsWritten s taken (prints turns) took_now
+  pub read : (all : List ℕ) → left ≡ Some all → (more : List (List ℕ)) × ((lines_of all ≡ lines ++ more) × StopsAt s lines start deeds more left_now)
+  pub written : (taken : List ℕ) → took ≡ Some taken → IsWritten s taken (prints deeds) took_now
 
--- These lines were played as these turns, for which the house stands; what is still to come are the lines after them, and `number` is the
--- next one's.
-pub record Along (left coming : Option (List ℕ)) (given : ℕ) (house : Kept) (number : ℕ) (lines : List (List ℕ)) (start : State) (turns : List Turn) : Type 0 where
-  pub stands : StandsFor start turns house
-  pub spelt : Spells lines start turns
+-- These lines were played as these deeds, for whose turns the house stands; what is still to come are the lines after them, and `number`
+-- is the next one's.
+pub record Along (left coming : Option (List ℕ)) (given : ℕ) (house : Kept) (framers : Framers) (number : ℕ) (lines : List (List ℕ)) (start : State) (deeds : List Deed) : Type 0 where
+  pub stands : StandsFor start (turns_of deeds) house
+  pub framed : framers ≡ framers_after no_framers deeds
+  pub spelt : Spells lines start deeds
+  pub done : AreDone start deeds
   pub within : AreWithin 0 lines
   pub some : 0 < length lines
   pub each : length lines ≤ given
@@ -82,12 +86,12 @@ pub record Along (left coming : Option (List ℕ)) (given : ℕ) (house : Kept) 
   pub read : (all : List ℕ) → left ≡ Some all → (rest : List ℕ) × ((coming ≡ Some rest) × (lines_of all ≡ lines ++ lines_of rest))
 
 -- and their prints were written
-pub record Going (left coming took took_now : Option (List ℕ)) (given : ℕ) (house : Kept) (number : ℕ) : Type 0 where
+pub record Going (left coming took took_now : Option (List ℕ)) (given : ℕ) (house : Kept) (framers : Framers) (number : ℕ) : Type 0 where
   pub lines : List (List ℕ)
   pub start : State
-  pub turns : List Turn
-  pub along : Along left coming given house number lines start turns
-  pub written : (taken : List ℕ) → took ≡ Some taken → took_now ≡ Some (taken ++ prints turns)
+  pub deeds : List Deed
+  pub along : Along left coming given house framers number lines start deeds
+  pub written : (taken : List ℕ) → took ≡ Some taken → took_now ≡ Some (taken ++ prints deeds)
 
 -- what came of taking a line: one, or none, or why none could be
 abbrev pub Stopping : Status → Option (List ℕ) → ℕ → ℕ → Type 0
@@ -109,17 +113,37 @@ Taking old now before after text number (Err s) = Stopping s old before number
 abbrev pub Opens : List ℕ → Kept → Type 0
 Opens text house = (o : State) × (Makes text o × StandsFor o [] house)
 
--- a line was played as a turn, and this is its print; or it is none that the house can play
-pub record PlaysTurn (before after : Kept) (text out : List ℕ) : Type 0 where
-  pub turn : Turn
-  pub spelt : step_of text ≡ Some (step.Event turn.event)
-  pub stands : (o : State) (h : List Turn) → StandsFor o h before → StandsFor o (h ++ turn ∷ []) after
-  pub printed : out ≡ print_outcome turn.outcome
+-- a step was played as a deed, and this is its print; or it is none that can be played here
+pub record PlaysDeed (before after : Kept) (framers framers_now : Framers) (s : Step) (out : List ℕ) : Type 0 where
+  pub deed : Deed
+  pub spelt : Some s ≡ step_at deed
+  pub done : (o : State) (h : List Turn) → StandsFor o h before → IsDone o deed
+  pub stands : (o : State) (h : List Turn) → StandsFor o h before → StandsFor o (h ++ turn_in deed) after
+  pub framed : framers_now ≡ framers_next framers deed
+  pub printed : out ≡ print_deed framers deed
 
-abbrev pub Plays : {X : Type 0} → Kept → Kept → List ℕ → List ℕ → Result X LineFault → Type 0
-Plays before after text out (Ok x) = PlaysTurn before after text out
-Plays before after text out (Err Bad) = (e : Event) → step_of text ≡ Some (step.Event e) → line_of e < length before.lines → is_plain before e ≡ true → ⊥
-Plays before after text out (Err NoMemory) = ⊤
+abbrev pub MayComeHere : Kept → Step → Type 0
+MayComeHere house (step.Begin domain users workers) = ⊥
+MayComeHere house (step.Event e) = (line_of e < length house.lines) × (is_plain house e ≡ true)
+MayComeHere house (step.Feed w bytes) = w < length house.lines
+MayComeHere house (step.Fresh w) = w < length house.lines
+MayComeHere house (step.Other w t e) = ⊥
+
+abbrev pub PlaysStep : {X : Type 0} → Kept → Kept → Framers → Framers → Step → List ℕ → Result X LineFault → Type 0
+PlaysStep before after framers framers_now s out (Ok x) = PlaysDeed before after framers framers_now s out
+PlaysStep before after framers framers_now s out (Err Bad) = MayComeHere before s → ⊥
+PlaysStep before after framers framers_now s out (Err NoMemory) = ⊤
+
+-- a line was played so
+pub record PlaysLine (before after : Kept) (framers framers_now : Framers) (text out : List ℕ) : Type 0 where
+  pub step_is : Step
+  pub spelt : step_of text ≡ Some step_is
+  pub plays : PlaysDeed before after framers framers_now step_is out
+
+abbrev pub Plays : {X : Type 0} → Kept → Kept → Framers → Framers → List ℕ → List ℕ → Result X LineFault → Type 0
+Plays before after framers framers_now text out (Ok x) = PlaysLine before after framers framers_now text out
+Plays before after framers framers_now text out (Err Bad) = (s : Step) → step_of text ≡ Some s → MayComeHere before s → ⊥
+Plays before after framers framers_now text out (Err NoMemory) = ⊤
 
 -- the turn of an event: what was answered and the text of a frame, or nothing for want of memory
 abbrev pub told : {E : Type 0} → Event → Result Reply E → List ℕ → Turn
@@ -128,15 +152,15 @@ told e (Err fault) text = short e
 
 -- what came of the first line
 abbrev pub Opening : Option (List ℕ) → Option (List ℕ) → Option (List ℕ) → Option (List ℕ) → ℕ → Result (Option Kept) Status → Type 0
-Opening left coming left_now took given (Ok (Some house)) = Going left coming took took given house 2
+Opening left coming left_now took given (Ok (Some house)) = Going left coming took took given house no_framers 2
 Opening left coming left_now took given (Ok None) = Replayed left left_now took took status.Done
 Opening left coming left_now took given (Err s) = Replayed left left_now took took s
 
 -- what came of a turn of the play
-abbrev pub Turning : Option (List ℕ) → Option (List ℕ) → Option (List ℕ) → Option (List ℕ) → Option (List ℕ) → ℕ → Kept → ℕ → Result Bool Status → Type 0
-Turning left coming left_now took took_now given house number (Ok true) = Going left coming took took_now given house (number + 1)
-Turning left coming left_now took took_now given house number (Ok false) = Replayed left left_now took took_now status.Done
-Turning left coming left_now took took_now given house number (Err s) = Replayed left left_now took took_now s
+abbrev pub Turning : Option (List ℕ) → Option (List ℕ) → Option (List ℕ) → Option (List ℕ) → Option (List ℕ) → ℕ → Kept → Framers → ℕ → Result Bool Status → Type 0
+Turning left coming left_now took took_now given house framers number (Ok true) = Going left coming took took_now given house framers (number + 1)
+Turning left coming left_now took took_now given house framers number (Ok false) = Replayed left left_now took took_now status.Done
+Turning left coming left_now took took_now given house framers number (Err s) = Replayed left left_now took took_now s
 
 abbrev pub Ending : {X : Type 0} → Option (List ℕ) → Option (List ℕ) → Option (List ℕ) → Option (List ℕ) → Result X Status → Type 0
 Ending left left_now took took_now (Ok x) = Replayed left left_now took took_now status.Done

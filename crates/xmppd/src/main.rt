@@ -7,10 +7,14 @@ mod account_tests;
 mod laws;
 mod lines;
 mod output;
+mod place;
 mod replay;
 mod run;
 mod standard;
 mod status;
+#[cfg(test)]
+mod stream_tests;
+mod streams;
 #[cfg(test)]
 mod tests;
 mod words;

@@ -4,13 +4,18 @@ ghost use Rattle.house_model.specs.Histories.{Meets, StandsFor, Turn, line_of};
 ghost use Rattle.house_model.specs.Plain.{is_plain};
 ghost use Rattle.house_model.specs.States.{State};
 ghost use Rattle.outside.specs.Devices.{Rose};
+ghost use Rattle.replay_script.specs.Deeds.{no_framers};
+ghost use Rattle.replay_script.specs.Lines.{StepFits};
 ghost use Rattle.replay_script.specs.Scripts.{Makes};
+ghost use Rattle.replay_script.specs.declared.step.Step.TheVariants as step;
+ghost use Rattle.xmppd.specs.Streams.{framers_of};
 ghost use Rattle.xmppd.specs.Readings.{unread};
-ghost use Rattle.xmppd.specs.Runs.{Replayed, Going, Taking, Opens, Plays, Opening, Turning, Ending, told};
+ghost use Rattle.xmppd.specs.Runs.{Replayed, Going, Taking, Opens, Plays, PlaysStep, Opening, Turning, Ending, told};
 
 use crate::lines::{Reader, Taken};
 use crate::output::write_all;
 use crate::status::Status;
+use crate::streams::Streams;
 use house_core::House;
 use house_model::{Event, Reply};
 use outside::{Sink, Source};
@@ -112,10 +117,11 @@ fn take<S: Source>(
     }
 }
 
-/// The house of a play, and room for a line, a frame and a print.
+/// The house of a play and its framers, and room for a line, a frame and a print.
 #[derive(Drop)]
 struct Player {
     house: House,
+    streams: Streams,
     line: Vec<u8>,
     frame: Vec<u8>,
     print: Vec<u8>,
@@ -123,10 +129,12 @@ struct Player {
 
 impl Player {
     fn new(alloc: Global, house: House) -> Player
-        ensures { result.house ≡ house }
+        ensures house { result.house ≡ house }
+        ensures streams { framers_of result.streams.places.items ≡ no_framers }
     {
         Player {
             house,
+            streams: Streams::new(alloc),
             line: Vec::new(alloc),
             frame: Vec::new(alloc),
             print: Vec::new(alloc),
@@ -147,7 +155,7 @@ impl Player {
         ensures sink_falls { K.faults sink.old ≤ K.faults sink.new }
         ensures read { IfErr result (λ s. s ≡ Status.ReadFault → Rose (S.faults source.old) (S.faults source.new)) }
         ensures written { IfErr result (λ s. s ≡ Status.WriteFault → Rose (K.faults sink.old) (K.faults sink.new)) }
-        ensures turns { (left took : Option (List ℕ)) → Going left (unread reader.old.held (S.left source.old)) took (K.took sink.old) reader.old.given self.old.house number → Turning left (unread reader.new.held (S.left source.new)) (S.left source.new) took (K.took sink.new) reader.new.given self.new.house number result }
+        ensures turns { (left took : Option (List ℕ)) → Going left (unread reader.old.held (S.left source.old)) took (K.took sink.old) reader.old.given self.old.house (framers_of self.old.streams.places.items) number → Turning left (unread reader.new.held (S.left source.new)) (S.left source.new) took (K.took sink.new) reader.new.given self.new.house (framers_of self.new.streams.places.items) number result }
     {
         if !take(reader, source, &mut self.line, number)? {
             return Ok(false);
@@ -161,23 +169,56 @@ impl Player {
         Ok(true)
     }
 
-    /// Plays the line: the house takes its event, and the print is that of the reply.
+    /// Plays the line, and makes its print.
     fn play(&mut self, alloc: Global) -> Result<(), LineFault>
         requires { self.old.house.turns < 2 ^ 63 }
-        ensures { Plays self.old.house self.new.house self.old.line.items self.new.print.items result }
+        ensures { Plays self.old.house self.new.house (framers_of self.old.streams.places.items) (framers_of self.new.streams.places.items) self.old.line.items self.new.print.items result }
+    {
+        let step = read_line(alloc, self.line.as_slice())?;
+        self.take_step(step)
+    }
+
+    /// Takes a step: the house its event, or a framer its bytes.
+    fn take_step(&mut self, step: Step) -> Result<(), LineFault>
+        requires turns { self.old.house.turns < 2 ^ 63 }
+        requires fits { StepFits step }
+        ensures { PlaysStep self.old.house self.new.house (framers_of self.old.streams.places.items) (framers_of self.new.streams.places.items) step self.new.print.items result }
     {
         self.print.clear();
-        let event = match read_line(alloc, self.line.as_slice())? {
-            Step::Event(event) => event,
-            Step::Begin { .. } | Step::Feed { .. } | Step::Fresh { .. } | Step::Other { .. } =>
-                return Err(LineFault::Bad),
-        };
-        if line_of(&event) as usize >= self.house.workers() || !self.house.is_plain(&event) {
+        match step {
+            Step::Event(event) => self.take_event(&event),
+            Step::Feed { w, bytes } => {
+                if w as usize >= self.house.workers() {
+                    return Err(LineFault::Bad);
+                }
+                self.streams
+                    .feed(w as usize, bytes.slice(), &mut self.print)?;
+                Ok(())
+            }
+            Step::Fresh { w } => {
+                if w as usize >= self.house.workers() {
+                    return Err(LineFault::Bad);
+                }
+                self.streams.begin_again(w as usize);
+                Ok(())
+            }
+            Step::Begin { .. } | Step::Other { .. } => Err(LineFault::Bad),
+        }
+    }
+
+    /// The house takes an event, and the print is that of the reply.
+    fn take_event(&mut self, event: &Event) -> Result<(), LineFault>
+        requires turns { self.old.house.turns < 2 ^ 63 }
+        requires meets { Meets event.now }
+        requires print { self.old.print.items ≡ [] }
+        ensures { PlaysStep self.old.house self.new.house (framers_of self.old.streams.places.items) (framers_of self.new.streams.places.items) (step.Event event.now) self.new.print.items result }
+    {
+        if line_of(event) as usize >= self.house.workers() || !self.house.is_plain(event) {
             return Err(LineFault::Bad);
         }
         self.frame.clear();
         self.frame.reserve(MOST_FRAME)?;
-        let reply = enact(&mut self.house, &event, &mut self.frame)?;
+        let reply = enact(&mut self.house, event, &mut self.frame)?;
         print_reply(&reply, self.frame.as_slice(), &mut self.print)?;
         Ok(())
     }

@@ -19,12 +19,12 @@ fn replay_words(alloc: Global) -> Result<Vec<Text>, Fail> {
 // What a play of a script ends with and prints, where each reading gives and each writing takes so many bytes at most, and the
 // readings and writings of these numbers fail.
 #[derive(Clone, Copy)]
-struct Played<'a> {
-    piece: usize,
-    reading: u64,
-    writing: u64,
-    status: Status,
-    printed: &'a [u8],
+pub(crate) struct Played<'a> {
+    pub(crate) piece: usize,
+    pub(crate) reading: u64,
+    pub(crate) writing: u64,
+    pub(crate) status: Status,
+    pub(crate) printed: &'a [u8],
 }
 
 fn source_of(alloc: Global, script: &[u8], piece: usize, fails: u64) -> Result<MemSource, Fail>
@@ -41,7 +41,12 @@ fn sink_of(alloc: Global, piece: usize, fails: u64) -> Result<MemSink, Fail>
     Ok(MemSink::new(alloc, 4096, piece, fails)?)
 }
 
-fn expect_play<R: Abort>(rt: &R, alloc: Global, script: &[u8], want: &Played) -> Result<(), Fail> {
+pub(crate) fn expect_play<R: Abort>(
+    rt: &R,
+    alloc: Global,
+    script: &[u8],
+    want: &Played,
+) -> Result<(), Fail> {
     assert!(rt; want.piece > 0);
     let words = replay_words(alloc)?;
     let mut source = source_of(alloc, script, want.piece, want.reading)?;
@@ -113,7 +118,13 @@ fn expect_story<R: Abort>(rt: &R, alloc: Global, story: &Story) -> Result<(), Fa
 }
 
 // What comes early is answered so. A last line needs no line feed.
-const STORIES: [Story; 8] = [
+// The framer of a place is fed, tells a fault once, and begins again; two places have two framers.
+const STORIES: [Story; 9] = [
+    (
+        b"feed 0 78\nfeed 0 78\nfresh 0\nfeed 0 3c73747265616d3a73747265616d20786d6c6e733d276a6162\nfeed 1 3c\nfeed 0 6265723a636c69656e742720786d6c6e733a73747265616d3d27687474703a2f2f6574686572782e6a61626265722e6f72672f73747265616d732720746f3d276578616d706c652e6f7267272076657273696f6e3d27312e30273e\nfeed 0 3c2f73747265616d3a73747265616d3e\nfeed 2 78\n",
+        Status::Script(9),
+        b"item broken 1 1\nitem header\nitem close\n",
+    ),
     (b"", Status::Done, b""),
     (b"pull 0 0\n", Status::Done, b"absent\n"),
     (b"login 0 bob\n", Status::Done, b"absent\n"),
