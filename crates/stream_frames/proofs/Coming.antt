@@ -14,8 +14,8 @@ use Rattle.stream_lex.specs.Leading.{Left}
 use Rattle.stream_lex.proofs.Lists.{false-true, cons_not_nil}
 use Rattle.stream_lex.proofs.Living.{LeadsLive}
 use Rattle.stream_frames.specs.declared.rules.Rules.{Rules}
-use Rattle.stream_frames.specs.Trees.{RawName, RawTag, Content, nothing, end_tokens, KeepsRoot}
-use Rattle.stream_frames.specs.Streams.{IsShortest}
+use Rattle.stream_frames.specs.Trees.{RawName, RawTag, Content, nothing, Stream, end_tokens, stream_tokens, KeepsRoot}
+use Rattle.stream_frames.specs.Streams.{IsShortest, IsStream}
 use Rattle.stream_frames.specs.Nesting.{Nest, start, inside, lost, nest_all, Leaves}
 use Rattle.stream_frames.specs.Framing.{goes_with, Frame, open_at, ended, broken, placed, settled, frame_next, frame_after, first_frame}
 use Rattle.stream_frames.specs.Items.{head_tokens, EndsHeader, EndsTop, is_between_tops, tokens_told, told_at, is_start_end, is_element_end, is_header_end, is_top_end}
@@ -129,6 +129,33 @@ come r bytes b st to n m t e f w g =
       subst (Reads (bytes ++ b ∷ [])) same (left-first (bytes ++ b ∷ []) (us ++ t ∷ []) l),
       λ xs ys p q. k xs ys p (subst (λ (x : List Token). Left first xs (all_said x)) (sym same) (first-left xs (head_tokens s.declared s.root s.content) q)),
       keeps,
+    )
+
+-- The bytes up to the end tag of the stream.
+abbrev pub EndCome : Rules → List ℕ → ℕ → Type 0
+EndCome r bytes b = (s : Stream) × (stream_tokens s ≡ told_all r first_frame bytes ++ token.CloseEnds ∷ []) × IsStream r (bytes ++ b ∷ []) s
+
+pub end-come : (r : Rules) (bytes : List ℕ) (b : ℕ) (st to : State) (n : Nest) → frame_after r first_frame bytes ≡ open_at st n → turn st b ≡ leads to (token.CloseEnds ∷ []) → to ≡ words → nest_all r n (token.CloseEnds ∷ []) ≡ inside []
+    → EndCome r bytes b
+end-come r bytes b st to n e f w g =
+    let first : State = at stage.Start pending.Nothing false in
+    let us : List Token = told_all r first_frame bytes in
+    let t : Token = token.CloseEnds in
+    let (h, c) = came bytes r first st start n (first-sound r).live e in
+    let sound : IsSound r st n = subst (Sound r) e (after-sound r first_frame bytes (first-sound r)) in
+    let last : Left st (b ∷ []) (all_said (t ∷ [])) = left-from st to b (t ∷ []) [] [] sound.live f (subst (λ (s : State). Left s [] []) (sym w) words-left) in
+    let short : Tight st (b ∷ []) (t ∷ []) = tight-from st to b (t ∷ []) [] [] sound.live f (no_token t []) (λ xs ys p l. nil-back xs ys (sym p)) in
+    let (l, k) = c (b ∷ []) (t ∷ []) (no_token t []) last short in
+    let nest : nest_all r start (us ++ t ∷ []) ≡ inside [] = all-more r start us (t ∷ []) ∙ (ap (λ (x : Nest). nest_all r x (t ∷ [])) h ∙ g) in
+    let (s, keeps, is) = all-from r start (us ++ t ∷ []) [] tt (subst (λ (x : Nest). Leaves r x []) (sym nest) refl) in
+    let same : us ++ t ∷ [] ≡ stream_tokens s = sym (append-nil (us ++ t ∷ [])) ∙ is in (
+      s,
+      sym same,
+      (
+        subst (Reads (bytes ++ b ∷ [])) same (left-first (bytes ++ b ∷ []) (us ++ t ∷ []) l),
+        λ xs ys p q. k xs ys p (subst (λ (x : List Token). Left first xs (all_said x)) (sym same) (first-left xs (stream_tokens s) q)),
+        keeps,
+      ),
     )
 
 -- By the byte.

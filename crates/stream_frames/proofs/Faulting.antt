@@ -63,7 +63,7 @@ all-steps : (bytes : List ℕ) (l : Limits) (s : Reading) (n : ℕ) → IsWhole 
 all-steps [] l s n h = subst (IsWhole s) (let e : n ≡ n + 0 = omega arith in e) h
 all-steps (b ∷ bs) l s n h = subst (IsWhole (went l s (b ∷ bs))) (let e : (n + 1) + length bs ≡ n + suc (length bs) = omega arith in e) (all-steps bs l (reading_next l (handed s) b) (n + 1) (one-step l s n b h))
 
-whole : (l : Limits) (bytes : List ℕ) → IsWhole (went l first_reading bytes) (length bytes)
+pub whole : (l : Limits) (bytes : List ℕ) → IsWhole (went l first_reading bytes) (length bytes)
 whole l bytes = subst (IsWhole (went l first_reading bytes)) (let e : 0 + length bytes ≡ length bytes = omega arith in e) (all-steps bytes l first_reading 0 (refl, refl))
 
 -- The fault of a byte.
@@ -80,7 +80,7 @@ some-cond : (t : Bool) (x g : FrameFault) → cond t (Some x) None ≡ Some g �
 some-cond true x g e = (refl, sym (some-same x g e))
 some-cond false x g e = absurd (none-some g e)
 
-frames-more : (r : Rules) (x : Frame) (xs ys : List ℕ) → frame_after r x (xs ++ ys) ≡ frame_after r (frame_after r x xs) ys
+pub frames-more : (r : Rules) (x : Frame) (xs ys : List ℕ) → frame_after r x (xs ++ ys) ≡ frame_after r (frame_after r x xs) ys
 frames-more r x [] ys = refl
 frames-more r x (y ∷ xs) ys = frames-more r (frame_next r x y) xs ys
 

@@ -40,7 +40,7 @@ clear-word : (os : List Opened) (c : ℕ) (b : Building) → clear (worded_in os
 clear-word [] c b = refl
 clear-word (x ∷ xs) c b = refl
 
-clear-one : (b : Building) (t : Token) → clear (build (clear b) t) ≡ clear (build b t)
+pub clear-one : (b : Building) (t : Token) → clear (build (clear b) t) ≡ clear (build b t)
 clear-one b (token.TagEnds false) = if-clear (length b.layers == 0) _ _ _ _ refl refl
 clear-one b (token.TagEnds true) = clear-hollow _ b.words b.opened b
 clear-one b token.CloseEnds = clear-close b.opened b

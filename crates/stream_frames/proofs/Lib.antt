@@ -48,3 +48,7 @@ pub mod ProperStreams
 pub mod ProperTops
 pub mod ProperMaking
 pub mod Faulting
+pub mod LastTold
+pub mod Judged
+pub mod HandedOut
+pub mod PathTokens

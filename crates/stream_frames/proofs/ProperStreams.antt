@@ -311,7 +311,7 @@ first-fair : AreFair outside_all
 first-fair = tt
 
 pub tops-proper : (r : Rules) (bytes : List ℕ) (s : Stream) → Spells r bytes s → IsNamed s.root s.content → AllByRecursion IsProper (tops_of s.root s.content)
-tops-proper r bytes s (read_text, after, e, spaces, reads, short, keeps) named =
+tops-proper r bytes s (read_text, after, e, spaces, (reads, short, keeps)) named =
     let (root_read, all) = stream-read read_text s reads in
     elements-proper (inside_of outside_all (whole_tag s.root)) s.content (inside-fair outside_all s.root first-fair root_read named.0) all named.1
 

@@ -5,7 +5,7 @@ use Rattle.stream_frames.specs.declared.item.Item.{Item}
 use Rattle.stream_frames.specs.declared.item.Item.TheVariants as item
 use Rattle.stream_frames.specs.declared.rules.Rules.{Rules}
 use Rattle.stream_frames.specs.Trees.{RawTag, Content, Stream, nothing}
-use Rattle.stream_frames.specs.Streams.{Spells, Begins}
+use Rattle.stream_frames.specs.Streams.{IsStream, Begins}
 use Rattle.stream_frames.specs.Faults.{IsSyntaxKind}
 use Rattle.stream_frames.specs.declared.FrameFault.{FrameFault}
 use Rattle.stream_frames.specs.declared.FrameFault.TheVariants as fault
@@ -14,13 +14,15 @@ use Rattle.stream_frames.specs.Framing.{Frame, frame_next}
 use Rattle.stream_frames.specs.Building.{Building, build_all, told_judged}
 use Rattle.stream_frames.specs.Reading.{Reading, reads, stopped, first_reading, went, rules_of, is_past, is_large_item}
 use Rattle.stream_frames.specs.Items.{HasCome, ends_so, told_at}
-use Rattle.stream_frames.specs.Elements.{header_of, default_of, tops_of}
+use Rattle.stream_frames.specs.Elements.{header_of, default_of, tops_of, IsNamed}
 
--- An item ends with the last of the bytes: the start tag of the stream; the last of the top elements in what has come; or the end tag.
+-- An item ends with the last of the bytes: the start tag of the stream; the last of the top elements in what has come; or the end tag of
+-- the stream. No tag up to it has a fault by its names.
 abbrev pub IsItem : Rules → List ℕ → Item → Type 0
-IsItem r bytes (item.Header e space) = (root : RawTag) × HasCome r bytes root nothing × (e ≡ header_of root) × (space ≡ default_of root)
-IsItem r bytes (item.Top e) = (root : RawTag) × (f : Content) × HasCome r bytes root f × (ends_so false f ≡ true) × ((es : List Element) × (tops_of root f ≡ es ++ e ∷ []))
-IsItem r bytes item.CloseTag = (s : Stream) × Spells r bytes s
+IsItem r bytes (item.Header e space) = (root : RawTag) × HasCome r bytes root nothing × IsNamed root nothing × (e ≡ header_of root) × (space ≡ default_of root)
+IsItem r bytes (item.Top e) =
+    (root : RawTag) × (f : Content) × HasCome r bytes root f × IsNamed root f × (ends_so false f ≡ true) × ((es : List Element) × (tops_of root f ≡ es ++ e ∷ []))
+IsItem r bytes item.CloseTag = (s : Stream) × IsStream r bytes s × IsNamed s.root s.content
 IsItem r bytes (item.Broken f k) = ⊥
 
 -- A byte has a fault where the reading stands: it is past the limit of its header or top element; or no stream goes on with it, and the

@@ -57,11 +57,15 @@ pub fn tags_are_gathered()
 {}
 
 /// What a framer hands out after a byte, where each item was handed out before the next byte, is the item of the grammar that ends
-/// with that byte: the header; a top element, with its names in their namespaces and its words joined; or the close tag.
+/// with that byte: the header; a top element, with its names in their namespaces and its words joined; or the close tag. Each such item
+/// is handed out, unless the framer has stopped.
 pub fn items_are_those_of_the_grammar()
-    ensures { (l : Limits) (bytes : List ℕ) (b : ℕ) (i : Item)
+    ensures found { (l : Limits) (bytes : List ℕ) (b : ℕ) (i : Item)
         → is_stopped (went l first_reading (bytes ++ b ∷ [])) ≡ false
         → waiting (went l first_reading (bytes ++ b ∷ [])) ≡ Some i → IsItem (rules_of l) (bytes ++ b ∷ []) i }
+    ensures all { (l : Limits) (bytes : List ℕ) (b : ℕ) (i : Item)
+        → is_stopped (went l first_reading (bytes ++ b ∷ [])) ≡ false
+        → IsItem (rules_of l) (bytes ++ b ∷ []) i → waiting (went l first_reading (bytes ++ b ∷ [])) ≡ Some i }
 {}
 
 /// A framer stops at the first byte that has a fault, with this fault and the byte's number: a byte past the limit of its header or
