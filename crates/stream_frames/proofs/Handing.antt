@@ -100,7 +100,7 @@ cond-open : (t : Bool) (s : State) (n : Nest) → is_broken (cond t (open_at s n
 cond-open true s n h = refl
 cond-open false s n h = absurd (let bad : true ≡ false = h in cc)
 
-lost-broken : (r : Rules) (to : State) (n : Nest) → n ≡ lost → is_broken (placed r to n) ≡ false → ⊥
+pub lost-broken : (r : Rules) (to : State) (n : Nest) → n ≡ lost → is_broken (placed r to n) ≡ false → ⊥
 lost-broken r to n e h = not-true true (sym (ap (λ (x : Nest). is_broken (placed r to x)) e) ∙ h) refl
 
 -- a tag that opens one element is that of the stream

@@ -139,10 +139,10 @@ tag-judged b t e j =
     ap (λ (x : Building). named_at x (token.TagEnds e)) (sym (body-made b t)) ∙ k.0
 
 -- a building with these bindings
-abbrev IsOn : Building → List (List Binding) → Type 0
+abbrev pub IsOn : Building → List (List Binding) → Type 0
 IsOn b layers = (g : Gathered) × (os : List Opened) × (words : List ℕ) × (i : Option Item) × (b ≡ made g layers os words i)
 
-leaves-on : (f : Content) (g : Gathered) (layers : List (List Binding)) (os : List Opened) (words : List ℕ) (i : Option Item) → (length layers == 0) ≡ false → IsOn (build_all (made g layers os words i) (content_tokens f)) layers
+pub leaves-on : (f : Content) (g : Gathered) (layers : List (List Binding)) (os : List Opened) (words : List ℕ) (i : Option Item) → (length layers == 0) ≡ false → IsOn (build_all (made g layers os words i) (content_tokens f)) layers
 leaves-on f g layers [] words i deep = let (g1, w1, is) = tops-made f g layers words i deep in (g1, [], w1, _, is)
 leaves-on f g layers (x ∷ xs) words i deep = let (g1, is) = content-made f g layers x xs words i deep in (g1, _, _, i, is)
 
