@@ -30,7 +30,7 @@ use Rattle.stream_frames.proofs.Coming.{told_all}
 use Rattle.stream_frames.proofs.Made.{made, last_item, head-made, end-made}
 use Rattle.stream_frames.proofs.Handing.{clear, build-more, HasRead, went-read, went-more}
 use Rattle.stream_frames.proofs.LastTold.{ends_tag, LastTold, ends-at}
-use Rattle.stream_frames.proofs.Faulting.{IsWhole, whole, frames-more}
+use Rattle.stream_frames.proofs.StandingWhole.{IsWhole, whole}
 use Rattle.stream_frames.proofs.RoundTripStreams.{first_state}
 
 no-more : {X : Type 0} (x : X) (xs : List X) → x ∷ xs ≡ [] → ⊥
@@ -140,25 +140,31 @@ set-by r bytes byte front t b x c h (open_none, set) (to, m, s, f, g, told) =
     ∙ (ap (λ (o : Outcome). (build_all (clear b) (tokens_told o)).item) g
     ∙ (ap (λ (y : Building). (build y t).item) same ∙ (item-same all t h (ap (λ (y : Building). y.opened) (sym step) ∙ open_none) ∙ (ap (λ (y : Building). y.item) (sym step) ∙ set))))
 
+-- the item of the grammar that ends with the byte
+pub item-set-by : (r : Rules) (bytes : List ℕ) (byte : ℕ) (b : Building) (x : Item) → clear b ≡ clear (build_all nothing_built (told_all r first_frame bytes)) → is_broken (frame_after r first_frame (bytes ++ byte ∷ [])) ≡ false → IsItem r (bytes ++ byte ∷ []) x
+    → (build_all (clear b) (told_at (frame_after r first_frame bytes) byte)).item ≡ Some x
+item-set-by r bytes byte b x c w i =
+    let (front, t, h, told, short, built) = item-last r (bytes ++ byte ∷ []) x i in
+    set-by r bytes byte front t b x c h built (ends-at r bytes byte front t h told short w)
+
 still-open : (r : Rules) (bytes : List ℕ) (byte : ℕ) (s : Reading) → HasRead r first_frame nothing_built (bytes ++ byte ∷ []) s → IsWhole s (length (bytes ++ byte ∷ [])) → is_stopped s ≡ false → is_broken (frame_after r first_frame (bytes ++ byte ∷ [])) ≡ false
 still-open r bytes byte (stopped f k) h w o = absurd (let bad : true ≡ false = o in cc)
 still-open r bytes byte (reads f b n k) (p, q) (w, e) o = ap is_broken (sym p) ∙ w
 
-reading-gives : (l : Limits) (bytes : List ℕ) (byte : ℕ) (s : Reading) (x : Item) (front : List Token) (t : Token) → HasRead (rules_of l) first_frame nothing_built bytes s → is_stopped (reading_next l (handed s) byte) ≡ false → ends_tag t ≡ true → IsBuilt (front ++ t ∷ []) x
-    → LastTold (rules_of l) first_state start bytes byte front t → waiting (reading_next l (handed s) byte) ≡ Some x
-reading-gives l bytes byte (stopped f k) x front t h w i built told = absurd (let bad : true ≡ false = w in cc)
-reading-gives l bytes byte (reads f b n k) x front t (p, q) w i built told = by (byte_judged l f (clear b) n byte) w
+reading-gives : (l : Limits) (bytes : List ℕ) (byte : ℕ) (s : Reading) (x : Item) → HasRead (rules_of l) first_frame nothing_built bytes s → is_stopped (reading_next l (handed s) byte) ≡ false
+    → is_broken (frame_after (rules_of l) first_frame (bytes ++ byte ∷ [])) ≡ false → IsItem (rules_of l) (bytes ++ byte ∷ []) x → waiting (reading_next l (handed s) byte) ≡ Some x
+reading-gives l bytes byte (stopped f k) x h w o i = absurd (let bad : true ≡ false = w in cc)
+reading-gives l bytes byte (reads f b n k) x (p, q) w o i = by (byte_judged l f (clear b) n byte) w
   where
     by : (o : Option FrameFault)
         → is_stopped (concluded o (reads (frame_next (rules_of l) f byte) (build_all (clear b) (told_at f byte)) (extent_after (frame_next (rules_of l) f byte) n) (told_number (k + 1))) (told_number (k + 1))) ≡ false
         → waiting (concluded o (reads (frame_next (rules_of l) f byte) (build_all (clear b) (told_at f byte)) (extent_after (frame_next (rules_of l) f byte) n) (told_number (k + 1))) (told_number (k + 1))) ≡ Some x
-    by None w = ap (λ (y : Frame). (build_all (clear b) (told_at y byte)).item) p ∙ set-by (rules_of l) bytes byte front t b x q i built told
+    by None w = ap (λ (y : Frame). (build_all (clear b) (told_at y byte)).item) p ∙ item-set-by (rules_of l) bytes byte b x q o i
     by (Some y) w = absurd (let bad : true ≡ false = w in cc)
 
 pub item_given : (l : Limits) (bytes : List ℕ) (byte : ℕ) (x : Item) → is_stopped (went l first_reading (bytes ++ byte ∷ [])) ≡ false → IsItem (rules_of l) (bytes ++ byte ∷ []) x → waiting (went l first_reading (bytes ++ byte ∷ [])) ≡ Some x
 item_given l bytes byte x w i =
-    let r : Rules = rules_of l in
-    let (front, t, h, told, short, built) = item-last r (bytes ++ byte ∷ []) x i in
-    let whole_so : is_broken (frame_after r first_frame (bytes ++ byte ∷ [])) ≡ false = still-open r bytes byte (went l first_reading (bytes ++ byte ∷ [])) (went-read (bytes ++ byte ∷ []) l first_frame nothing_built 0 0) (whole l (bytes ++ byte ∷ [])) w in
-    let same : went l first_reading (bytes ++ byte ∷ []) ≡ reading_next l (handed (went l first_reading bytes)) byte = went-more l first_reading bytes (byte ∷ []) in
-    ap waiting same ∙ reading-gives l bytes byte (went l first_reading bytes) x front t (went-read bytes l first_frame nothing_built 0 0) (ap is_stopped (sym same) ∙ w) h built (ends-at r bytes byte front t h told short whole_so)
+    let all : List ℕ = bytes ++ byte ∷ [] in
+    let open_so : is_broken (frame_after (rules_of l) first_frame all) ≡ false = still-open (rules_of l) bytes byte (went l first_reading all) (went-read all l first_frame nothing_built 0 0) (whole l all) w in
+    let same : went l first_reading all ≡ reading_next l (handed (went l first_reading bytes)) byte = went-more l first_reading bytes (byte ∷ []) in
+    ap waiting same ∙ reading-gives l bytes byte (went l first_reading bytes) x (went-read bytes l first_frame nothing_built 0 0) (ap is_stopped (sym same) ∙ w) open_so i

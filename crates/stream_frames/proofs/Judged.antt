@@ -86,7 +86,7 @@ told-judged [] b f h = tt
 told-judged (t ∷ []) b f h = (token-judged b t h, tt)
 told-judged (t ∷ u ∷ us) b f h = words-judged (t ∷ u ∷ us) b f
 
-frame-judged : (f : Frame) (byte : ℕ) (b : Building) → told_judged b (told_at f byte) ≡ None → AreJudged b (told_at f byte)
+pub frame-judged : (f : Frame) (byte : ℕ) (b : Building) → told_judged b (told_at f byte) ≡ None → AreJudged b (told_at f byte)
 frame-judged ended byte b h = tt
 frame-judged broken byte b h = tt
 frame-judged (open_at st n) byte b h = by (turn st byte) refl h

@@ -55,3 +55,4 @@ pub mod PathTokens
 pub mod ProperNames
 pub mod PathScopes
 pub mod NameFaults
+pub mod StandingWhole

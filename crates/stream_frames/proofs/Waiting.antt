@@ -219,11 +219,11 @@ levels-clear (in_value st m k) b h = level-clear (length st) b h
 levels-clear (closing st m) b h = h
 levels-clear lost b h = tt
 
-byte-waits : (l : Limits) (bytes : List ℕ) (byte : ℕ) (f : Frame) (b : Building) (n : ℕ) (x : Item) → f ≡ frame_after (rules_of l) first_frame bytes → clear b ≡ clear (build_all nothing_built (told_all (rules_of l) first_frame bytes))
-    → byte_judged l f (clear b) n byte ≡ None → (build_all (clear b) (told_at f byte)).item ≡ Some x → AreJudged nothing_built (told_all (rules_of l) first_frame bytes ++ told_at f byte) → IsItem (rules_of l) (bytes ++ byte ∷ []) x
-byte-waits l bytes byte ended b n x e c j h g = absurd (none-some x h)
-byte-waits l bytes byte broken b n x e c j h g = absurd (none-some x h)
-byte-waits l bytes byte (open_at st m) b n x e c j h g = by (turn st byte) refl
+pub byte-waits : (l : Limits) (bytes : List ℕ) (byte : ℕ) (f : Frame) (b : Building) (x : Item) → f ≡ frame_after (rules_of l) first_frame bytes → clear b ≡ clear (build_all nothing_built (told_all (rules_of l) first_frame bytes))
+    → fault_told (rules_of l) f byte ≡ None → (build_all (clear b) (told_at f byte)).item ≡ Some x → AreJudged nothing_built (told_all (rules_of l) first_frame bytes ++ told_at f byte) → IsItem (rules_of l) (bytes ++ byte ∷ []) x
+byte-waits l bytes byte ended b x e c j h g = absurd (none-some x h)
+byte-waits l bytes byte broken b x e c j h g = absurd (none-some x h)
+byte-waits l bytes byte (open_at st m) b x e c j h g = by (turn st byte) refl
   where
     by : (o : Outcome) → turn st byte ≡ o → IsItem (rules_of l) (bytes ++ byte ∷ []) x
     by (fails g) k = absurd (none-some x (ap (λ (o : Outcome). (build_all (clear b) (tokens_told o)).item) (sym k) ∙ h))
@@ -232,9 +232,7 @@ byte-waits l bytes byte (open_at st m) b n x e c j h g = by (turn st byte) refl
         let (same, carried) = came bytes r _ st start m (first-sound r).live (sym e) in
         let levels : Levels m (clear b) =
         subst (λ (y : Building). Levels m y) (sym c) (levels-clear m (build_all nothing_built (told_all r first_frame bytes)) (subst (λ (y : Nest). Levels y (build_all nothing_built (told_all r first_frame bytes))) same (level-from r (told_all r first_frame bytes)))) in
-        let (past, later) = or-none _ _ j in
-        let (told, more) = or-none _ _ later in
-        tokens-wait r bytes byte st to m us (clear b) x (sym e) k (ap (λ (o : Outcome). is_broken (settled r m o)) (sym k) ∙ not-fault r st m byte told) levels c (ap (λ (o : Outcome). (build_all (clear b) (tokens_told o)).item) (sym k) ∙ h)
+        tokens-wait r bytes byte st to m us (clear b) x (sym e) k (ap (λ (o : Outcome). is_broken (settled r m o)) (sym k) ∙ not-fault r st m byte j) levels c (ap (λ (o : Outcome). (build_all (clear b) (tokens_told o)).item) (sym k) ∙ h)
         (subst (λ (o : Outcome). AreJudged nothing_built (told_all r first_frame bytes ++ tokens_told o)) k g)
 
 reading-waits : (l : Limits) (bytes : List ℕ) (byte : ℕ) (s : Reading) (x : Item) → HasRead (rules_of l) first_frame nothing_built bytes s → is_stopped (reading_next l (handed s) byte) ≡ false → waiting (reading_next l (handed s) byte) ≡ Some x
@@ -245,7 +243,7 @@ reading-waits l bytes byte (reads f b n k) x (p, q) w e g = by (byte_judged l f 
     by : (o : Option FrameFault) → byte_judged l f (clear b) n byte ≡ o
         → is_stopped (concluded o (reads (frame_next (rules_of l) f byte) (build_all (clear b) (told_at f byte)) (extent_after (frame_next (rules_of l) f byte) n) (told_number (k + 1))) (told_number (k + 1))) ≡ false
         → waiting (concluded o (reads (frame_next (rules_of l) f byte) (build_all (clear b) (told_at f byte)) (extent_after (frame_next (rules_of l) f byte) n) (told_number (k + 1))) (told_number (k + 1))) ≡ Some x → IsItem (rules_of l) (bytes ++ byte ∷ []) x
-    by None j w e = byte-waits l bytes byte f b n x p q j e (subst (λ (y : Frame). AreJudged nothing_built (told_all (rules_of l) first_frame bytes ++ told_at y byte)) (sym p) g)
+    by None j w e = byte-waits l bytes byte f b x p q (or-none _ _ (or-none _ _ j).1).0 e (subst (λ (y : Frame). AreJudged nothing_built (told_all (rules_of l) first_frame bytes ++ told_at y byte)) (sym p) g)
     by (Some y) j w e = absurd (let bad : true ≡ false = w in cc)
 
 told-more : (r : Rules) (f : Frame) (xs ys : List ℕ) → told_all r f (xs ++ ys) ≡ told_all r f xs ++ told_all r (frame_after r f xs) ys
