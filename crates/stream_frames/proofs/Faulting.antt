@@ -25,12 +25,12 @@ use Rattle.stream_frames.proofs.Waiting.{byte-waits}
 use Rattle.stream_frames.proofs.HandedOut.{item-set-by}
 use Rattle.stream_frames.proofs.NameFaults.{IsSoFar, name-found, name-told}
 
-some-same : {X : Type 0} (x y : X) → Some x ≡ Some y → x ≡ y
+pub some-same : {X : Type 0} (x y : X) → Some x ≡ Some y → x ≡ y
 some-same x y e = cc
 
 -- The fault of a byte.
 
-first-of : (past : Bool) (told names : Option FrameFault) (large : Bool) (g : FrameFault) → or_else (fault_if past fault.TooLong) (or_else told (or_else names (fault_if large fault.TooLong))) ≡ Some g
+pub first-of : (past : Bool) (told names : Option FrameFault) (large : Bool) (g : FrameFault) → or_else (fault_if past fault.TooLong) (or_else told (or_else names (fault_if large fault.TooLong))) ≡ Some g
     → ((past ≡ true) × (g ≡ fault.TooLong)) ⊎ ((past ≡ false) × ((told ≡ Some g) ⊎ ((told ≡ None) × ((names ≡ Some g) ⊎ ((names ≡ None) × (large ≡ true) × (g ≡ fault.TooLong))))))
 first-of true told names large g e = inl (refl, sym (some-same _ g e))
 first-of false (Some x) names large g e = inr (refl, inl e)
@@ -45,7 +45,7 @@ some-cond false x g e = absurd (none-some g e)
 after-byte : (r : Rules) (f : Frame) (bytes : List ℕ) (byte : ℕ) → f ≡ frame_after r first_frame bytes → frame_after r first_frame (bytes ++ byte ∷ []) ≡ frame_next r f byte
 after-byte r f bytes byte e = frames-more r first_frame bytes (byte ∷ []) ∙ ap (λ (x : Frame). frame_next r x byte) (sym e)
 
-syntax-of : (r : Rules) (f : Frame) (bytes : List ℕ) (byte : ℕ) (g : FrameFault) → f ≡ frame_after r first_frame bytes → is_broken f ≡ false → fault_told r f byte ≡ Some g → (Begins r (bytes ++ byte ∷ []) → ⊥) × IsSyntaxKind r g (bytes ++ byte ∷ [])
+pub syntax-of : (r : Rules) (f : Frame) (bytes : List ℕ) (byte : ℕ) (g : FrameFault) → f ≡ frame_after r first_frame bytes → is_broken f ≡ false → fault_told r f byte ≡ Some g → (Begins r (bytes ++ byte ∷ []) → ⊥) × IsSyntaxKind r g (bytes ++ byte ∷ [])
 syntax-of r f bytes byte g e h t =
     let (broke, is) = some-cond (is_broken (frame_next r f byte)) (fault_at r f byte) g (sym (told-fault r f byte h) ∙ t) in
     let at_it : is_broken (frame_next r (frame_after r first_frame bytes) byte) ≡ true = ap (λ (x : Frame). is_broken (frame_next r x byte)) (sym e) ∙ broke in (
@@ -53,7 +53,7 @@ syntax-of r f bytes byte g e h t =
       subst (λ (x : FrameFault). IsSyntaxKind r x (bytes ++ byte ∷ [])) (sym (is ∙ ap (λ (x : Frame). fault_at r x byte) e)) (fault-kind r bytes byte (ap is_broken (sym e) ∙ h) at_it),
     )
 
-begins-of : (r : Rules) (f : Frame) (bytes : List ℕ) (byte : ℕ) → f ≡ frame_after r first_frame bytes → is_broken f ≡ false → fault_told r f byte ≡ None → Begins r (bytes ++ byte ∷ [])
+pub begins-of : (r : Rules) (f : Frame) (bytes : List ℕ) (byte : ℕ) → f ≡ frame_after r first_frame bytes → is_broken f ≡ false → fault_told r f byte ≡ None → Begins r (bytes ++ byte ∷ [])
 begins-of r f bytes byte e h t = open-begins r (bytes ++ byte ∷ []) (ap is_broken (after-byte r f bytes byte e) ∙ next-whole r f byte h t)
 
 -- the fault by the reading's own words
@@ -64,10 +64,10 @@ IsTold l f b n byte g =
     ⊎ ((fault_told (rules_of l) f byte ≡ None) × ((told_judged b (told_at f byte) ≡ Some g) ⊎ ((told_judged b (told_at f byte) ≡ None) × (is_large_item l (build_all b (told_at f byte)).item ≡ true) × (g ≡ fault.TooLong))))))
 
 -- where the reading stands
-abbrev Stands : Limits → List ℕ → Frame → Building → Type 0
+abbrev pub Stands : Limits → List ℕ → Frame → Building → Type 0
 Stands l bytes f b = (f ≡ frame_after (rules_of l) first_frame bytes) × (is_broken f ≡ false) × IsSoFar (rules_of l) bytes b
 
-open-next : (r : Rules) (f : Frame) (bytes : List ℕ) (byte : ℕ) → f ≡ frame_after r first_frame bytes → is_broken (frame_next r f byte) ≡ false → is_broken (frame_after r first_frame (bytes ++ byte ∷ [])) ≡ false
+pub open-next : (r : Rules) (f : Frame) (bytes : List ℕ) (byte : ℕ) → f ≡ frame_after r first_frame bytes → is_broken (frame_next r f byte) ≡ false → is_broken (frame_after r first_frame (bytes ++ byte ∷ [])) ≡ false
 open-next r f bytes byte e h = ap is_broken (after-byte r f bytes byte e) ∙ h
 
 some-item : (l : Limits) (o : Option Item) → is_large_item l o ≡ true → (i : Item) × (o ≡ Some i)
@@ -83,7 +83,7 @@ large-found l f b bytes byte (e, h, (c, j)) told names large =
     let last : AreJudged (build_all nothing_built all) (told_at f byte) = judged-like (told_at f byte) (clear b) (build_all nothing_built all) c (frame-judged f byte (clear b) names) in
     (i, byte-waits l bytes byte f b i e c told is (judged-more all (told_at f byte) nothing_built j last), ap (is_large_item l) (sym is) ∙ large)
 
-large-told : (l : Limits) (f : Frame) (b : Building) (bytes : List ℕ) (byte : ℕ) → Stands l bytes f b → is_broken (frame_next (rules_of l) f byte) ≡ false → IsLargeEnd l (bytes ++ byte ∷ []) → is_large_item l (build_all (clear b) (told_at f byte)).item ≡ true
+pub large-told : (l : Limits) (f : Frame) (b : Building) (bytes : List ℕ) (byte : ℕ) → Stands l bytes f b → is_broken (frame_next (rules_of l) f byte) ≡ false → IsLargeEnd l (bytes ++ byte ∷ []) → is_large_item l (build_all (clear b) (told_at f byte)).item ≡ true
 large-told l f b bytes byte (e, h, (c, j)) next (i, is, large) =
     ap (λ (y : Frame). is_large_item l (build_all (clear b) (told_at y byte)).item) e
     ∙ (ap (is_large_item l) (item-set-by (rules_of l) bytes byte b i c (open-next (rules_of l) f bytes byte e next) is) ∙ large)

@@ -19,7 +19,7 @@ use Rattle.stream_frames.specs.Nesting.{Nest, start}
 use Rattle.stream_frames.specs.Framing.{Frame, open_at, ended, broken, settled, frame_next, frame_after, first_frame, is_broken}
 use Rattle.stream_frames.specs.Items.{head_tokens, ends_so, HasCome, told_at, tokens_told}
 use Rattle.stream_frames.specs.Gathering.{Gathered, whole_tag}
-use Rattle.stream_frames.specs.Elements.{inside_of, outside_all, header_of, default_of, tops_of}
+use Rattle.stream_frames.specs.Elements.{inside_of, outside_all, header_of, default_of, tops_of, IsNamed}
 use Rattle.stream_frames.specs.Building.{Opened, Building, nothing_built, ended_in, closed_in, build, build_all}
 use Rattle.stream_frames.specs.Parts.{IsItem}
 use Rattle.stream_frames.specs.Reading.{Reading, reads, stopped, first_reading, reading_next, concluded, byte_judged, or_else, waiting, handed, is_stopped, went, rules_of, extent_after, told_number}
@@ -29,6 +29,8 @@ use Rattle.stream_frames.proofs.Ending.{ends_element, last_in, last-nothing, hea
 use Rattle.stream_frames.proofs.Coming.{told_all}
 use Rattle.stream_frames.proofs.Made.{made, last_item, head-made, end-made}
 use Rattle.stream_frames.proofs.Handing.{clear, build-more, HasRead, went-read, went-more}
+use Rattle.stream_frames.proofs.Judged.{named_at, AreJudged, judged-back}
+use Rattle.stream_frames.proofs.NamedJudged.{head-judged, stream-judged}
 use Rattle.stream_frames.proofs.LastTold.{ends_tag, LastTold, ends-at}
 use Rattle.stream_frames.proofs.StandingWhole.{IsWhole, whole}
 use Rattle.stream_frames.proofs.RoundTripStreams.{first_state}
@@ -63,7 +65,7 @@ abbrev IsBuilt : List Token → Item → Type 0
 IsBuilt ts x = ((build_all nothing_built ts).opened ≡ []) × ((build_all nothing_built ts).item ≡ Some x)
 
 abbrev IsLast : Rules → List ℕ → Item → Type 0
-IsLast r bytes x = (front : List Token) × (t : Token) × (ends_tag t ≡ true) × Reads bytes (front ++ t ∷ []) × IsShortest bytes (front ++ t ∷ []) × IsBuilt (front ++ t ∷ []) x
+IsLast r bytes x = (front : List Token) × (t : Token) × (ends_tag t ≡ true) × Reads bytes (front ++ t ∷ []) × IsShortest bytes (front ++ t ∷ []) × IsBuilt (front ++ t ∷ []) x × AreJudged nothing_built (front ++ t ∷ [])
 
 head-built : (d : Bool) (root : RawTag) (f : Content) (x : Item) → last_item (tops_of root f) (Some (item.Header (header_of root) (default_of root))) ≡ Some x → IsBuilt (head_tokens d root f) x
 head-built d root f x h = let (g, ws, is) = head-made d root f in (ap (λ (b : Building). b.opened) is, ap (λ (b : Building). b.item) is ∙ h)
@@ -93,39 +95,40 @@ element-tag token.CloseEnds h = refl
 element-tag (token.TagEnds e) h = refl
 element-tag t h = h
 
-last-of : (r : Rules) (bytes : List ℕ) (x : Item) (ts front : List Token) (t : Token) → ts ≡ front ++ t ∷ [] → ends_tag t ≡ true → Reads bytes ts → IsShortest bytes ts → IsBuilt ts x → IsLast r bytes x
-last-of r bytes x ts front t e h told short built = (front, t, h, subst (Reads bytes) e told, subst (IsShortest bytes) e short, subst (λ (l : List Token). IsBuilt l x) e built)
+last-of : (r : Rules) (bytes : List ℕ) (x : Item) (ts front : List Token) (t : Token) → ts ≡ front ++ t ∷ [] → ends_tag t ≡ true → Reads bytes ts → IsShortest bytes ts → IsBuilt ts x → AreJudged nothing_built ts → IsLast r bytes x
+last-of r bytes x ts front t e h told short built judged =
+    (front, t, h, subst (Reads bytes) e told, subst (IsShortest bytes) e short, subst (λ (l : List Token). IsBuilt l x) e built, subst (AreJudged nothing_built) e judged)
 
-header-last : (r : Rules) (bytes : List ℕ) (root : RawTag) → HasCome r bytes root nothing → IsLast r bytes (item.Header (header_of root) (default_of root))
-header-last r bytes root (d, told, short, keeps) =
+header-last : (r : Rules) (bytes : List ℕ) (root : RawTag) → HasCome r bytes root nothing → IsNamed root nothing → IsLast r bytes (item.Header (header_of root) (default_of root))
+header-last r bytes root (d, told, short, keeps) named =
     let (front, t, e) = head-snoc d root nothing in
     let is : token.TagEnds false ≡ t = sym (last-nothing (token.TagEnds false)) ∙ head-last d root nothing front t e in
-    last-of r bytes _ (head_tokens d root nothing) front t e (ap ends_tag (sym is)) told short (head-built d root nothing _ refl)
+    last-of r bytes _ (head_tokens d root nothing) front t e (ap ends_tag (sym is)) told short (head-built d root nothing _ refl) (head-judged d root nothing named)
 
 last-top : (es : List Element) (e : Element) (i : Option Item) → last_item (es ++ e ∷ []) i ≡ Some (item.Top e)
 last-top [] e i = refl
 last-top (x ∷ es) e i = last-top es e (Some (item.Top x))
 
-top-last : (r : Rules) (bytes : List ℕ) (root : RawTag) (f : Content) (e : Element) (es : List Element) → HasCome r bytes root f → ends_so false f ≡ true → tops_of root f ≡ es ++ e ∷ [] → IsLast r bytes (item.Top e)
-top-last r bytes root f e es (d, told, short, keeps) h is =
+top-last : (r : Rules) (bytes : List ℕ) (root : RawTag) (f : Content) (e : Element) (es : List Element) → HasCome r bytes root f → IsNamed root f → ends_so false f ≡ true → tops_of root f ≡ es ++ e ∷ [] → IsLast r bytes (item.Top e)
+top-last r bytes root f e es (d, told, short, keeps) named h is =
     let (front, t, g) = head-snoc d root f in
     let last : last_in f (token.TagEnds false) ≡ t = head-last d root f front t g in
     last-of r bytes _ (head_tokens d root f) front t g (element-tag t (ap ends_element (sym last) ∙ (last-ends f (token.TagEnds false) ∙ h))) told short
-    (head-built d root f _ (ap (λ (l : List Element). last_item l (Some (item.Header (header_of root) (default_of root)))) is ∙ last-top es e _))
+    (head-built d root f _ (ap (λ (l : List Element). last_item l (Some (item.Header (header_of root) (default_of root)))) is ∙ last-top es e _)) (head-judged d root f named)
 
 regroup-last : (d t f n : List Token) (o c : Token) → d ++ (t ++ (f ++ (o ∷ (n ++ c ∷ [])))) ≡ (d ++ (t ++ (f ++ (o ∷ n)))) ++ c ∷ []
 regroup-last d t f n o c = simp append_assoc
 
-close-last : (r : Rules) (bytes : List ℕ) (s : Stream) → IsStream r bytes s → IsLast r bytes item.CloseTag
-close-last r bytes s (told, short, keeps) =
+close-last : (r : Rules) (bytes : List ℕ) (s : Stream) → IsStream r bytes s → IsNamed s.root s.content → IsLast r bytes item.CloseTag
+close-last r bytes s (told, short, keeps) named =
     last-of r bytes _ (stream_tokens s) _ token.CloseEnds
-    (regroup-last (declaration_tokens s.declared) (tag_tokens s.root false) (content_tokens s.content) (map token.NameByte s.root.name.1) (token.CloseOpens s.root.name.0) token.CloseEnds) refl told short (stream-built s)
+    (regroup-last (declaration_tokens s.declared) (tag_tokens s.root false) (content_tokens s.content) (map token.NameByte s.root.name.1) (token.CloseOpens s.root.name.0) token.CloseEnds) refl told short (stream-built s) (stream-judged s named)
 
 item-last : (r : Rules) (bytes : List ℕ) (x : Item) → IsItem r bytes x → IsLast r bytes x
 item-last r bytes (item.Header e space) (root, come, named, is, default) =
-    subst (IsLast r bytes) (ap (λ (y : Element). item.Header y (default_of root)) (sym is) ∙ ap (λ (y : List ℕ). item.Header e y) (sym default)) (header-last r bytes root come)
-item-last r bytes (item.Top e) (root, f, come, named, end, (es, is)) = top-last r bytes root f e es come end is
-item-last r bytes item.CloseTag (s, is, named) = close-last r bytes s is
+    subst (IsLast r bytes) (ap (λ (y : Element). item.Header y (default_of root)) (sym is) ∙ ap (λ (y : List ℕ). item.Header e y) (sym default)) (header-last r bytes root come named)
+item-last r bytes (item.Top e) (root, f, come, named, end, (es, is)) = top-last r bytes root f e es come named end is
+item-last r bytes item.CloseTag (s, is, named) = close-last r bytes s is named
 item-last r bytes (item.Broken f k) h = absurd h
 
 -- By the reading.
@@ -140,11 +143,19 @@ set-by r bytes byte front t b x c h (open_none, set) (to, m, s, f, g, told) =
     ∙ (ap (λ (o : Outcome). (build_all (clear b) (tokens_told o)).item) g
     ∙ (ap (λ (y : Building). (build y t).item) same ∙ (item-same all t h (ap (λ (y : Building). y.opened) (sym step) ∙ open_none) ∙ (ap (λ (y : Building). y.item) (sym step) ∙ set))))
 
+-- the last byte of an item of the grammar ends a tag that has no fault by its names, or an end tag
+pub item-named : (r : Rules) (bytes : List ℕ) (byte : ℕ) (x : Item) → is_broken (frame_after r first_frame (bytes ++ byte ∷ [])) ≡ false → IsItem r (bytes ++ byte ∷ []) x
+    → (t : Token) × (told_at (frame_after r first_frame bytes) byte ≡ t ∷ []) × (named_at (build_all nothing_built (told_all r first_frame bytes)) t ≡ None)
+item-named r bytes byte x w i =
+    let (front, t, h, told, short, built, judged) = item-last r (bytes ++ byte ∷ []) x i in
+    let (to, m, s, f, g, same) = ends-at r bytes byte front t h told short w in
+    (t, ap (λ (y : Frame). told_at y byte) f ∙ ap tokens_told g, ap (λ (l : List Token). named_at (build_all nothing_built l) t) same ∙ (judged-back front (t ∷ []) nothing_built judged).0)
+
 -- the item of the grammar that ends with the byte
 pub item-set-by : (r : Rules) (bytes : List ℕ) (byte : ℕ) (b : Building) (x : Item) → clear b ≡ clear (build_all nothing_built (told_all r first_frame bytes)) → is_broken (frame_after r first_frame (bytes ++ byte ∷ [])) ≡ false → IsItem r (bytes ++ byte ∷ []) x
     → (build_all (clear b) (told_at (frame_after r first_frame bytes) byte)).item ≡ Some x
 item-set-by r bytes byte b x c w i =
-    let (front, t, h, told, short, built) = item-last r (bytes ++ byte ∷ []) x i in
+    let (front, t, h, told, short, built, judged) = item-last r (bytes ++ byte ∷ []) x i in
     set-by r bytes byte front t b x c h built (ends-at r bytes byte front t h told short w)
 
 still-open : (r : Rules) (bytes : List ℕ) (byte : ℕ) (s : Reading) → HasRead r first_frame nothing_built (bytes ++ byte ∷ []) s → IsWhole s (length (bytes ++ byte ∷ [])) → is_stopped s ≡ false → is_broken (frame_after r first_frame (bytes ++ byte ∷ [])) ≡ false

@@ -64,7 +64,7 @@ judged-back (x ∷ xs) ys b (one, more) = judged-back xs ys (build b x) more
 
 -- Of a reading.
 
-none-some : {X : Type 0} (x : X) → None ≡ Some x → ⊥
+pub none-some : {X : Type 0} (x : X) → None ≡ Some x → ⊥
 none-some x e = cc
 
 names-judged : (o : Option NameFault) (t : Bool) → named_fault o t ≡ None → o ≡ None

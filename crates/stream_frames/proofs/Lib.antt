@@ -56,3 +56,5 @@ pub mod ProperNames
 pub mod PathScopes
 pub mod NameFaults
 pub mod StandingWhole
+pub mod NamedJudged
+pub mod Exact

@@ -30,13 +30,13 @@ build-more b (x ∷ xs) ys = build-more (build b x) xs ys
 
 -- Tokens inside tags are gathered, and change nothing else.
 
-abbrev gathering : Token → Bool
+abbrev pub gathering : Token → Bool
 gathering (token.TagEnds e) = false
 gathering token.CloseEnds = false
 gathering (token.Word c) = false
 gathering t = true
 
-abbrev all-gathering : List Token → Bool
+abbrev pub all-gathering : List Token → Bool
 all-gathering [] = true
 all-gathering (t ∷ ts) = gathering t && all-gathering ts
 
@@ -54,7 +54,7 @@ gathers-one b (token.TagEnds e) h = absurd (let bad : false ≡ true = h in cc)
 gathers-one b token.CloseEnds h = absurd (let bad : false ≡ true = h in cc)
 gathers-one b (token.Word c) h = absurd (let bad : false ≡ true = h in cc)
 
-both : (s t : Bool) → (s && t) ≡ true → (s ≡ true) × (t ≡ true)
+pub both : (s t : Bool) → (s && t) ≡ true → (s ≡ true) × (t ≡ true)
 both true t e = (refl, e)
 both false t e = absurd (let bad : false ≡ true = e in cc)
 
@@ -68,7 +68,7 @@ gathering-more : (xs ys : List Token) → all-gathering xs ≡ true → all-gath
 gathering-more [] ys h k = k
 gathering-more (x ∷ xs) ys h k = let (one, more) = both (gathering x) (all-gathering xs) h in ap (λ (t : Bool). t && all-gathering (xs ++ ys)) one ∙ gathering-more xs ys more k
 
-gathering-name : (bs : List ℕ) → all-gathering (map token.NameByte bs) ≡ true
+pub gathering-name : (bs : List ℕ) → all-gathering (map token.NameByte bs) ≡ true
 gathering-name [] = refl
 gathering-name (b ∷ bs) = gathering-name bs
 
@@ -94,7 +94,7 @@ tag-body t = token.TagOpens t.name.0 ∷ (map token.NameByte t.name.1 ++ attribu
 pub body-then : (t : RawTag) (e : Bool) → tag_tokens t e ≡ tag-body t ++ token.TagEnds e ∷ []
 body-then t e = ap (λ (l : List Token). token.TagOpens t.name.0 ∷ l) (sym (append_assoc (map token.NameByte t.name.1) (attributes_tokens t.attributes) (token.TagEnds e ∷ [])))
 
-gathering-body : (t : RawTag) → all-gathering (tag-body t) ≡ true
+pub gathering-body : (t : RawTag) → all-gathering (tag-body t) ≡ true
 gathering-body t = gathering-more (map token.NameByte t.name.1) (attributes_tokens t.attributes) (gathering-name t.name.1) (gathering-attributes t.attributes)
 
 body-gathered : (g : Gathered) (t : RawTag) (e : Bool) → gather_all g (tag-body t) ≡ whole_tag t

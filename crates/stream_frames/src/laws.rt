@@ -68,13 +68,15 @@ pub fn items_are_those_of_the_grammar()
         → IsItem (rules_of l) (bytes ++ b ∷ []) i → waiting (went l first_reading (bytes ++ b ∷ [])) ≡ Some i }
 {}
 
-/// A framer stops at the first byte that has a fault, with this fault and the byte's number: a byte past the limit of its header or
-/// top element; or one with which no stream goes on, and its kind; or the `>` of a tag whose names are refused; or the end of what has
-/// a canonical spelling past the limit.
+/// A framer stops at the first byte that has a fault, with this fault and the byte's number, and at no other: a byte past the limit of
+/// its header or top element; or one with which no stream goes on, and its kind; or the `>` of a tag whose names are refused in the scope
+/// of the elements round it; or the end of what has a canonical spelling past the limit.
 pub fn faults_are_exact()
     ensures stops { (l : Limits) (bytes : List ℕ) (b : ℕ) (f : FrameFault) (k : ℕ)
         → is_stopped (went l first_reading bytes) ≡ false → went l first_reading (bytes ++ b ∷ []) ≡ stopped f k
         → IsFirstFault l bytes b f × (k ≡ told_number (length bytes + 1)) }
+    ensures refused { (l : Limits) (bytes : List ℕ) (b : ℕ) (f : FrameFault)
+        → IsFirstFault l bytes b f → went l first_reading (bytes ++ b ∷ []) ≡ stopped f (told_number (length bytes + 1)) }
     ensures goes_on { (l : Limits) (bytes : List ℕ) (b : ℕ) (f : FrameFault)
         → is_stopped (went l first_reading (bytes ++ b ∷ [])) ≡ false → IsFirstFault l bytes b f → ⊥ }
 {}
