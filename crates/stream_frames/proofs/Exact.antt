@@ -19,7 +19,7 @@ use Rattle.stream_frames.specs.Elements.{fault_of_tag}
 use Rattle.stream_frames.specs.Building.{Building, nothing_built, build_all, is_all_text, named_fault, tag_judged, told_judged}
 use Rattle.stream_frames.specs.Paths.{name_kind}
 use Rattle.stream_frames.specs.Reading.{Reading, reads, stopped, first_reading, reading_next, concluded, byte_judged, or_else, fault_if, handed, is_stopped, went, rules_of, is_past, is_large_item, extent_after, told_number}
-use Rattle.stream_frames.specs.Parts.{IsLargeEnd, IsByteFault, IsFaultIn, IsFirstFault}
+use Rattle.stream_frames.specs.Parts.{IsLargeEnd}
 use Rattle.stream_frames.proofs.Whole.{broken-begins}
 use Rattle.stream_frames.proofs.Coming.{told_all}
 use Rattle.stream_frames.proofs.Handing.{clear, HasRead, went-read, went-more}
@@ -27,7 +27,7 @@ use Rattle.stream_frames.proofs.Judged.{named_at, AreJudged, reading-judged}
 use Rattle.stream_frames.proofs.HandedOut.{item-named}
 use Rattle.stream_frames.proofs.NameFaults.{IsSoFar, name-found, name-told}
 use Rattle.stream_frames.proofs.StandingWhole.{none-some, IsWhole, told-fault, next-whole, number-next, whole}
-use Rattle.stream_frames.proofs.Faulting.{Stands, some-same, open-next, syntax-of, begins-of, large-told}
+use Rattle.stream_frames.proofs.Faulting.{IsFaultAt, IsFaultIn, Stands, some-same, open-next, syntax-of, begins-of, large-told}
 
 -- Of the kinds of the syntax one fits.
 
@@ -130,7 +130,7 @@ item-judged l f b bytes byte (e, h, (c, j)) next (i, is, large) = by (told_judge
     by None k = refl
     by (Some g) k = absurd (wrong g k)
 
-byte-exact : (l : Limits) (f : Frame) (b : Building) (n : ℕ) (bytes : List ℕ) (byte : ℕ) (g : FrameFault) → Stands l bytes f b → IsByteFault l f n bytes byte g → byte_judged l f (clear b) n byte ≡ Some g
+byte-exact : (l : Limits) (f : Frame) (b : Building) (n : ℕ) (bytes : List ℕ) (byte : ℕ) (g : FrameFault) → Stands l bytes f b → IsFaultAt l f n bytes byte g → byte_judged l f (clear b) n byte ≡ Some g
 byte-exact l f b n bytes byte g s (inl (past, is)) =
     judged-past (is_past l f (frame_next (rules_of l) f byte) n) (is_large_item l (build_all (clear b) (told_at f byte)).item) (fault_told (rules_of l) f byte) (told_judged (clear b) (told_at f byte)) past ∙ ap (λ (y : FrameFault). Some y) (sym is)
 byte-exact l f b n bytes byte g (e, h, so_far) (inr (past, inl (never, kind))) =
@@ -155,6 +155,6 @@ reading-exact l bytes byte (reads f b n k0) g (p, q) (w, v) u e =
     ap (λ (o : Option FrameFault). concluded o (reads (frame_next (rules_of l) f byte) (build_all (clear b) (told_at f byte)) (extent_after (frame_next (rules_of l) f byte) n) (told_number (k0 + 1))) (told_number (k0 + 1))) (byte-exact l f b n bytes byte g (p, w, (q, u refl)) e)
     ∙ ap (stopped g) (ap (λ (i : ℕ). told_number (i + 1)) v ∙ number-next (length bytes))
 
-pub fault_stops : (l : Limits) (bytes : List ℕ) (byte : ℕ) (g : FrameFault) → IsFirstFault l bytes byte g → went l first_reading (bytes ++ byte ∷ []) ≡ stopped g (told_number (length bytes + 1))
-fault_stops l bytes byte g e =
+pub fault-stops : (l : Limits) (bytes : List ℕ) (byte : ℕ) (g : FrameFault) → IsFaultIn l (went l first_reading bytes) bytes byte g → went l first_reading (bytes ++ byte ∷ []) ≡ stopped g (told_number (length bytes + 1))
+fault-stops l bytes byte g e =
     went-more l first_reading bytes (byte ∷ []) ∙ reading-exact l bytes byte (went l first_reading bytes) g (went-read bytes l first_frame nothing_built 0 0) (whole l bytes) (λ h. reading-judged l bytes h) e

@@ -14,7 +14,8 @@ use Rattle.stream_frames.specs.Items.{told_at}
 use Rattle.stream_frames.specs.Tracking.{fault_told}
 use Rattle.stream_frames.specs.Building.{Building, nothing_built, build_all, told_judged}
 use Rattle.stream_frames.specs.Reading.{Reading, reads, stopped, first_reading, reading_next, concluded, byte_judged, or_else, fault_if, handed, is_stopped, went, rules_of, is_past, is_large_item, extent_after, told_number}
-use Rattle.stream_frames.specs.Parts.{IsLargeEnd, IsByteFault, IsFaultIn, IsFirstFault}
+use Rattle.stream_frames.specs.Parts.{IsLargeEnd}
+use Rattle.stream_frames.specs.Paths.{IsNameFault}
 use Rattle.stream_frames.proofs.Whole.{open-begins, broken-begins}
 use Rattle.stream_frames.proofs.Blaming.{fault-kind}
 use Rattle.stream_frames.proofs.Handing.{clear, HasRead, stopped-went, went-read, went-more}
@@ -63,6 +64,19 @@ IsTold l f b n byte g =
     ⊎ ((is_past l f (frame_next (rules_of l) f byte) n ≡ false) × ((fault_told (rules_of l) f byte ≡ Some g)
     ⊎ ((fault_told (rules_of l) f byte ≡ None) × ((told_judged b (told_at f byte) ≡ Some g) ⊎ ((told_judged b (told_at f byte) ≡ None) × (is_large_item l (build_all b (told_at f byte)).item ≡ true) × (g ≡ fault.TooLong))))))
 
+-- the same in the words of the grammar, but for the count of bytes
+abbrev pub IsFaultAt : Limits → Frame → ℕ → List ℕ → ℕ → FrameFault → Type 0
+IsFaultAt l f n bytes byte g =
+    ((is_past l f (frame_next (rules_of l) f byte) n ≡ true) × (g ≡ fault.TooLong))
+    ⊎ ((is_past l f (frame_next (rules_of l) f byte) n ≡ false)
+    × (((Begins (rules_of l) (bytes ++ byte ∷ []) → ⊥) × IsSyntaxKind (rules_of l) g (bytes ++ byte ∷ []))
+    ⊎ (Begins (rules_of l) (bytes ++ byte ∷ [])
+    × (IsNameFault (bytes ++ byte ∷ []) g ⊎ (IsLargeEnd l (bytes ++ byte ∷ []) × (g ≡ fault.TooLong))))))
+
+abbrev pub IsFaultIn : Limits → Reading → List ℕ → ℕ → FrameFault → Type 0
+IsFaultIn l (stopped f k) bytes byte g = ⊥
+IsFaultIn l (reads f b n k) bytes byte g = IsFaultAt l f n bytes byte g
+
 -- where the reading stands
 abbrev pub Stands : Limits → List ℕ → Frame → Building → Type 0
 Stands l bytes f b = (f ≡ frame_after (rules_of l) first_frame bytes) × (is_broken f ≡ false) × IsSoFar (rules_of l) bytes b
@@ -88,11 +102,11 @@ large-told l f b bytes byte (e, h, (c, j)) next (i, is, large) =
     ap (λ (y : Frame). is_large_item l (build_all (clear b) (told_at y byte)).item) e
     ∙ (ap (is_large_item l) (item-set-by (rules_of l) bytes byte b i c (open-next (rules_of l) f bytes byte e next) is) ∙ large)
 
-byte-fault : (l : Limits) (f : Frame) (b : Building) (n : ℕ) (bytes : List ℕ) (byte : ℕ) (g : FrameFault) → Stands l bytes f b → byte_judged l f (clear b) n byte ≡ Some g → IsByteFault l f n bytes byte g
+byte-fault : (l : Limits) (f : Frame) (b : Building) (n : ℕ) (bytes : List ℕ) (byte : ℕ) (g : FrameFault) → Stands l bytes f b → byte_judged l f (clear b) n byte ≡ Some g → IsFaultAt l f n bytes byte g
 byte-fault l f b n bytes byte g (e, h, so_far) j =
     by (first-of (is_past l f (frame_next (rules_of l) f byte) n) (fault_told (rules_of l) f byte) (told_judged (clear b) (told_at f byte)) (is_large_item l (build_all (clear b) (told_at f byte)).item) g j)
   where
-    by : IsTold l f (clear b) n byte g → IsByteFault l f n bytes byte g
+    by : IsTold l f (clear b) n byte g → IsFaultAt l f n bytes byte g
     by (inl p) = inl p
     by (inr (p, inl t)) = inr (p, inl (syntax-of (rules_of l) f bytes byte g e h t))
     by (inr (p, inr (t, inl name))) = inr (p, inr (begins-of (rules_of l) f bytes byte e h t, inl (name-found (rules_of l) bytes byte f (clear b) g e (next-whole (rules_of l) f byte h t) so_far name)))
@@ -105,14 +119,14 @@ no-large : (large : Bool) → fault_if large fault.TooLong ≡ None → large �
 no-large true e = absurd (none-some _ (sym e))
 no-large false e = refl
 
-byte-sound : (l : Limits) (f : Frame) (b : Building) (n : ℕ) (bytes : List ℕ) (byte : ℕ) (g : FrameFault) → Stands l bytes f b → byte_judged l f (clear b) n byte ≡ None → IsByteFault l f n bytes byte g → ⊥
+byte-sound : (l : Limits) (f : Frame) (b : Building) (n : ℕ) (bytes : List ℕ) (byte : ℕ) (g : FrameFault) → Stands l bytes f b → byte_judged l f (clear b) n byte ≡ None → IsFaultAt l f n bytes byte g → ⊥
 byte-sound l f b n bytes byte g (e, h, so_far) j =
     let (past, later) = or-none _ _ j in
     let (told, more) = or-none _ _ later in
     let (names, large) = or-none _ _ more in
     by (no-large _ past) told names (no-large _ large)
   where
-    by : is_past l f (frame_next (rules_of l) f byte) n ≡ false → fault_told (rules_of l) f byte ≡ None → told_judged (clear b) (told_at f byte) ≡ None → is_large_item l (build_all (clear b) (told_at f byte)).item ≡ false → IsByteFault l f n bytes byte g → ⊥
+    by : is_past l f (frame_next (rules_of l) f byte) n ≡ false → fault_told (rules_of l) f byte ≡ None → told_judged (clear b) (told_at f byte) ≡ None → is_large_item l (build_all (clear b) (told_at f byte)).item ≡ false → IsFaultAt l f n bytes byte g → ⊥
     by past told names large (inl (p, q)) = not-both _ p past
     by past told names large (inr (p, inl (never, kind))) = never (begins-of (rules_of l) f bytes byte e h told)
     by past told names large (inr (p, inr (begins, inl name))) =
@@ -141,9 +155,9 @@ reading-fault l bytes byte (reads f b n k0) g k (p, q) (w, v) u o e = by (byte_j
       sym (number-same x g _ k e) ∙ (ap (λ (i : ℕ). told_number (i + 1)) v ∙ number-next (length bytes)),
     )
 
-pub fault_waits : (l : Limits) (bytes : List ℕ) (byte : ℕ) (g : FrameFault) (k : ℕ) → is_stopped (went l first_reading bytes) ≡ false → went l first_reading (bytes ++ byte ∷ []) ≡ stopped g k
-    → IsFirstFault l bytes byte g × (k ≡ told_number (length bytes + 1))
-fault_waits l bytes byte g k o e =
+pub fault-waits : (l : Limits) (bytes : List ℕ) (byte : ℕ) (g : FrameFault) (k : ℕ) → is_stopped (went l first_reading bytes) ≡ false → went l first_reading (bytes ++ byte ∷ []) ≡ stopped g k
+    → IsFaultIn l (went l first_reading bytes) bytes byte g × (k ≡ told_number (length bytes + 1))
+fault-waits l bytes byte g k o e =
     reading-fault l bytes byte (went l first_reading bytes) g k (went-read bytes l first_frame nothing_built 0 0) (whole l bytes) (reading-judged l bytes o) o (sym (went-more l first_reading bytes (byte ∷ [])) ∙ e)
 
 reading-sound : (l : Limits) (bytes : List ℕ) (byte : ℕ) (s : Reading) (g : FrameFault) → HasRead (rules_of l) first_frame nothing_built bytes s → IsWhole s (length bytes) → (is_stopped s ≡ false → AreJudged nothing_built (told_all (rules_of l) first_frame bytes))
@@ -156,6 +170,6 @@ reading-sound l bytes byte (reads f b n k0) g (p, q) (w, v) u o e = by (byte_jud
     by None j o = byte-sound l f b n bytes byte g (p, w, (q, u refl)) j e
     by (Some x) j o = not-both true refl o
 
-pub none_waits : (l : Limits) (bytes : List ℕ) (byte : ℕ) (g : FrameFault) → is_stopped (went l first_reading (bytes ++ byte ∷ [])) ≡ false → IsFirstFault l bytes byte g → ⊥
-none_waits l bytes byte g o e =
+pub none-waits : (l : Limits) (bytes : List ℕ) (byte : ℕ) (g : FrameFault) → is_stopped (went l first_reading (bytes ++ byte ∷ [])) ≡ false → IsFaultIn l (went l first_reading bytes) bytes byte g → ⊥
+none-waits l bytes byte g o e =
     reading-sound l bytes byte (went l first_reading bytes) g (went-read bytes l first_frame nothing_built 0 0) (whole l bytes) (λ h. reading-judged l bytes h) (ap is_stopped (sym (went-more l first_reading bytes (byte ∷ []))) ∙ o) e

@@ -58,3 +58,7 @@ pub mod NameFaults
 pub mod StandingWhole
 pub mod NamedJudged
 pub mod Exact
+pub mod LessMarks
+pub mod Opens
+pub mod Extents
+pub mod FirstFaults

@@ -12,7 +12,6 @@ use Rattle.stream_frames.specs.Items.{told_at}
 use Rattle.stream_frames.specs.Tracking.{fault_told}
 use Rattle.stream_frames.specs.Building.{Building, nothing_built, build_all, told_judged}
 use Rattle.stream_frames.specs.Reading.{Reading, reads, stopped, first_reading, reading_next, concluded, byte_judged, or_else, fault_if, handed, is_stopped, went, rules_of, is_past, is_large_item, extent_after, told_number}
-use Rattle.stream_frames.specs.Parts.{IsByteFault, IsFaultIn, IsFirstFault}
 use Rattle.stream_frames.proofs.Whole.{open-begins, broken-begins}
 use Rattle.stream_frames.proofs.Blaming.{fault-kind}
 use Rattle.stream_frames.proofs.Handing.{clear, HasRead, stopped-went, went-read, went-more}

@@ -10,8 +10,8 @@ use Rattle.stream_frames.specs.Faults.{IsSyntaxKind}
 use Rattle.stream_frames.specs.declared.FrameFault.{FrameFault}
 use Rattle.stream_frames.specs.declared.FrameFault.TheVariants as fault
 use Rattle.stream_frames.specs.declared.item.Limits.{Limits}
-use Rattle.stream_frames.specs.Framing.{Frame, frame_next}
-use Rattle.stream_frames.specs.Reading.{Reading, reads, stopped, first_reading, went, rules_of, is_past, is_large_item}
+use Rattle.stream_frames.specs.Reading.{first_reading, is_stopped, went, rules_of, is_large_item}
+use Rattle.stream_frames.specs.Extents.{IsPastLimit}
 use Rattle.stream_frames.specs.Items.{HasCome, ends_so}
 use Rattle.stream_frames.specs.Paths.{IsNameFault}
 use Rattle.stream_frames.specs.Elements.{header_of, default_of, tops_of, IsNamed}
@@ -29,21 +29,17 @@ IsItem r bytes (item.Broken f k) = ⊥
 abbrev pub IsLargeEnd : Limits → List ℕ → Type 0
 IsLargeEnd l bytes = (i : Item) × IsItem (rules_of l) bytes i × (is_large_item l (Some i) ≡ true)
 
--- A byte has a fault where the frame stands, so many bytes after the `<` of its header or top element: it is past their limit; or no
--- stream goes on with it, and the fault is of the kind of the syntax; or a stream goes on, and it ends a tag that is refused by its
--- names; or it ends an item whose canonical spelling is past the limit. The first of these counts.
-abbrev pub IsByteFault : Limits → Frame → ℕ → List ℕ → ℕ → FrameFault → Type 0
-IsByteFault l f n bytes byte g =
-    ((is_past l f (frame_next (rules_of l) f byte) n ≡ true) × (g ≡ fault.TooLong))
-    ⊎ ((is_past l f (frame_next (rules_of l) f byte) n ≡ false)
+-- The byte after these has a fault: it is past the limit of its header or top element; or no stream goes on with it, and the fault is of
+-- the kind of the syntax; or a stream goes on, and it ends a tag that is refused by its names; or it ends an item whose canonical
+-- spelling is past the limit. The first of these counts.
+abbrev pub IsByteFault : Limits → List ℕ → ℕ → FrameFault → Type 0
+IsByteFault l bytes byte g =
+    (IsPastLimit l bytes byte × (g ≡ fault.TooLong))
+    ⊎ ((IsPastLimit l bytes byte → ⊥)
     × (((Begins (rules_of l) (bytes ++ byte ∷ []) → ⊥) × IsSyntaxKind (rules_of l) g (bytes ++ byte ∷ []))
     ⊎ (Begins (rules_of l) (bytes ++ byte ∷ [])
     × (IsNameFault (bytes ++ byte ∷ []) g ⊎ (IsLargeEnd l (bytes ++ byte ∷ []) × (g ≡ fault.TooLong))))))
 
-abbrev pub IsFaultIn : Limits → Reading → List ℕ → ℕ → FrameFault → Type 0
-IsFaultIn l (stopped f k) bytes byte g = ⊥
-IsFaultIn l (reads f b n k) bytes byte g = IsByteFault l f n bytes byte g
-
--- the byte after these, which had none, has this fault
+-- it has this fault, and these had none
 abbrev pub IsFirstFault : Limits → List ℕ → ℕ → FrameFault → Type 0
-IsFirstFault l bytes byte g = IsFaultIn l (went l first_reading bytes) bytes byte g
+IsFirstFault l bytes byte g = (is_stopped (went l first_reading bytes) ≡ false) × IsByteFault l bytes byte g

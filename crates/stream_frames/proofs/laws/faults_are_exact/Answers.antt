@@ -1,5 +1,4 @@
-use Rattle.stream_frames.proofs.Faulting.{fault_waits, none_waits}
-use Rattle.stream_frames.proofs.Exact.{fault_stops}
+use Rattle.stream_frames.proofs.FirstFaults.{fault_waits, fault_stops, none_waits}
 use Rattle.stream_frames.proofs.laws.faults_are_exact.Goals as goal
 
 pub returns-clause-stops : goal.returns-clause-stops
