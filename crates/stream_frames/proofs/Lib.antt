@@ -62,3 +62,4 @@ pub mod LessMarks
 pub mod Opens
 pub mod Extents
 pub mod FirstFaults
+pub mod ScopeFaults

@@ -62,7 +62,7 @@ tokens-split d path f t e =
 
 -- Kinds.
 
-kinds : Option NameFault → Option FrameFault
+pub kinds : Option NameFault → Option FrameFault
 kinds None = None
 kinds (Some x) = Some (name_kind x)
 
@@ -131,11 +131,24 @@ name-found r bytes byte (open_at st n) b g e whole so_far judged = by (turn st b
     by (leads to us) k w j = all to us k w j
     by (fails x) k w j = absurd (none-some g j)
 
-pub name-told : (r : Rules) (bytes : List ℕ) (byte : ℕ) (f : Frame) (b : Building) (g : FrameFault) → f ≡ frame_after r first_frame bytes → is_broken (frame_after r first_frame (bytes ++ byte ∷ [])) ≡ false → IsSoFar r bytes b
-    → IsNameFault (bytes ++ byte ∷ []) g → told_judged b (told_at f byte) ≡ Some g
-name-told r bytes byte f b g e whole so_far (path, t, (d, h, empty, rooted, read, short), (x, is, kind)) =
+-- what a tag is judged to be
+pub ends-judged : (r : Rules) (bytes : List ℕ) (byte : ℕ) (f : Frame) (b : Building) (path : List Step) (t : RawTag) → f ≡ frame_after r first_frame bytes → is_broken (frame_after r first_frame (bytes ++ byte ∷ [])) ≡ false → IsSoFar r bytes b
+    → EndsTag (bytes ++ byte ∷ []) path t → told_judged b (told_at f byte) ≡ kinds (fault_of_tag (scope_of path) (whole_tag t))
+ends-judged r bytes byte f b path t e whole so_far (d, h, empty, rooted, read, short) =
     let front : List Token = tokens_in d path h ++ tag-body t in
     let split : tokens_to d path h t empty ≡ front ++ token.TagEnds empty ∷ [] = tokens-split d path h t empty in
     let (to, m, s, at_it, step, told) = ends-at r bytes byte front (token.TagEnds empty) refl (subst (Reads (bytes ++ byte ∷ [])) split read) (subst (IsShortest (bytes ++ byte ∷ [])) split short) whole in
     let one : told_at f byte ≡ token.TagEnds empty ∷ [] = ap (λ (y : Frame). told_at y byte) (e ∙ at_it) ∙ ap tokens_told step in
-    ap (told_judged b) one ∙ (names-at r bytes byte b d path h t empty so_far rooted told read ∙ (kind-some (fault_of_tag (scope_of path) (whole_tag t)) x is ∙ ap (λ (y : FrameFault). Some y) (sym kind)))
+    ap (told_judged b) one ∙ names-at r bytes byte b d path h t empty so_far rooted told read
+
+pub name-told : (r : Rules) (bytes : List ℕ) (byte : ℕ) (f : Frame) (b : Building) (g : FrameFault) → f ≡ frame_after r first_frame bytes → is_broken (frame_after r first_frame (bytes ++ byte ∷ [])) ≡ false → IsSoFar r bytes b
+    → IsNameFault (bytes ++ byte ∷ []) g → told_judged b (told_at f byte) ≡ Some g
+name-told r bytes byte f b g e whole so_far (path, t, ends, (x, is, kind)) =
+    ends-judged r bytes byte f b path t e whole so_far ends ∙ (kind-some (fault_of_tag (scope_of path) (whole_tag t)) x is ∙ ap (λ (y : FrameFault). Some y) (sym kind))
+
+-- a tag that has no fault in one scope has none in another
+pub name-not : (r : Rules) (bytes : List ℕ) (byte : ℕ) (f : Frame) (b : Building) (g : FrameFault) (path : List Step) (t : RawTag) → f ≡ frame_after r first_frame bytes → is_broken (frame_after r first_frame (bytes ++ byte ∷ [])) ≡ false → IsSoFar r bytes b
+    → EndsTag (bytes ++ byte ∷ []) path t → fault_of_tag (scope_of path) (whole_tag t) ≡ None → IsNameFault (bytes ++ byte ∷ []) g → ⊥
+unfolding kinds
+name-not r bytes byte f b g path t e whole so_far ends none name =
+    none-some g (sym (ap kinds none) ∙ (sym (ends-judged r bytes byte f b path t e whole so_far ends) ∙ name-told r bytes byte f b g e whole so_far name))

@@ -7,12 +7,17 @@ ghost use Rattle.stream_frames.specs.Trees.{RawTag, Stream, tag_tokens};
 ghost use Rattle.stream_frames.specs.Gathering.{Gathered, gather_all, whole_tag};
 ghost use Rattle.stream_frames.specs.Faults.{IsSyntaxKind};
 ghost use Rattle.stream_frames.specs.Items.{EndsHeader, EndsTop, is_header_end, is_top_end};
-ghost use Rattle.std.specs.Prelude.{◌+◌, length, take, Some};
+ghost use Rattle.std.specs.Prelude.{◌+◌, length, take, Some, None};
 ghost use Rattle.stream_frames.specs.declared.FrameFault.{FrameFault};
+ghost use Rattle.stream_frames.specs.declared.FrameFault.TheVariants as fault;
+ghost use Rattle.stream_frames.specs.declared.namespaces.NameFault.{NameFault};
 ghost use Rattle.stream_frames.specs.declared.item.Item.{Item};
 ghost use Rattle.stream_frames.specs.declared.item.Limits.{Limits};
 ghost use Rattle.stream_frames.specs.Reading.{Reading, reading_after, taken, is_ready, handed, first_reading, stopped, told_number, went, waiting, is_stopped, rules_of};
-ghost use Rattle.stream_frames.specs.Parts.{IsItem, IsFirstFault};
+ghost use Rattle.stream_frames.specs.Elements.{fault_of_tag};
+ghost use Rattle.stream_frames.specs.Extents.{IsPastLimit};
+ghost use Rattle.stream_frames.specs.Paths.{Step, scope_of, EndsTag, name_kind};
+ghost use Rattle.stream_frames.specs.Parts.{IsItem, IsLargeEnd, IsFirstFault};
 ghost use Rattle.stream_frames.specs.Framing.{frame_next, frame_after, first_frame, is_broken, has_ended, fault_at};
 
 /// Bytes begin a stream exactly where the frame that they lead to is not broken, so the first byte that breaks
@@ -79,6 +84,23 @@ pub fn faults_are_exact()
         → IsFirstFault l bytes b f → went l first_reading (bytes ++ b ∷ []) ≡ stopped f (told_number (length bytes + 1)) }
     ensures goes_on { (l : Limits) (bytes : List ℕ) (b : ℕ) (f : FrameFault)
         → is_stopped (went l first_reading (bytes ++ b ∷ [])) ≡ false → IsFirstFault l bytes b f → ⊥ }
+{}
+
+/// Where a stream goes on with a byte that is not past its limit, and the byte ends a tag, the framer stops there with the fault that the
+/// tag's names have in the scope of the elements that are open round it, and it goes on where they have none and no item ends that is too
+/// large. A fault of encoding is one of the syntax: no name and no value that is read is anything but text.
+pub fn name_faults_are_those_of_the_scope()
+    ensures refused { (l : Limits) (bytes : List ℕ) (b : ℕ) (path : List Step) (t : RawTag) (x : NameFault)
+        → is_stopped (went l first_reading bytes) ≡ false → (IsPastLimit l bytes b → ⊥) → Begins (rules_of l) (bytes ++ b ∷ [])
+        → EndsTag (bytes ++ b ∷ []) path t → fault_of_tag (scope_of path) (whole_tag t) ≡ Some x
+        → went l first_reading (bytes ++ b ∷ []) ≡ stopped (name_kind x) (told_number (length bytes + 1)) }
+    ensures kept { (l : Limits) (bytes : List ℕ) (b : ℕ) (path : List Step) (t : RawTag)
+        → is_stopped (went l first_reading bytes) ≡ false → (IsPastLimit l bytes b → ⊥) → Begins (rules_of l) (bytes ++ b ∷ [])
+        → EndsTag (bytes ++ b ∷ []) path t → fault_of_tag (scope_of path) (whole_tag t) ≡ None → (IsLargeEnd l (bytes ++ b ∷ []) → ⊥)
+        → is_stopped (went l first_reading (bytes ++ b ∷ [])) ≡ false }
+    ensures encodings { (l : Limits) (bytes : List ℕ) (b : ℕ) (k : ℕ)
+        → is_stopped (went l first_reading bytes) ≡ false → went l first_reading (bytes ++ b ∷ []) ≡ stopped fault.BadEncoding k
+        → Begins (rules_of l) (bytes ++ b ∷ []) → ⊥ }
 {}
 
 /// However a stream is cut into pieces, the framer that takes them, and hands out each item as it comes, stands where their bytes
