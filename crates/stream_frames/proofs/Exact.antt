@@ -1,5 +1,5 @@
 -- A byte that has a fault stops the reading with that fault.
-use Rattle.std.proofs.Common.{◌≡◌, ℕ, ◌+◌, ◌<◌, ◌≤◌, ◌⊎◌, inl, inr, List, [], ◌∷◌, ◌++◌, length, refl, sym, ap, ◌∙◌, subst, Bool, true, false, ◌==◌, arith}
+use Rattle.std.proofs.Common.{◌≡◌, ℕ, ◌+◌, inl, inr, List, [], ◌∷◌, ◌++◌, length, refl, sym, ap, ◌∙◌, Bool, true, false, ◌==◌, arith}
 use Rattle.std.proofs.lemmas.Bool.{cases_lt}
 use Rattle.std.specs.Prelude.{Option, Some, None, if◌then◌else◌}
 use Rattle.stream_lex.specs.declared.Token.{Token}
@@ -20,13 +20,12 @@ use Rattle.stream_frames.specs.Building.{Building, nothing_built, build_all, is_
 use Rattle.stream_frames.specs.Paths.{name_kind}
 use Rattle.stream_frames.specs.Reading.{Reading, reads, stopped, first_reading, reading_next, concluded, byte_judged, or_else, fault_if, handed, is_stopped, went, rules_of, is_past, is_large_item, extent_after, told_number}
 use Rattle.stream_frames.specs.Parts.{IsLargeEnd}
-use Rattle.stream_frames.proofs.Whole.{broken-begins}
 use Rattle.stream_frames.proofs.Coming.{told_all}
 use Rattle.stream_frames.proofs.Handing.{clear, HasRead, went-read, went-more}
 use Rattle.stream_frames.proofs.Judged.{named_at, AreJudged, reading-judged}
 use Rattle.stream_frames.proofs.HandedOut.{item-named}
-use Rattle.stream_frames.proofs.NameFaults.{IsSoFar, name-found, name-told}
-use Rattle.stream_frames.proofs.StandingWhole.{none-some, IsWhole, told-fault, next-whole, number-next, whole}
+use Rattle.stream_frames.proofs.NameFaults.{name-found, name-told}
+use Rattle.stream_frames.proofs.StandingWhole.{none-some, IsWhole, next-whole, number-next, whole}
 use Rattle.stream_frames.proofs.Faulting.{IsFaultAt, IsFaultIn, Stands, some-same, open-next, syntax-of, begins-of, large-told}
 
 -- Of the kinds of the syntax one fits.

@@ -3,7 +3,6 @@ use Rattle.std.proofs.Common.{◌≡◌, ℕ, suc, ◌+◌, ◌≤◌, ◌⊎◌
 use Rattle.std.proofs.lemmas.Bool.{and_parts, leb-true, le-leb}
 use Rattle.std.proofs.lemmas.List.{length-append}
 use Rattle.std.specs.Prelude.{Option, Some, None, if◌then◌else◌, ◌||◌, ◌&&◌, nat_le}
-use Rattle.stream_lex.specs.declared.stages.Stage.TheVariants as stage
 use Rattle.stream_lex.proofs.Lists.{false-true}
 use Rattle.stream_frames.specs.declared.FrameFault.{FrameFault}
 use Rattle.stream_frames.specs.declared.item.Limits.{Limits}
@@ -11,8 +10,8 @@ use Rattle.stream_frames.specs.declared.rules.Rules.{Rules}
 use Rattle.stream_frames.specs.Framing.{Frame, frame_next, frame_after, first_frame}
 use Rattle.stream_frames.specs.Items.{told_at, in_item}
 use Rattle.stream_frames.specs.Building.{Building, build_all}
-use Rattle.stream_frames.specs.Reading.{Reading, reads, stopped, first_reading, concluded, byte_judged, went, rules_of, is_past, extent_after, told_number}
-use Rattle.stream_frames.specs.Extents.{HasOpenItem, IsSince, IsPastLimit}
+use Rattle.stream_frames.specs.Reading.{Reading, reads, stopped, concluded, byte_judged, went, rules_of, is_past, extent_after, told_number}
+use Rattle.stream_frames.specs.Extents.{HasOpenItem, IsPastLimit}
 use Rattle.stream_frames.proofs.Whole.{first-sound}
 use Rattle.stream_frames.proofs.Following.{Sound, after-sound}
 use Rattle.stream_frames.proofs.Handing.{clear, stopped-went}

@@ -1,5 +1,5 @@
 -- A reading stops at the first byte that has a fault, with that fault and the byte's number.
-use Rattle.std.proofs.Common.{◌≡◌, ℕ, suc, ◌+◌, ◌-◌, ◌^◌, ◌≤◌, min, ◌⊎◌, inl, inr, List, [], ◌∷◌, ◌++◌, length, refl, sym, ap, ◌∙◌, subst, Bool, true, false, cond, arith}
+use Rattle.std.proofs.Common.{◌≡◌, ℕ, ◌+◌, ◌⊎◌, inl, inr, List, [], ◌∷◌, ◌++◌, length, refl, sym, ap, ◌∙◌, subst, Bool, true, false, cond}
 use Rattle.std.specs.Prelude.{Option, Some, None}
 use Rattle.stream_frames.specs.declared.FrameFault.{FrameFault}
 use Rattle.stream_frames.specs.declared.FrameFault.TheVariants as fault
@@ -9,7 +9,7 @@ use Rattle.stream_frames.specs.declared.item.Limits.{Limits}
 use Rattle.stream_frames.specs.declared.rules.Rules.{Rules}
 use Rattle.stream_frames.specs.Streams.{Begins}
 use Rattle.stream_frames.specs.Faults.{IsSyntaxKind}
-use Rattle.stream_frames.specs.Framing.{Frame, open_at, ended, broken, frame_next, frame_after, first_frame, is_broken, fault_at}
+use Rattle.stream_frames.specs.Framing.{Frame, frame_next, frame_after, first_frame, is_broken, fault_at}
 use Rattle.stream_frames.specs.Items.{told_at}
 use Rattle.stream_frames.specs.Tracking.{fault_told}
 use Rattle.stream_frames.specs.Building.{Building, nothing_built, build_all, told_judged}
@@ -18,7 +18,7 @@ use Rattle.stream_frames.specs.Parts.{IsLargeEnd}
 use Rattle.stream_frames.specs.Paths.{IsNameFault}
 use Rattle.stream_frames.proofs.Whole.{open-begins, broken-begins}
 use Rattle.stream_frames.proofs.Blaming.{fault-kind}
-use Rattle.stream_frames.proofs.Handing.{clear, HasRead, stopped-went, went-read, went-more}
+use Rattle.stream_frames.proofs.Handing.{clear, HasRead, went-read, went-more}
 use Rattle.stream_frames.proofs.StandingWhole.{none-some, or-none, IsWhole, told-fault, next-whole, number-next, whole, frames-more}
 use Rattle.stream_frames.proofs.Coming.{told_all}
 use Rattle.stream_frames.proofs.Judged.{AreJudged, judged-like, judged-more, frame-judged, reading-judged}

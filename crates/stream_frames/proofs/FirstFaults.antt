@@ -1,14 +1,13 @@
 -- The first fault of a reading, in the words of the grammar.
-use Rattle.std.proofs.Common.{◌≡◌, ℕ, ◌+◌, ◌⊎◌, inl, inr, List, [], ◌∷◌, ◌++◌, length, refl, sym, ap, ◌∙◌, Bool, true, false}
+use Rattle.std.proofs.Common.{◌≡◌, ℕ, ◌+◌, inl, inr, List, [], ◌∷◌, ◌++◌, length, refl, sym, ◌∙◌, Bool, true, false}
 use Rattle.stream_lex.proofs.Lists.{false-true}
 use Rattle.stream_frames.specs.declared.FrameFault.{FrameFault}
 use Rattle.stream_frames.specs.declared.item.Limits.{Limits}
 use Rattle.stream_frames.specs.Framing.{Frame, frame_next, frame_after, first_frame}
 use Rattle.stream_frames.specs.Building.{nothing_built}
 use Rattle.stream_frames.specs.Reading.{Reading, reads, stopped, first_reading, is_stopped, went, rules_of, is_past, told_number}
-use Rattle.stream_frames.specs.Extents.{IsPastLimit}
 use Rattle.stream_frames.specs.Parts.{IsByteFault, IsFirstFault}
-use Rattle.stream_frames.proofs.Handing.{HasRead, stopped-went, went-read, went-more}
+use Rattle.stream_frames.proofs.Handing.{HasRead, went-read}
 use Rattle.stream_frames.proofs.Faulting.{IsFaultAt, IsFaultIn, fault-waits, none-waits}
 use Rattle.stream_frames.proofs.Exact.{fault-stops}
 use Rattle.stream_frames.proofs.Extents.{extent, HasExtent, went-extent, past-is, is-past}

@@ -3,8 +3,7 @@ use Rattle.std.proofs.Common.{◌≡◌, ℕ, ◌+◌, List, [], ◌∷◌, ◌+
 use Rattle.std.specs.Prelude.{Option, Some, None, if◌then◌else◌}
 use Rattle.stream_lex.specs.declared.Token.{Token}
 use Rattle.stream_lex.specs.declared.Token.TheVariants as token
-use Rattle.stream_lex.specs.declared.stages.State.{State}
-use Rattle.stream_lex.specs.Turns.{Outcome, leads, turn}
+use Rattle.stream_lex.specs.Turns.{Outcome}
 use Rattle.stream_lex.specs.Reading.{Reads}
 use Rattle.stanza_tree.specs.declared.node.Element.{Element}
 use Rattle.stream_frames.specs.declared.FrameFault.{FrameFault}
@@ -15,16 +14,14 @@ use Rattle.stream_frames.specs.declared.item.Limits.{Limits}
 use Rattle.stream_frames.specs.declared.rules.Rules.{Rules}
 use Rattle.stream_frames.specs.Trees.{RawTag, Content, nothing, Stream, tag_tokens, content_tokens, end_tokens, declaration_tokens, stream_tokens}
 use Rattle.stream_frames.specs.Streams.{IsShortest, IsStream}
-use Rattle.stream_frames.specs.Nesting.{Nest, start}
-use Rattle.stream_frames.specs.Framing.{Frame, open_at, ended, broken, settled, frame_next, frame_after, first_frame, is_broken}
+use Rattle.stream_frames.specs.Nesting.{start}
+use Rattle.stream_frames.specs.Framing.{Frame, frame_next, frame_after, first_frame, is_broken}
 use Rattle.stream_frames.specs.Items.{head_tokens, ends_so, HasCome, told_at, tokens_told}
-use Rattle.stream_frames.specs.Gathering.{Gathered, whole_tag}
+use Rattle.stream_frames.specs.Gathering.{whole_tag}
 use Rattle.stream_frames.specs.Elements.{inside_of, outside_all, header_of, default_of, tops_of, IsNamed}
 use Rattle.stream_frames.specs.Building.{Opened, Building, nothing_built, ended_in, closed_in, build, build_all}
 use Rattle.stream_frames.specs.Parts.{IsItem}
-use Rattle.stream_frames.specs.Reading.{Reading, reads, stopped, first_reading, reading_next, concluded, byte_judged, or_else, waiting, handed, is_stopped, went, rules_of, extent_after, told_number}
-use Rattle.stream_frames.proofs.Nested.{no_token}
-use Rattle.stream_frames.proofs.Whole.{first-sound}
+use Rattle.stream_frames.specs.Reading.{Reading, reads, stopped, first_reading, reading_next, concluded, byte_judged, waiting, handed, is_stopped, went, rules_of, extent_after, told_number}
 use Rattle.stream_frames.proofs.Ending.{ends_element, last_in, last-nothing, head-last, last-ends, regroup-stream}
 use Rattle.stream_frames.proofs.Coming.{told_all}
 use Rattle.stream_frames.proofs.Made.{made, last_item, head-made, end-made}

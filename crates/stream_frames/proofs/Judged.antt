@@ -1,9 +1,8 @@
 -- Where a reading is not stopped, no tag that came has a fault by its names.
-use Rattle.std.proofs.Common.{◌≡◌, ℕ, ◌+◌, List, [], ◌∷◌, ◌++◌, length, refl, sym, ap, ◌∙◌, subst, append_assoc, append-nil, Bool, true, false, ◌==◌, encode_utf8}
+use Rattle.std.proofs.Common.{◌≡◌, ℕ, ◌+◌, List, [], ◌∷◌, ◌++◌, length, refl, sym, ap, ◌∙◌, subst, append-nil, Bool, true, false, ◌==◌, encode_utf8}
 use Rattle.std.specs.Prelude.{Option, Some, None}
 use Rattle.stream_lex.specs.declared.Token.{Token}
 use Rattle.stream_lex.specs.declared.Token.TheVariants as token
-use Rattle.stream_lex.specs.declared.stages.State.{State}
 use Rattle.stream_lex.specs.Turns.{Outcome, leads, fails, turn}
 use Rattle.stream_frames.specs.declared.FrameFault.{FrameFault}
 use Rattle.stream_frames.specs.declared.namespaces.Binding.{Binding}
@@ -14,8 +13,7 @@ use Rattle.stream_frames.specs.declared.item.Item.TheVariants as item
 use Rattle.stream_frames.specs.declared.item.Limits.{Limits}
 use Rattle.stream_frames.specs.declared.rules.Rules.{Rules}
 use Rattle.stream_frames.specs.Trees.{RawTag, Content, nothing, word, element, hollow, tag_tokens, end_tokens, content_tokens, declaration_tokens}
-use Rattle.stream_frames.specs.Nesting.{Nest}
-use Rattle.stream_frames.specs.Framing.{Frame, open_at, ended, broken, frame_next, frame_after, first_frame}
+use Rattle.stream_frames.specs.Framing.{Frame, open_at, ended, broken, frame_next, first_frame}
 use Rattle.stream_frames.specs.Items.{head_tokens, told_at, tokens_told}
 use Rattle.stream_frames.specs.Tracking.{are_words, is_few}
 use Rattle.stream_frames.specs.Namespaces.{own}
@@ -27,7 +25,7 @@ use Rattle.stream_frames.specs.Reading.{Reading, reads, stopped, first_reading, 
 use Rattle.stream_frames.proofs.Few.{turn-few}
 use Rattle.stream_frames.proofs.Coming.{told_all}
 use Rattle.stream_frames.proofs.Made.{made, tag-body, body-then, body-made, tag-made, not-empty, start-if, regroup, content-made, tops-made, declared-made}
-use Rattle.stream_frames.proofs.Handing.{clear, clear-one, build-more, stopped-went}
+use Rattle.stream_frames.proofs.Handing.{clear, clear-one, stopped-went}
 
 -- a tag is judged by its names as it ends
 abbrev pub named_at : Building → Token → Option NameFault
@@ -171,9 +169,11 @@ element-named t h f inner later g layers os words i deep j =
 hollow-named : (t : RawTag) (f : Content) → NamedOn f → NamedOn (hollow t f)
 hollow-named t f later g layers os words i deep j =
     let b : Building = made g layers os words i in
-    let one : fault_of_tag layers (whole_tag t) ≡ None = tag-judged b t true (judged-front (tag_tokens t true) (content_tokens f) b j) in
-    (one, on-named f later (build_all b (tag_tokens t true)) layers deep (subst (λ (l : List Token). IsOn (build_all b l) layers) (append-nil (tag_tokens t true)) (leaves-on (hollow t nothing) g layers os words i deep))
-      (judged-back (tag_tokens t true) (content_tokens f) b j))
+    let one : fault_of_tag layers (whole_tag t) ≡ None = tag-judged b t true (judged-front (tag_tokens t true) (content_tokens f) b j) in (
+      one,
+      on-named f later (build_all b (tag_tokens t true)) layers deep (subst (λ (l : List Token). IsOn (build_all b l) layers) (append-nil (tag_tokens t true)) (leaves-on (hollow t nothing) g layers os words i deep))
+          (judged-back (tag_tokens t true) (content_tokens f) b j),
+    )
 
 word-named : (c : ℕ) (f : Content) → NamedOn f → NamedOn (word c f)
 word-named c f later g layers [] words i deep (one, more) = later g layers [] words i deep more

@@ -20,10 +20,10 @@ use Rattle.stream_lex.proofs.Ended.{left-done}
 use Rattle.stream_frames.specs.Trees.{is_space}
 use Rattle.stream_frames.specs.declared.rules.Rules.{Rules}
 use Rattle.stream_frames.specs.Streams.{AreSpaces, IsShortest}
-use Rattle.stream_frames.specs.Nesting.{Nest, start, declared, inside, naming, in_tag, naming_attribute, in_value, closing, lost, nest_all}
+use Rattle.stream_frames.specs.Nesting.{Nest, start, inside, lost, nest_all}
 use Rattle.stream_frames.specs.Framing.{goes_with, Frame, open_at, ended, broken, placed, settled, frame_next, frame_after, first_frame, is_broken}
 use Rattle.stream_frames.specs.Tracking.{are_words, is_few}
-use Rattle.stream_frames.specs.Items.{tokens_told, told_at}
+use Rattle.stream_frames.specs.Items.{tokens_told}
 use Rattle.stream_frames.proofs.Nested.{token_head, token_tail, no_token}
 use Rattle.stream_frames.proofs.Twins.{words}
 use Rattle.stream_frames.proofs.Few.{turn-few}
@@ -216,8 +216,14 @@ later r st s n c b bs us front rest t live e o f (inl (xs, ys, p, l)) =
     inl (c ∷ xs, ys, ap (λ (x : List ℕ). c ∷ x) p, subst (λ (x : List Token). Left st (c ∷ xs) (all_said x)) (sym (append_assoc us rest (t ∷ [])) ∙ ap (λ (x : List Token). x ++ t ∷ []) (sym f)) (left-from st s c us xs (rest ++ t ∷ []) live e l))
 later r st s n c b bs us front rest t live e o f (inr (to, m, s1, g, k, told)) =
     let next : frame_next r (open_at st n) c ≡ open_at s (nest_all r n us) = ap (settled r n) e ∙ o in
-    inr (to, m, s1, ap (λ (x : Frame). frame_after r x bs) next ∙ g, k,
-      ap (λ (x : Outcome). tokens_told x ++ told_all r (frame_next r (open_at st n) c) bs) e ∙ (ap (λ (x : Frame). us ++ told_all r x bs) next ∙ (ap (λ (x : List Token). us ++ x) told ∙ sym f)))
+    inr (
+      to,
+      m,
+      s1,
+      ap (λ (x : Frame). frame_after r x bs) next ∙ g,
+      k,
+      ap (λ (x : Outcome). tokens_told x ++ told_all r (frame_next r (open_at st n) c) bs) e ∙ (ap (λ (x : Frame). us ++ told_all r x bs) next ∙ (ap (λ (x : List Token). us ++ x) told ∙ sym f)),
+    )
 
 pub last-told : (bs : List ℕ) (r : Rules) (st : State) (n : Nest) (b : ℕ) (front : List Token) (t : Token) → IsSound r st n → ends_tag t ≡ true → Left st (bs ++ b ∷ []) (all_said (front ++ t ∷ []))
     → is_broken (frame_after r (open_at st n) (bs ++ b ∷ [])) ≡ false → Ends r st n bs b front t

@@ -32,9 +32,6 @@ use Rattle.stream_lex.specs.Grammar.{text_token}
 use Rattle.stream_lex.specs.Machine.{Turn, goes, stops, letters, fixed_end, fixed_fault, is_fixed, in_fixed, in_declaration, in_reference, in_number, in_name, in_tag, ascii}
 use Rattle.stream_lex.specs.Machine.{yields as tells_and_goes}
 
-use Rattle.std.specs.Prelude.{◌==◌}
-use Rattle.stream_lex.proofs.Lists.{false-true}
-
 -- the stages after the `<` of a tag
 abbrev pub is_less : Stage → Bool
 is_less stage.StartLess = true

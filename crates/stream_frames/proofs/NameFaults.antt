@@ -108,9 +108,12 @@ tag-found r bytes byte st to n e b g at_it step whole so_far judged =
     let before : Before n us = subst (λ (m : Nest). Before m us) leads_to (before-from r us) in
     let (d, path, f, t, rooted, same) = tag-tokens r n us e before (λ q. lost-broken r to (nest r n (token.TagEnds e)) q whole) in
     let told : us ≡ tokens_in d path f ++ tag-body t = init-same us (tokens_in d path f ++ tag-body t) (token.TagEnds e) (token.TagEnds e) (same ∙ tokens-split d path f t e) in
-    let reads_so : Reads (bytes ++ byte ∷ []) (tokens_to d path f t e) = subst (Reads (bytes ++ byte ∷ [])) same read in
-    (path, t, (d, f, e, rooted, reads_so, subst (IsShortest (bytes ++ byte ∷ [])) same short),
-      some-kind (fault_of_tag (scope_of path) (whole_tag t)) g (sym (names-at r bytes byte b d path f t e so_far rooted told reads_so) ∙ judged))
+    let reads_so : Reads (bytes ++ byte ∷ []) (tokens_to d path f t e) = subst (Reads (bytes ++ byte ∷ [])) same read in (
+      path,
+      t,
+      (d, f, e, rooted, reads_so, subst (IsShortest (bytes ++ byte ∷ [])) same short),
+      some-kind (fault_of_tag (scope_of path) (whole_tag t)) g (sym (names-at r bytes byte b d path f t e so_far rooted told reads_so) ∙ judged),
+    )
 
 pub name-found : (r : Rules) (bytes : List ℕ) (byte : ℕ) (f : Frame) (b : Building) (g : FrameFault) → f ≡ frame_after r first_frame bytes → is_broken (frame_next r f byte) ≡ false → IsSoFar r bytes b
     → told_judged b (told_at f byte) ≡ Some g → IsNameFault (bytes ++ byte ∷ []) g

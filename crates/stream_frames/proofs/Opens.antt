@@ -3,7 +3,6 @@ use Rattle.std.proofs.Common.{◌≡◌, ℕ, ◌<◌, inl, inr, List, [], ◌�
 use Rattle.std.proofs.lemmas.Bool.{cond_both, and_parts, ltb-true, eqb-true}
 use Rattle.stream_lex.specs.declared.Token.{Token}
 use Rattle.stream_lex.specs.declared.Token.TheVariants as token
-use Rattle.stream_lex.specs.declared.kinds.Kind.TheVariants as kinds
 use Rattle.stream_lex.specs.declared.stages.Context.TheVariants.{Words, Value}
 use Rattle.stream_lex.specs.declared.stages.NameOwner.TheVariants.{StartTag, EndTag, Attribute}
 use Rattle.stream_lex.specs.declared.stages.Brackets.TheVariants.{One, Many}
@@ -25,7 +24,7 @@ use Rattle.stream_lex.proofs.ByteSteps.{Spelt, reach-spelt}
 use Rattle.stream_frames.specs.declared.rules.Rules.{Rules}
 use Rattle.stream_frames.specs.Trees.{RawName}
 use Rattle.stream_frames.specs.Nesting.{Nest, start, declared, inside, naming, in_tag, naming_attribute, in_value, closing, lost, may_stand, before_root, in_content, nest, nest_all}
-use Rattle.stream_frames.specs.Framing.{Frame, open_at, ended, broken, placed, frame_next, frame_after, first_frame}
+use Rattle.stream_frames.specs.Framing.{Frame, open_at, ended, broken, placed, frame_next}
 use Rattle.stream_frames.specs.Framing.{settled as frame_settled}
 use Rattle.stream_frames.specs.Items.{in_item_nest, in_item}
 use Rattle.stream_frames.specs.Tracking.{are_words, is_few}
@@ -33,9 +32,9 @@ use Rattle.stream_frames.proofs.RoundTripNames.{all_under, under, implied}
 use Rattle.stream_frames.proofs.Sorts.{may_return}
 use Rattle.stream_frames.proofs.Moving.{calm, calm-was}
 use Rattle.stream_frames.proofs.Few.{turn-few}
-use Rattle.stream_frames.proofs.Following.{IsSound, Sound}
+use Rattle.stream_frames.proofs.Following.{Sound}
 use Rattle.stream_frames.proofs.LastTold.{Placed, placed-cases}
-use Rattle.stream_frames.proofs.LessMarks.{is_less, is_less_kind, opens, to_less, turn_opens, IsMarked, less-ascii}
+use Rattle.stream_frames.proofs.LessMarks.{is_less, is_less_kind, opens, to_less, turn_opens, less-ascii}
 
 -- right after the `<` of a tag
 abbrev pub after_less : State → Bool

@@ -1,16 +1,14 @@
 -- What is built where a tag ends: the bindings are those of the open elements round it.
 use Rattle.std.proofs.Common.{◌≡◌, ℕ, List, [], ◌∷◌, ◌++◌, length, refl, sym, ap, ◌∙◌, subst, append_assoc, append-nil, Bool, true, false, ◌==◌}
-use Rattle.std.specs.Prelude.{Option, Some, None, if◌then◌else◌}
+use Rattle.std.specs.Prelude.{None, if◌then◌else◌}
 use Rattle.stream_lex.specs.declared.Token.{Token}
-use Rattle.stream_lex.specs.declared.Token.TheVariants as token
 use Rattle.stream_lex.specs.Reading.{Reads}
 use Rattle.stream_frames.specs.declared.namespaces.Binding.{Binding}
-use Rattle.stream_frames.specs.declared.item.Item.{Item}
 use Rattle.stream_frames.specs.Trees.{RawTag, Content, nothing, tag_tokens, content_tokens, declaration_tokens}
 use Rattle.stream_frames.specs.Namespaces.{own}
-use Rattle.stream_frames.specs.Gathering.{Gathered, nothing_gathered, whole_tag}
+use Rattle.stream_frames.specs.Gathering.{nothing_gathered, whole_tag}
 use Rattle.stream_frames.specs.Elements.{inside_of, fault_of_tag}
-use Rattle.stream_frames.specs.Building.{Opened, Building, nothing_built, build, build_all}
+use Rattle.stream_frames.specs.Building.{Building, nothing_built, build_all}
 use Rattle.stream_frames.specs.Paths.{Step, path_tokens, scope_of, IsRooted, tokens_to}
 use Rattle.stream_frames.proofs.Made.{made, tag-body, body-made, tag-made, not-empty, declared-made}
 use Rattle.stream_frames.proofs.Handing.{build-more}

@@ -1,6 +1,6 @@
 -- Where tokens lead to: the elements that are open, what has come in the innermost of them, and what has come of a tag.
 use Rattle.std.proofs.Common.{◌≡◌, ℕ, ◌+◌, List, [], ◌∷◌, ◌++◌, map, length, refl, sym, ap, ◌∙◌, subst, append_assoc, append-nil, Bool, true, false, cond, ◌==◌, nat_lt}
-use Rattle.std.proofs.lemmas.Bool.{cond_both, eqb-true}
+use Rattle.std.proofs.lemmas.Bool.{eqb-true}
 use Rattle.std.proofs.lemmas.List.{map-append}
 use Rattle.stream_lex.specs.declared.Token.{Token}
 use Rattle.stream_lex.specs.declared.Token.TheVariants as token
@@ -194,26 +194,42 @@ before-next r (inside (m ∷ st)) ts t h = content-before r m st ts t h
 before-next r (naming st n) ts (token.NameByte x) h = name-more st n ts x h
 before-next r (naming st n) ts t h = name-before r st n 0 [] ts t h
 before-next r (in_tag st n k) ts t (xs, h) = name-before r st n k xs ts t h
-before-next r (naming_attribute st n k) ts (token.AttrByte x) (us, xs, a, bs, h, is) =
-    (us, xs, a, bs ++ x ∷ [], h,
-      ap (λ (l : List Token). l ++ token.AttrByte x ∷ []) is
-          ∙ (regroup-one us (map token.AttrByte bs) (token.AttrOpens a) (token.AttrByte x) ∙ ap (λ (l : List Token). us ++ (token.AttrOpens a ∷ l)) (sym (map-append token.AttrByte bs (x ∷ [])))))
+before-next r (naming_attribute st n k) ts (token.AttrByte x) (us, xs, a, bs, h, is) = (
+  us,
+  xs,
+  a,
+  bs ++ x ∷ [],
+  h,
+  ap (λ (l : List Token). l ++ token.AttrByte x ∷ []) is
+      ∙ (regroup-one us (map token.AttrByte bs) (token.AttrOpens a) (token.AttrByte x) ∙ ap (λ (l : List Token). us ++ (token.AttrOpens a ∷ l)) (sym (map-append token.AttrByte bs (x ∷ [])))),
+)
 before-next r (naming_attribute st n k) ts token.ValueOpens (us, xs, a, bs, h, is) =
     (us, xs, a, bs, [], h, ap (λ (l : List Token). l ++ token.ValueOpens ∷ []) is ∙ regroup-one us (map token.AttrByte bs) (token.AttrOpens a) token.ValueOpens)
 before-next r (naming_attribute st n k) ts t h = tt
-before-next r (in_value st n k) ts (token.Value c) (us, xs, a, bs, v, h, is) =
-    (us, xs, a, bs, v ++ c ∷ [], h,
-      ap (λ (l : List Token). l ++ token.Value c ∷ []) is
-          ∙ (regroup-two us (map token.AttrByte bs) (map token.Value v) (token.AttrOpens a) token.ValueOpens (token.Value c)
-          ∙ ap (λ (l : List Token). us ++ (token.AttrOpens a ∷ (map token.AttrByte bs ++ (token.ValueOpens ∷ l)))) (sym (map-append token.Value v (c ∷ [])))))
+before-next r (in_value st n k) ts (token.Value c) (us, xs, a, bs, v, h, is) = (
+  us,
+  xs,
+  a,
+  bs,
+  v ++ c ∷ [],
+  h,
+  ap (λ (l : List Token). l ++ token.Value c ∷ []) is
+      ∙ (regroup-two us (map token.AttrByte bs) (map token.Value v) (token.AttrOpens a) token.ValueOpens (token.Value c)
+      ∙ ap (λ (l : List Token). us ++ (token.AttrOpens a ∷ (map token.AttrByte bs ++ (token.ValueOpens ∷ l)))) (sym (map-append token.Value v (c ∷ [])))),
+)
 before-next r (in_value st n k) ts token.ValueEnds (us, xs, a, bs, v, h, is) = (_, attribute-more st n xs ts us a bs v h is)
 before-next r (in_value st n k) ts t h = tt
 before-next r (closing st (x ∷ m)) ts (token.NameByte y) (us, p, done, h, e, is) =
     cond-before (y == x) (closing st m) _
-    (λ f. (us, p, done ++ y ∷ [], h,
+    (λ f. (
+      us,
+      p,
+      done ++ y ∷ [],
+      h,
       e ∙ (ap (λ (z : ℕ). done ++ (z ∷ m)) (sym (eqb-true y x f)) ∙ sym (append_assoc done (y ∷ []) m)),
       ap (λ (l : List Token). l ++ token.NameByte y ∷ []) is
-          ∙ (regroup-one us (map token.NameByte done) (token.CloseOpens p.0) (token.NameByte y) ∙ ap (λ (l : List Token). us ++ (token.CloseOpens p.0 ∷ l)) (sym (map-append token.NameByte done (y ∷ []))))))
+          ∙ (regroup-one us (map token.NameByte done) (token.CloseOpens p.0) (token.NameByte y) ∙ ap (λ (l : List Token). us ++ (token.CloseOpens p.0 ∷ l)) (sym (map-append token.NameByte done (y ∷ [])))),
+    ))
 before-next r (closing st (x ∷ m)) ts t h = tt
 before-next r (closing st []) ts token.CloseEnds h = end-before st ts h
 before-next r (closing st []) ts t h = tt

@@ -1,16 +1,15 @@
 -- The names and values of a tag that is read are texts: names are NCNames, and values characters of XML, in UTF-8.
-use Rattle.std.proofs.Common.{◌≡◌, ℕ, ◌⊎◌, inl, inr, List, [], ◌∷◌, refl, sym, ap, ◌∙◌, subst, Bool, true, false, arith}
-use Rattle.std.proofs.lemmas.Bool.{cond-true}
+use Rattle.std.proofs.Common.{◌≡◌, ℕ, ◌⊎◌, inl, inr, List, [], ◌∷◌, refl, ap, ◌∙◌, Bool, true, false, arith}
 use Rattle.std.proofs.lemmas.Bool.Decides.{nat_tests}
 use Rattle.std.proofs.lemmas.Str.{is_utf8-from_IsUtf8}
 use Rattle.std.proofs.Math.Utf8.{scalars}
 use Rattle.std.specs.Char.{IsScalar}
 use Rattle.std.specs.List.{AllByRecursion}
-use Rattle.std.specs.Prelude.{encode_utf8_all, if◌then◌else◌, ◌||◌, ◌&&◌, ◌==◌, nat_le, length, Option, Some, None}
+use Rattle.std.specs.Prelude.{if◌then◌else◌, ◌||◌, ◌&&◌, ◌==◌, nat_le, Option, Some, None}
 use Rattle.std.specs.Str.{is_utf8}
 use Rattle.stanza_tree.specs.declared.node.Attr.{Attr}
 use Rattle.stanza_tree.specs.declared.node.Name.{Name}
-use Rattle.stream_lex.specs.Classes.{has_between, is_xml, name_starts, name_characters}
+use Rattle.stream_lex.specs.Classes.{is_xml}
 use Rattle.stream_lex.proofs.Lists.{false-true}
 use Rattle.stream_frames.specs.declared.namespaces.Binding.{Binding}
 use Rattle.stream_frames.specs.Trees.{RawTag}

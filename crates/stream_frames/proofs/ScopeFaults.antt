@@ -1,6 +1,6 @@
 -- A tag is refused at its `>` exactly where its names have a fault in the scope of the open elements round it.
-use Rattle.std.proofs.Common.{◌≡◌, ℕ, ◌+◌, ◌⊎◌, inl, inr, List, [], ◌∷◌, ◌++◌, length, refl, sym, ap, ◌∙◌, Bool, true, false}
-use Rattle.std.specs.Prelude.{Option, Some, None}
+use Rattle.std.proofs.Common.{◌≡◌, ℕ, ◌+◌, inl, inr, List, [], ◌∷◌, ◌++◌, length, refl, sym, Bool, true, false}
+use Rattle.std.specs.Prelude.{Some, None}
 use Rattle.stream_lex.proofs.Lists.{false-true}
 use Rattle.stream_frames.specs.declared.FrameFault.{FrameFault}
 use Rattle.stream_frames.specs.declared.FrameFault.TheVariants as fault
@@ -9,10 +9,10 @@ use Rattle.stream_frames.specs.declared.namespaces.NameFault.TheVariants as name
 use Rattle.stream_frames.specs.declared.item.Limits.{Limits}
 use Rattle.stream_frames.specs.Trees.{RawTag}
 use Rattle.stream_frames.specs.Streams.{Begins}
-use Rattle.stream_frames.specs.Framing.{Frame, frame_after, first_frame, is_broken}
+use Rattle.stream_frames.specs.Framing.{frame_after, first_frame, is_broken}
 use Rattle.stream_frames.specs.Gathering.{whole_tag}
 use Rattle.stream_frames.specs.Elements.{fault_of_tag}
-use Rattle.stream_frames.specs.Building.{Building, nothing_built}
+use Rattle.stream_frames.specs.Building.{nothing_built}
 use Rattle.stream_frames.specs.Reading.{Reading, reads, stopped, first_reading, is_stopped, went, rules_of, told_number}
 use Rattle.stream_frames.specs.Extents.{IsPastLimit}
 use Rattle.stream_frames.specs.Paths.{Step, scope_of, EndsTag, name_kind, IsNameFault}

@@ -1,20 +1,15 @@
 -- A reading that is not stopped has no fault of the syntax, and tells the number of its bytes.
-use Rattle.std.proofs.Common.{◌≡◌, ℕ, suc, ◌+◌, ◌-◌, ◌^◌, ◌≤◌, min, ◌⊎◌, inl, inr, List, [], ◌∷◌, ◌++◌, length, refl, sym, ap, ◌∙◌, subst, Bool, true, false, cond, arith}
+use Rattle.std.proofs.Common.{◌≡◌, ℕ, suc, ◌+◌, ◌-◌, ◌^◌, ◌≤◌, List, [], ◌∷◌, ◌++◌, length, refl, sym, ap, ◌∙◌, subst, Bool, true, false, cond, arith}
 use Rattle.std.specs.Prelude.{Option, Some, None}
 use Rattle.stream_frames.specs.declared.FrameFault.{FrameFault}
-use Rattle.stream_frames.specs.declared.FrameFault.TheVariants as fault
 use Rattle.stream_frames.specs.declared.item.Limits.{Limits}
 use Rattle.stream_frames.specs.declared.rules.Rules.{Rules}
-use Rattle.stream_frames.specs.Streams.{Begins}
-use Rattle.stream_frames.specs.Faults.{IsSyntaxKind}
-use Rattle.stream_frames.specs.Framing.{Frame, open_at, ended, broken, frame_next, frame_after, first_frame, is_broken, fault_at}
+use Rattle.stream_frames.specs.Framing.{Frame, open_at, ended, broken, frame_next, frame_after, is_broken, fault_at}
 use Rattle.stream_frames.specs.Items.{told_at}
 use Rattle.stream_frames.specs.Tracking.{fault_told}
-use Rattle.stream_frames.specs.Building.{Building, nothing_built, build_all, told_judged}
-use Rattle.stream_frames.specs.Reading.{Reading, reads, stopped, first_reading, reading_next, concluded, byte_judged, or_else, fault_if, handed, is_stopped, went, rules_of, is_past, is_large_item, extent_after, told_number}
-use Rattle.stream_frames.proofs.Whole.{open-begins, broken-begins}
-use Rattle.stream_frames.proofs.Blaming.{fault-kind}
-use Rattle.stream_frames.proofs.Handing.{clear, HasRead, stopped-went, went-read, went-more}
+use Rattle.stream_frames.specs.Building.{build_all}
+use Rattle.stream_frames.specs.Reading.{Reading, reads, stopped, first_reading, reading_next, concluded, byte_judged, or_else, handed, went, rules_of, extent_after, told_number}
+use Rattle.stream_frames.proofs.Handing.{clear}
 
 pub none-some : {X : Type 0} (x : X) → None ≡ Some x → ⊥
 none-some x e = cc

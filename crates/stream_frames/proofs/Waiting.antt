@@ -1,5 +1,5 @@
 -- The item that waits after a byte, by the token that the byte told.
-use Rattle.std.proofs.Common.{◌≡◌, ℕ, zero, suc, ◌⊎◌, inl, inr, append_assoc, append-nil, List, [], ◌∷◌, ◌++◌, ◌+◌, length, refl, sym, ap, ◌∙◌, subst, Bool, true, false, cond, ◌==◌}
+use Rattle.std.proofs.Common.{◌≡◌, ℕ, zero, suc, inl, inr, append_assoc, append-nil, List, [], ◌∷◌, ◌++◌, ◌+◌, length, refl, sym, ap, ◌∙◌, subst, Bool, true, false, cond, ◌==◌}
 use Rattle.std.specs.Prelude.{Option, Some, None, if◌then◌else◌}
 use Rattle.stream_lex.specs.declared.Token.{Token}
 use Rattle.stream_lex.specs.declared.Token.TheVariants as token
@@ -10,7 +10,7 @@ use Rattle.stream_frames.specs.declared.namespaces.Binding.{Binding}
 use Rattle.stream_frames.specs.declared.item.Item.{Item}
 use Rattle.stream_frames.specs.declared.item.Item.TheVariants as item
 use Rattle.stream_frames.specs.declared.rules.Rules.{Rules}
-use Rattle.stream_frames.specs.Trees.{RawTag, Content, nothing, word, element, hollow, Stream, tag_tokens, content_tokens, end_tokens, declaration_tokens, stream_tokens}
+use Rattle.stream_frames.specs.Trees.{RawTag, Content, nothing, word, element, hollow, tag_tokens, content_tokens, end_tokens, declaration_tokens, stream_tokens}
 use Rattle.stream_frames.specs.Nesting.{Nest, nest, nest_all, start, declared, inside, naming, in_tag, naming_attribute, in_value, closing, lost}
 use Rattle.stream_frames.specs.Framing.{Frame, open_at, ended, broken, placed, settled, frame_next, frame_after, first_frame, is_broken, has_ended}
 use Rattle.stream_frames.specs.Items.{is_between_tops, told_at, tokens_told, head_tokens, ends_so, HasCome}

@@ -1,5 +1,5 @@
 -- The items of a stream, by the grammar (RFC 6120, 4.2).
-use Rattle.std.specs.Prelude.{◌≡◌, ℕ, ◌⊎◌, List, [], ◌∷◌, ◌++◌, true, false, Some, None}
+use Rattle.std.specs.Prelude.{◌≡◌, ℕ, ◌⊎◌, List, [], ◌∷◌, ◌++◌, true, false, Some}
 use Rattle.stanza_tree.specs.declared.node.Element.{Element}
 use Rattle.stream_frames.specs.declared.item.Item.{Item}
 use Rattle.stream_frames.specs.declared.item.Item.TheVariants as item
