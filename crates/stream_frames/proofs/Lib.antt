@@ -58,7 +58,6 @@ pub mod NameFaults
 pub mod StandingWhole
 pub mod NamedJudged
 pub mod Exact
-pub mod LessMarks
 pub mod Opens
 pub mod Extents
 pub mod FirstFaults

@@ -29,12 +29,11 @@ use Rattle.stream_frames.specs.Framing.{settled as frame_settled}
 use Rattle.stream_frames.specs.Items.{in_item_nest, in_item}
 use Rattle.stream_frames.specs.Tracking.{are_words, is_few}
 use Rattle.stream_frames.proofs.RoundTripNames.{all_under, under, implied}
-use Rattle.stream_frames.proofs.Sorts.{may_return}
+use Rattle.stream_frames.proofs.Sorts.{is_less, is_less_kind, opens, to_less, opens_tag, moves-ascii, may_return}
 use Rattle.stream_frames.proofs.Moving.{calm, calm-was}
 use Rattle.stream_frames.proofs.Few.{turn-few}
 use Rattle.stream_frames.proofs.Following.{Sound}
 use Rattle.stream_frames.proofs.LastTold.{Placed, placed-cases}
-use Rattle.stream_frames.proofs.LessMarks.{is_less, is_less_kind, opens, to_less, turn_opens, less-ascii}
 
 -- right after the `<` of a tag
 abbrev pub after_less : State → Bool
@@ -64,7 +63,7 @@ less-returns stage.PrologLess h k = false-true k
 less-returns stage.Less h k = false-true k
 less-returns s h k = false-true h
 
-settled-opening : (s : Stage) (r r1 : Bool) (b : ℕ) (t : Turn) → (to_less t ≡ true → b ≡ 60) → (turn_opens t ≡ true → is_less s ≡ true) → IsOpening (at s pending.Nothing r) b (settled r1 t)
+settled-opening : (s : Stage) (r r1 : Bool) (b : ℕ) (t : Turn) → (to_less t ≡ true → b ≡ 60) → (opens_tag t ≡ true → is_less s ≡ true) → IsOpening (at s pending.Nothing r) b (settled r1 t)
 settled-opening s r r1 b (goes t) h k = (h, λ e. false-true e)
 settled-opening s r r1 b (tells_and_goes us t) h k = (h, k)
 settled-opening s r r1 b (stops f) h k = tt
@@ -75,8 +74,8 @@ ascii-opening s r b low h =
     cond_both (r && b == 10) _ _ (IsOpening (at s pending.Nothing r) b)
     (λ e. (λ l. absurd (less-returns s l (calm-was r s h (and_parts r (b == 10) e).0)), λ l. false-true l))
     (λ f. cond_both (b == 13) _ _ (IsOpening (at s pending.Nothing r) b)
-    (λ e. let known = less-ascii s (ascii_kind 10) 10 in settled-opening s r true b (ascii s (ascii_kind 10) 10) (λ l. absurd (space-less (implied _ _ known.0 l))) (λ l. implied _ _ known.1 l))
-    (λ g. let known = less-ascii s (ascii_kind b) b in settled-opening s r false b (ascii s (ascii_kind b) b) (λ l. kind-less b low (implied _ _ known.0 l)) (λ l. implied _ _ known.1 l)))
+    (λ e. let known = moves-ascii s (ascii_kind 10) 10 in settled-opening s r true b (ascii s (ascii_kind 10) 10) (λ l. absurd (space-less (implied _ _ known.4 l))) (λ l. implied _ _ known.5 l))
+    (λ g. let known = moves-ascii s (ascii_kind b) b in settled-opening s r false b (ascii s (ascii_kind b) b) (λ l. kind-less b low (implied _ _ known.4 l)) (λ l. implied _ _ known.5 l)))
   where
     space-less : is_less_kind (ascii_kind 10) ≡ true → ⊥
     space-less e = let bad : false ≡ true = ap (λ (x : ℕ). x == 60) (kind-less 10 (ltb-true 10 128 refl) e) in false-true bad
