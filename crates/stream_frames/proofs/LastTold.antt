@@ -1,16 +1,10 @@
 -- Where a text ends with the last byte that tells something, and that ends a tag: the byte tells this token alone, and those before it the others.
-use Rattle.std.proofs.Common.{◌≡◌, ℕ, ◌⊎◌, inl, inr, List, [], ◌∷◌, ◌++◌, refl, sym, ap, ◌∙◌, subst, append_assoc, append-nil, Bool, true, false, cond, ◌==◌, ◌||◌}
-use Rattle.std.proofs.lemmas.Bool.{eqb-true}
+use Rattle.std.proofs.Common.{◌≡◌, ℕ, ◌⊎◌, inl, inr, List, [], ◌∷◌, ◌++◌, refl, sym, ap, ◌∙◌, subst, append_assoc, append-nil, Bool, true, false, cond}
 use Rattle.stream_lex.specs.declared.Token.{Token}
 use Rattle.stream_lex.specs.declared.Token.TheVariants as token
-use Rattle.stream_lex.specs.declared.stages.Context.TheVariants.{Words}
-use Rattle.stream_lex.specs.declared.stages.Stage.TheVariants as stage
 use Rattle.stream_lex.specs.declared.stages.State.{State}
-use Rattle.stream_lex.specs.declared.characters.Pending.TheVariants as pending
-use Rattle.stream_lex.specs.Kinds.{ascii_kind}
 use Rattle.stream_lex.specs.Expressions.{all_said}
-use Rattle.stream_lex.specs.Machine.{ascii}
-use Rattle.stream_lex.specs.Turns.{Outcome, leads, fails, at, turn_ascii, turn}
+use Rattle.stream_lex.specs.Turns.{Outcome, leads, fails, turn}
 use Rattle.stream_lex.specs.Live.{is_live}
 use Rattle.stream_lex.specs.Leading.{Left}
 use Rattle.stream_lex.specs.Reading.{Reads}
@@ -30,6 +24,7 @@ use Rattle.stream_frames.proofs.Few.{turn-few}
 use Rattle.stream_frames.proofs.Fitting.{Fits, Strays, fits-next}
 use Rattle.stream_frames.proofs.Following.{left-to, left-from, left-fails, any-live, IsSound, Sound, next-sound, words-left}
 use Rattle.stream_frames.proofs.Whole.{first-sound, first-left, left-first}
+use Rattle.stream_frames.proofs.AfterEnd.{after_end, spaced, end-live}
 use Rattle.stream_frames.proofs.Coming.{told_all, tag-words, close-words}
 use Rattle.stream_frames.proofs.RoundTripStreams.{first_state}
 
@@ -82,53 +77,6 @@ one-told us [] t f h e = refl
 one-told us (x ∷ front) t f h e = absurd (no-word (x ∷ front) t h (few-more x front t (ap is_few (sym e) ∙ f)))
 
 -- White space after the end.
-
-abbrev after_end : Bool → State
-after_end r = at (stage.Text Words) pending.Nothing r
-
-abbrev Spaced : Bool → ℕ → Type 0
-Spaced ret b = (ret1 : Bool) × (us : List Token) × (turn (after_end ret) b ≡ leads (after_end ret1) us) × (are_words us ≡ true)
-
-spaced-32 : (ret : Bool) → Spaced ret 32
-unfolding turn_ascii ascii_kind ascii
-spaced-32 true = (false, _, refl, refl)
-spaced-32 false = (false, _, refl, refl)
-
-spaced-10 : (ret : Bool) → Spaced ret 10
-unfolding turn_ascii ascii_kind ascii
-spaced-10 true = (false, _, refl, refl)
-spaced-10 false = (false, _, refl, refl)
-
-spaced-9 : (ret : Bool) → Spaced ret 9
-unfolding turn_ascii ascii_kind ascii
-spaced-9 true = (false, _, refl, refl)
-spaced-9 false = (false, _, refl, refl)
-
-spaced-13 : (ret : Bool) → Spaced ret 13
-unfolding turn_ascii ascii_kind ascii
-spaced-13 true = (true, _, refl, refl)
-spaced-13 false = (true, _, refl, refl)
-
-or-cases : (s t : Bool) → (s || t) ≡ true → (s ≡ true) ⊎ (t ≡ true)
-or-cases true t e = inl refl
-or-cases false t e = inr e
-
-spaced : (ret : Bool) (b : ℕ) → is_space b ≡ true → Spaced ret b
-spaced ret b h = elim (or-cases (b == 32) ((b == 10) || ((b == 9) || (b == 13))) h) [
-  | inl e ↦ subst (Spaced ret) (sym (eqb-true b 32 e)) (spaced-32 ret)
-  | inr g ↦ elim (or-cases (b == 10) ((b == 9) || (b == 13)) g) [
-    | inl e ↦ subst (Spaced ret) (sym (eqb-true b 10 e)) (spaced-10 ret)
-    | inr k ↦ elim (or-cases (b == 9) (b == 13) k) [
-      | inl e ↦ subst (Spaced ret) (sym (eqb-true b 9 e)) (spaced-9 ret)
-      | inr e ↦ subst (Spaced ret) (sym (eqb-true b 13 e)) (spaced-13 ret)
-    ]
-  ]
-]
-
-end-live : (r : Bool) → is_live (after_end r) ≡ true
-unfolding is_live
-end-live true = refl
-end-live false = refl
 
 spaces-words : (bs : List ℕ) (ret : Bool) (ws : List Token) → AreSpaces bs → Left (after_end ret) bs (all_said ws) → are_words ws ≡ true
 spaces-words [] ret ws h l = ap are_words (said-same ws [] (left-done (after_end ret) (all_said ws) (end-live ret) l))

@@ -48,6 +48,7 @@ pub mod ProperStreams
 pub mod ProperTops
 pub mod ProperMaking
 pub mod Faulting
+pub mod AfterEnd
 pub mod LastTold
 pub mod Judged
 pub mod HandedOut
