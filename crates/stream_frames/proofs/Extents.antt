@@ -74,7 +74,7 @@ IsBegun r bytes n = (xs : List ℕ) × (y : ℕ) × (ys : List ℕ) × (bytes �
 abbrev IsCounted : Rules → List ℕ → ℕ → Type 0
 IsCounted r bytes n = ((bytes ≡ []) × (n ≡ 0)) ⊎ IsBegun r bytes n
 
-after-last : (r : Rules) (xs : List ℕ) (b : ℕ) → frame_after r first_frame (xs ++ b ∷ []) ≡ frame_next r (frame_after r first_frame xs) b
+pub after-last : (r : Rules) (xs : List ℕ) (b : ℕ) → frame_after r first_frame (xs ++ b ∷ []) ≡ frame_next r (frame_after r first_frame xs) b
 after-last r xs b = frames-more r first_frame xs (b ∷ [])
 
 sound-at : (r : Rules) (xs : List ℕ) → Sound r (frame_after r first_frame xs)
@@ -151,7 +151,7 @@ counted r bytes = counted-all bytes r [] 0 (inl (refl, refl))
 
 -- The limit.
 
-is-less : (r : Rules) (xs : List ℕ) (y c : ℕ) → in_item (frame_after r first_frame (xs ++ y ∷ [])) ≡ false → in_item (frame_after r first_frame ((xs ++ y ∷ []) ++ c ∷ [])) ≡ true → y ≡ 60
+pub is-less : (r : Rules) (xs : List ℕ) (y c : ℕ) → in_item (frame_after r first_frame (xs ++ y ∷ [])) ≡ false → in_item (frame_after r first_frame ((xs ++ y ∷ []) ++ c ∷ [])) ≡ true → y ≡ 60
 is-less r xs y c low high =
     let after : AfterLess (frame_after r first_frame (xs ++ y ∷ [])) = opens-after r (frame_after r first_frame (xs ++ y ∷ [])) c (sound-at r (xs ++ y ∷ [])) low (ap in_item (sym (after-last r (xs ++ y ∷ []) c)) ∙ high) in
     less-before r (frame_after r first_frame xs) y (sound-at r xs) (subst AfterLess (after-last r xs y) after)

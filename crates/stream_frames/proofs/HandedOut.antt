@@ -83,11 +83,11 @@ snoc : (x : Token) (xs : List Token) → (front : List Token) × (t : Token) × 
 snoc x [] = ([], x, refl)
 snoc x (y ∷ xs) = let (front, t, e) = snoc y xs in (x ∷ front, t, ap (λ (l : List Token). x ∷ l) e)
 
-head-snoc : (d : Bool) (root : RawTag) (f : Content) → (front : List Token) × (t : Token) × (head_tokens d root f ≡ front ++ t ∷ [])
+pub head-snoc : (d : Bool) (root : RawTag) (f : Content) → (front : List Token) × (t : Token) × (head_tokens d root f ≡ front ++ t ∷ [])
 head-snoc true root f = snoc token.Declaration _
 head-snoc false root f = snoc (token.TagOpens root.name.0) _
 
-element-tag : (t : Token) → ends_element t ≡ true → ends_tag t ≡ true
+pub element-tag : (t : Token) → ends_element t ≡ true → ends_tag t ≡ true
 element-tag token.CloseEnds h = refl
 element-tag (token.TagEnds e) h = refl
 element-tag t h = h

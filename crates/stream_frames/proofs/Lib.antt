@@ -63,3 +63,4 @@ pub mod Opens
 pub mod Extents
 pub mod FirstFaults
 pub mod ScopeFaults
+pub mod OpenItems

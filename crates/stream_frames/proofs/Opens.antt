@@ -212,7 +212,7 @@ abbrev pub AfterLess : Frame → Type 0
 AfterLess (open_at st n) = after_less st ≡ true
 AfterLess f = ⊥
 
-placed-item : (r : Rules) (s : State) (k : Nest) → in_item (placed r s k) ≡ true → in_item_nest k ≡ true
+pub placed-item : (r : Rules) (s : State) (k : Nest) → in_item (placed r s k) ≡ true → in_item_nest k ≡ true
 placed-item r s k h = by (placed-cases r s k)
   where
     same : (f : Frame) → placed r s k ≡ f → in_item f ≡ true
