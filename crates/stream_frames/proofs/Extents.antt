@@ -11,7 +11,7 @@ use Rattle.stream_frames.specs.Framing.{Frame, frame_next, frame_after, first_fr
 use Rattle.stream_frames.specs.Items.{told_at, in_item}
 use Rattle.stream_frames.specs.Building.{Building, build_all}
 use Rattle.stream_frames.specs.Reading.{Reading, reads, stopped, concluded, byte_judged, went, rules_of, is_past, extent_after, told_number}
-use Rattle.stream_frames.specs.Extents.{HasOpenItem, IsPastLimit}
+use Rattle.stream_frames.specs.Extents.{HasOpenItem, IsSince, IsPastLimit}
 use Rattle.stream_frames.proofs.Whole.{first-sound}
 use Rattle.stream_frames.proofs.Following.{Sound, after-sound}
 use Rattle.stream_frames.proofs.Handing.{clear, stopped-went}
@@ -151,7 +151,7 @@ counted r bytes = counted-all bytes r [] 0 (inl (refl, refl))
 
 -- The limit.
 
-pub is-less : (r : Rules) (xs : List ℕ) (y c : ℕ) → in_item (frame_after r first_frame (xs ++ y ∷ [])) ≡ false → in_item (frame_after r first_frame ((xs ++ y ∷ []) ++ c ∷ [])) ≡ true → y ≡ 60
+is-less : (r : Rules) (xs : List ℕ) (y c : ℕ) → in_item (frame_after r first_frame (xs ++ y ∷ [])) ≡ false → in_item (frame_after r first_frame ((xs ++ y ∷ []) ++ c ∷ [])) ≡ true → y ≡ 60
 is-less r xs y c low high =
     let after : AfterLess (frame_after r first_frame (xs ++ y ∷ [])) = opens-after r (frame_after r first_frame (xs ++ y ∷ [])) c (sound-at r (xs ++ y ∷ [])) low (ap in_item (sym (after-last r (xs ++ y ∷ []) c)) ∙ high) in
     less-before r (frame_after r first_frame xs) y (sound-at r xs) (subst AfterLess (after-last r xs y) after)
@@ -164,12 +164,26 @@ begun-less r xs y [] byte low each (inl h) = let bad : true ≡ false = sym h �
 begun-less r xs y [] byte low each (inr h) = is-less r xs y byte low h
 begun-less r xs y (c ∷ ys) byte low each o = is-less r xs y c low (ap (λ (l : List ℕ). in_item (frame_after r first_frame l)) (append_assoc xs (y ∷ []) (c ∷ [])) ∙ each (c ∷ []) ys refl (λ e. no-nil c [] e))
 
+not-true : (t : Bool) → t ≡ false → t ≡ true → ⊥
+not-true t e f = false-true (sym e ∙ f)
+
+-- what is open began with a `<`
+pub open_since : (r : Rules) (bytes : List ℕ) → HasOpenItem r bytes → (xs : List ℕ) × (ys : List ℕ) × (bytes ≡ xs ++ (60 ∷ ys)) × IsSince r xs ys
+open_since r bytes h = by (counted r bytes)
+  where
+    by : IsCounted r bytes (extent r first_frame 0 bytes) → (xs : List ℕ) × (ys : List ℕ) × (bytes ≡ xs ++ (60 ∷ ys)) × IsSince r xs ys
+    by (inl (none, z)) = false-true (ap (λ (x : List ℕ). in_item (frame_after r first_frame x)) (sym none) ∙ h)
+    by (inr (xs, y, ys, split, size, low, each)) =
+        let less : y ≡ 60 = begun-less r xs y ys 0 low each (inl (subst (HasOpenItem r) split h)) in (
+          xs,
+          ys,
+          split ∙ ap (λ (x : ℕ). xs ++ (x ∷ ys)) less,
+          (λ k. not-true _ low (ap (λ (x : ℕ). in_item (frame_after r first_frame (xs ++ x ∷ []))) less ∙ k), λ us vs q some. ap (λ (x : ℕ). in_item (frame_after r first_frame (xs ++ (x ∷ us)))) (sym less) ∙ each us vs q some),
+        )
+
 or-open : (s t : Bool) → (s || t) ≡ true → (s ≡ true) ⊎ (t ≡ true)
 or-open true t e = inl refl
 or-open false t e = inr e
-
-not-true : (t : Bool) → t ≡ false → t ≡ true → ⊥
-not-true t e f = false-true (sym e ∙ f)
 
 pub past-is : (l : Limits) (bytes : List ℕ) (byte n : ℕ) (f : Frame) → f ≡ frame_after (rules_of l) first_frame bytes → n ≡ extent (rules_of l) first_frame 0 bytes → is_past l f (frame_next (rules_of l) f byte) n ≡ true → IsPastLimit l bytes byte
 past-is l bytes byte n f e g h = by (counted r bytes) opened

@@ -1,5 +1,5 @@
 -- A header or a top element is open up to the byte that ends it.
-use Rattle.std.proofs.Common.{◌≡◌, ℕ, suc, ◌⊎◌, inl, inr, List, [], ◌∷◌, ◌++◌, length, refl, sym, ap, ◌∙◌, subst, append_assoc, Bool, true, false, cond, ◌&&◌, ◌==◌, nat_lt, ◌+◌, arith}
+use Rattle.std.proofs.Common.{◌≡◌, ℕ, suc, ◌⊎◌, inl, inr, List, [], ◌∷◌, ◌++◌, length, refl, sym, ap, ◌∙◌, subst, Bool, true, false, cond, ◌&&◌, ◌==◌, nat_lt, ◌+◌, arith}
 use Rattle.stream_lex.specs.declared.Token.{Token}
 use Rattle.stream_lex.specs.declared.Token.TheVariants as token
 use Rattle.stream_lex.specs.declared.stages.State.{State}
@@ -10,9 +10,9 @@ use Rattle.stream_frames.specs.declared.rules.Rules.{Rules}
 use Rattle.stream_frames.specs.Trees.{RawName, RawTag, Content, nothing}
 use Rattle.stream_frames.specs.Streams.{IsShortest, Begins}
 use Rattle.stream_frames.specs.Nesting.{Nest, start, declared, inside, naming, in_tag, naming_attribute, in_value, closing, lost, may_stand, in_content, after_hollow, after_name, nest, nest_all}
-use Rattle.stream_frames.specs.Framing.{Frame, open_at, ended, broken, placed, settled, frame_next, frame_after, first_frame, is_broken, goes_with}
+use Rattle.stream_frames.specs.Framing.{Frame, open_at, ended, broken, placed, settled, frame_next, frame_after, first_frame, is_broken}
 use Rattle.stream_frames.specs.Tracking.{are_words, is_few}
-use Rattle.stream_frames.specs.Items.{head_tokens, HasCome, ends_so, EndsHeader, EndsTop, is_between_tops, told_at, tokens_told, is_start_end, is_element_end, is_header_end, is_top_end, in_item_nest, in_item}
+use Rattle.stream_frames.specs.Items.{head_tokens, HasCome, EndsHeader, EndsTop, is_between_tops, tokens_told, is_start_end, is_element_end, is_header_end, is_top_end, in_item_nest, in_item}
 use Rattle.stream_frames.specs.RoundTrips.{end_tag_of}
 use Rattle.stanza_tree.specs.declared.node.Element.{Element}
 use Rattle.std.specs.Prelude.{Option, Some}
@@ -25,16 +25,15 @@ use Rattle.stream_frames.proofs.Nested.{all-more}
 use Rattle.stream_frames.proofs.Few.{turn-few}
 use Rattle.stream_frames.proofs.Whole.{first-sound, broken-begins}
 use Rattle.stream_frames.proofs.Ending.{ends_element, last_in, last-nothing, head-last, last-ends}
-use Rattle.stream_frames.proofs.Coming.{told_all, came, header-ends, top-ends}
+use Rattle.stream_frames.proofs.Coming.{came, header-ends, top-ends}
 use Rattle.stream_frames.proofs.Made.{last_item, head-made}
 use Rattle.stream_frames.proofs.Handing.{build-more}
 use Rattle.stream_frames.proofs.Opens.{placed-item}
 use Rattle.stream_frames.proofs.Levels.{Levels, level-from}
-use Rattle.stream_frames.proofs.LastTold.{ends_tag, LastTold, Placed, placed-cases, ends-at}
+use Rattle.stream_frames.proofs.LastTold.{ends_tag, Placed, placed-cases, ends-at}
 use Rattle.stream_frames.proofs.HandedOut.{head-snoc, element-tag}
 use Rattle.stream_frames.proofs.RoundTripInsert.{come-ends}
-use Rattle.stream_frames.proofs.RoundTripStreams.{first_state}
-use Rattle.stream_frames.proofs.Extents.{after-last, is-less}
+use Rattle.stream_frames.proofs.Extents.{after-last}
 
 not-both : (t : Bool) → t ≡ true → t ≡ false → ⊥
 not-both t e f = false-true (sym f ∙ e)
@@ -299,7 +298,3 @@ item_was_open r bytes b (inr (root, f, (d, told, short, keeps), h)) =
     let (front, t, e) = head-snoc d root f in
     let last : last_in f (token.TagEnds false) ≡ t = head-last d root f front t e in
     come-open r bytes b d root f front t e (element-tag t (ap ends_element (sym last) ∙ (last-ends f (token.TagEnds false) ∙ h))) told short (come-whole r (bytes ++ b ∷ []) root f (d, told, short, keeps))
-
-pub item_starts : (r : Rules) (bytes : List ℕ) (b c : ℕ) → (HasOpenItem r (bytes ++ b ∷ []) → ⊥) → HasOpenItem r (bytes ++ (b ∷ c ∷ [])) → b ≡ 60
-item_starts r bytes b c never h =
-    is-less r bytes b c (not-true (in_item (frame_after r first_frame (bytes ++ b ∷ []))) never) (ap (λ (l : List ℕ). in_item (frame_after r first_frame l)) (append_assoc bytes (b ∷ []) (c ∷ [])) ∙ h)

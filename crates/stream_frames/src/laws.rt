@@ -15,7 +15,7 @@ ghost use Rattle.stream_frames.specs.declared.item.Item.{Item};
 ghost use Rattle.stream_frames.specs.declared.item.Limits.{Limits};
 ghost use Rattle.stream_frames.specs.Reading.{Reading, reading_after, taken, is_ready, handed, first_reading, stopped, told_number, went, waiting, is_stopped, rules_of};
 ghost use Rattle.stream_frames.specs.Elements.{fault_of_tag};
-ghost use Rattle.stream_frames.specs.Extents.{HasOpenItem, IsPastLimit};
+ghost use Rattle.stream_frames.specs.Extents.{HasOpenItem, IsSince, IsPastLimit};
 ghost use Rattle.stream_frames.specs.Paths.{Step, scope_of, EndsTag, name_kind};
 ghost use Rattle.stream_frames.specs.Parts.{IsItem, IsLargeEnd, IsFirstFault};
 ghost use Rattle.stream_frames.specs.Framing.{frame_next, frame_after, first_frame, is_broken, has_ended, fault_at};
@@ -55,11 +55,11 @@ pub fn items_end()
         → is_top_end r (frame_after r first_frame bytes) b ≡ true → EndsTop r (bytes ++ b ∷ []) }
 {}
 
-/// A header or a top element is open from the byte after a `<` up to the byte that ends it: the byte before the first with which one is open
-/// is a `<`; where a stream goes on, the first byte with which none is open any more ends one; and one that ends was open before.
+/// A header or a top element is open from the byte after its `<` up to the byte that ends it: what is open began with a `<`; where a stream
+/// goes on, the first byte with which none is open any more ends one; and one that ends was open before.
 pub fn items_are_open_until_they_end()
-    ensures starts { (r : Rules) (bytes : List ℕ) (b c : ℕ)
-        → (HasOpenItem r (bytes ++ b ∷ []) → ⊥) → HasOpenItem r (bytes ++ (b ∷ c ∷ [])) → b ≡ 60 }
+    ensures since { (r : Rules) (bytes : List ℕ) → HasOpenItem r bytes
+        → (xs : List ℕ) × (ys : List ℕ) × (bytes ≡ xs ++ (60 ∷ ys)) × IsSince r xs ys }
     ensures ends { (r : Rules) (bytes : List ℕ) (b : ℕ)
         → HasOpenItem r bytes → (HasOpenItem r (bytes ++ b ∷ []) → ⊥) → Begins r (bytes ++ b ∷ [])
         → EndsHeader r (bytes ++ b ∷ []) ⊎ EndsTop r (bytes ++ b ∷ []) }

@@ -1,8 +1,9 @@
-use Rattle.stream_frames.proofs.OpenItems.{item_starts, item_ends, item_was_open}
+use Rattle.stream_frames.proofs.Extents.{open_since}
+use Rattle.stream_frames.proofs.OpenItems.{item_ends, item_was_open}
 use Rattle.stream_frames.proofs.laws.items_are_open_until_they_end.Goals as goal
 
-pub returns-clause-starts : goal.returns-clause-starts
-returns-clause-starts c = λ r bytes b d never h. item_starts r bytes b d never h
+pub returns-clause-since : goal.returns-clause-since
+returns-clause-since c = λ r bytes h. open_since r bytes h
 
 pub returns-clause-ends : goal.returns-clause-ends
 returns-clause-ends c = λ r bytes b h never begins. item_ends r bytes b h never begins
