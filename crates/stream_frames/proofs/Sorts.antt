@@ -529,8 +529,14 @@ moves-Fixed : (w : Literal) (at : ℕ) (k : Kind) (c : ℕ) → Known (stage.Fix
 unfolding ascii in_fixed
 moves-Fixed w at k c =
     cond_both (is_fixed w (get_or (letters w) at 0) c) _ (stops (fixed_fault w)) (Known (stage.Fixed w at) k c)
-    (λ e. (cond_both (nat_lt (at + 1) (length (letters w))) (stage.Fixed w (at + 1)) (fixed_end w) (λ s. may_move (fixed_sort w) [] (sort s) ≡ true) (λ g. moves-fixed w) (λ g. moves-end w), refl, refl, refl,
-      cond_both (nat_lt (at + 1) (length (letters w))) (stage.Fixed w (at + 1)) (fixed_end w) (λ s. (not (is_less s) || is_less_kind k) ≡ true) (λ g. refl) (λ g. moves-less w k), refl))
+    (λ e. (
+      cond_both (nat_lt (at + 1) (length (letters w))) (stage.Fixed w (at + 1)) (fixed_end w) (λ s. may_move (fixed_sort w) [] (sort s) ≡ true) (λ g. moves-fixed w) (λ g. moves-end w),
+      refl,
+      refl,
+      refl,
+      cond_both (nat_lt (at + 1) (length (letters w))) (stage.Fixed w (at + 1)) (fixed_end w) (λ s. (not (is_less s) || is_less_kind k) ≡ true) (λ g. refl) (λ g. moves-less w k),
+      refl,
+    ))
     (λ e. (refl, refl, refl, refl, refl, refl))
 
 pub moves-ascii : (s : Stage) (k : Kind) (c : ℕ) → Known s k c (ascii s k c)
