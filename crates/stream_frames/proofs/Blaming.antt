@@ -1,6 +1,6 @@
 -- The kinds of faults.
-use Rattle.std.proofs.Common.{◌≡◌, ℕ, ◌<◌, ◌≤◌, ◌⊎◌, inl, inr, List, [], ◌∷◌, ◌++◌, refl, sym, ap, ◌∙◌, subst, append-nil, append_assoc, Bool, true, false, cond, ◌||◌, ◌==◌, nat_lt, arith}
-use Rattle.std.proofs.lemmas.Bool.{cond_both, cond-false, eqb-true}
+use Rattle.std.proofs.Common.{◌≡◌, ℕ, ◌<◌, ◌≤◌, ◌⊎◌, inl, inr, List, [], ◌∷◌, ◌++◌, refl, sym, ap, ◌∙◌, subst, append-nil, append_assoc, Bool, true, false, cond, ◌==◌, nat_lt, arith}
+use Rattle.std.proofs.lemmas.Bool.{cond_both, cond-false}
 use Rattle.std.proofs.lemmas.Bool.Decides.{nat_tests}
 use Rattle.stream_lex.specs.declared.Token.{Token}
 use Rattle.stream_lex.specs.declared.LexFault.{LexFault}
@@ -13,8 +13,7 @@ use Rattle.stream_lex.specs.declared.characters.Reach.{Reach}
 use Rattle.stream_lex.specs.declared.characters.Reach.TheVariants.{Whole, Begun, Broken}
 use Rattle.stream_lex.specs.Classes.{has_between, class_of}
 use Rattle.stream_lex.specs.Characters.{reach}
-use Rattle.stream_lex.specs.Kinds.{ascii_kind}
-use Rattle.stream_lex.specs.Machine.{ascii, allowed_at, voice}
+use Rattle.stream_lex.specs.Machine.{allowed_at, voice}
 use Rattle.stream_lex.specs.Turns.{Outcome, leads, fails, at, byte_told, fault_of, turn_ascii, turn_wide, turn}
 use Rattle.stream_lex.specs.Live.{is_live}
 use Rattle.stream_lex.specs.Reading.{BeginsReading, IsKind}
@@ -31,6 +30,7 @@ use Rattle.stream_frames.specs.Streams.{Begins}
 use Rattle.stream_frames.specs.Faults.{deeper, wider, looser, rank, Row, IsSyntaxKind}
 use Rattle.stream_frames.specs.Nesting.{Nest, start, inside, lost, nest_all}
 use Rattle.stream_frames.specs.Framing.{goes_with, Frame, open_at, ended, broken, placed, settled, frame_next, frame_after, first_frame, is_broken, lexical_fault, byte_fault, fault_at}
+use Rattle.stream_frames.proofs.AfterEnd.{after_end, spaced, end-live}
 use Rattle.stream_frames.proofs.Fitting.{Fits, Strays, fits-next}
 use Rattle.stream_frames.proofs.Following.{IsSound, Sound, any-live, after-sound, next-sound}
 use Rattle.stream_frames.proofs.Whole.{first-sound, open-begins, broken-begins}
@@ -40,10 +40,6 @@ use Rattle.stream_frames.proofs.Agreeing.{Allows, after-kept, after-snoc}
 
 abbrev Reading : List ℕ → State → Type 0
 Reading bytes st = (ts : List Token) × Leads bytes ts st
-
--- words, after a carriage return or not
-after_end : Bool → State
-after_end ret = at (stage.Text Words) pending.Nothing ret
 
 abbrev LexAt : List ℕ → Frame → Type 0
 LexAt bytes (open_at st n) = Reading bytes st
@@ -55,7 +51,6 @@ reading-on bytes st to b us live e (ts, k) =
     let g : Goes st b us to = subst (Does st b) e (does st b live) in (ts ++ us, leads-step bytes ts us st to b (subst LeadsLive e (any-live st b live)) g k)
 
 placed-lex : (r : Rules) (bytes : List ℕ) (to : State) (n : Nest) → (Fits to n) ⊎ (Strays to n) → Reading bytes to → LexAt bytes (placed r to n)
-unfolding after_end
 placed-lex r bytes to lost h k = tt
 placed-lex r bytes to (inside []) (inl e) k = (false, subst (Reading bytes) e k)
 placed-lex r bytes to (inside []) (inr e) k = absurd e
@@ -79,55 +74,11 @@ settled-lex : (r : Rules) (bytes : List ℕ) (st : State) (n : Nest) (b : ℕ) (
 settled-lex r bytes st n b (leads to us) e s k = placed-lex r (bytes ++ b ∷ []) to (nest_all r n us) (fits-next r st to b n us e s.calm_is s.opens s.fits) (reading-on bytes st to b us s.live e k)
 settled-lex r bytes st n b (fails f) e s k = tt
 
-live-end : (ret : Bool) → is_live (after_end ret) ≡ true
-unfolding after_end is_live
-live-end ret = refl
-
-Spaced : Bool → ℕ → Type 0
-Spaced ret b = (ret1 : Bool) × (us : List Token) × (turn (after_end ret) b ≡ leads (after_end ret1) us)
-
-spaced-32 : (ret : Bool) → Spaced ret 32
-unfolding Spaced after_end turn_ascii ascii_kind ascii
-spaced-32 true = (false, _, refl)
-spaced-32 false = (false, _, refl)
-
-spaced-10 : (ret : Bool) → Spaced ret 10
-unfolding Spaced after_end turn_ascii ascii_kind ascii
-spaced-10 true = (false, _, refl)
-spaced-10 false = (false, _, refl)
-
-spaced-9 : (ret : Bool) → Spaced ret 9
-unfolding Spaced after_end turn_ascii ascii_kind ascii
-spaced-9 true = (false, _, refl)
-spaced-9 false = (false, _, refl)
-
-spaced-13 : (ret : Bool) → Spaced ret 13
-unfolding Spaced after_end turn_ascii ascii_kind ascii
-spaced-13 true = (true, _, refl)
-spaced-13 false = (true, _, refl)
-
-or-cases : (s t : Bool) → (s || t) ≡ true → (s ≡ true) ⊎ (t ≡ true)
-or-cases true t e = inl refl
-or-cases false t e = inr e
-
-spaced : (ret : Bool) (b : ℕ) → is_space b ≡ true → Spaced ret b
-spaced ret b h = elim (or-cases (b == 32) ((b == 10) || ((b == 9) || (b == 13))) h) [
-  | inl e ↦ subst (Spaced ret) (sym (eqb-true b 32 e)) (spaced-32 ret)
-  | inr g ↦ elim (or-cases (b == 10) ((b == 9) || (b == 13)) g) [
-    | inl e ↦ subst (Spaced ret) (sym (eqb-true b 10 e)) (spaced-10 ret)
-    | inr k ↦ elim (or-cases (b == 9) (b == 13) k) [
-      | inl e ↦ subst (Spaced ret) (sym (eqb-true b 9 e)) (spaced-9 ret)
-      | inr e ↦ subst (Spaced ret) (sym (eqb-true b 13 e)) (spaced-13 ret)
-    ]
-  ]
-]
-
 next-lex : (r : Rules) (bytes : List ℕ) (f : Frame) (b : ℕ) → Sound r f → LexAt bytes f → LexAt (bytes ++ b ∷ []) (frame_next r f b)
-unfolding Spaced
 next-lex r bytes (open_at st n) b s k = settled-lex r bytes st n b (turn st b) refl s k
 next-lex r bytes ended b s (ret, k) =
     cond_both (is_space b) ended broken (LexAt (bytes ++ b ∷ []))
-    (λ e. let (ret1, us, f) = spaced ret b e in (ret1, reading-on bytes (after_end ret) (after_end ret1) b us (live-end ret) f k)) (λ e. tt)
+    (λ e. let (ret1, us, f, words) = spaced ret b e in (ret1, reading-on bytes (after_end ret) (after_end ret1) b us (end-live ret) f k)) (λ e. tt)
 next-lex r bytes broken b s k = tt
 
 after-lex : (r : Rules) (bytes : List ℕ) (f : Frame) (bs : List ℕ) → Sound r f → LexAt bytes f → LexAt (bytes ++ bs) (frame_after r f bs)
@@ -243,7 +194,6 @@ unfolding turn_ascii
 ascii-blamed r f b h = ap (byte_fault r f b) (cond-false _ _ _ (not-ten b h))
 
 turn-blamed : (r : Rules) (f : Frame) (b : ℕ) (ret : Bool) → is_space b ≡ false → byte_fault r f b (turn (after_end ret) b) ≡ byte_fault r f b (turn (at (stage.Text Words) pending.Nothing false) b)
-unfolding after_end
 turn-blamed r f b false h = refl
 turn-blamed r f b true h = by (nat_lt b 128)
   where
@@ -266,7 +216,7 @@ frame-kind r bytes (open_at st n) b s k e h td tw tl = outcome-kind r bytes (ope
 frame-kind r bytes ended b s (ret, k) e h td tw tl =
     let black = not-spaced r b h in
     subst (λ (f : FrameFault). IsSyntaxKind r f (bytes ++ b ∷ [])) (turn-blamed r ended b ret black)
-    (outcome-kind r bytes ended (after_end ret) b (turn (after_end ret) b) refl (live-end ret) k td tw tl (λ g i q. ap (λ (t : Bool). is_broken (cond t ended broken)) black))
+    (outcome-kind r bytes ended (after_end ret) b (turn (after_end ret) b) refl (end-live ret) k td tw tl (λ g i q. ap (λ (t : Bool). is_broken (cond t ended broken)) black))
 frame-kind r bytes broken b s k e h td tw tl = absurd (let bad : true ≡ false = e in cc)
 
 pub fault-kind : (r : Rules) (bytes : List ℕ) (b : ℕ) → is_broken (frame_after r first_frame bytes) ≡ false → is_broken (frame_next r (frame_after r first_frame bytes) b) ≡ true

@@ -14,8 +14,8 @@ use Rattle.stream_lex.specs.Leading.{Left}
 use Rattle.stream_lex.proofs.Lists.{false-true, cons_not_nil}
 use Rattle.stream_lex.proofs.Living.{LeadsLive}
 use Rattle.stream_frames.specs.declared.rules.Rules.{Rules}
-use Rattle.stream_frames.specs.Trees.{RawName, RawTag, Content, nothing, end_tokens, KeepsRoot}
-use Rattle.stream_frames.specs.Streams.{IsShortest}
+use Rattle.stream_frames.specs.Trees.{RawName, RawTag, Content, nothing, Stream, end_tokens, stream_tokens, KeepsRoot}
+use Rattle.stream_frames.specs.Streams.{IsShortest, IsStream}
 use Rattle.stream_frames.specs.Nesting.{Nest, start, inside, lost, nest_all, Leaves}
 use Rattle.stream_frames.specs.Framing.{goes_with, Frame, open_at, ended, broken, placed, settled, frame_next, frame_after, first_frame}
 use Rattle.stream_frames.specs.Items.{head_tokens, EndsHeader, EndsTop, is_between_tops, tokens_told, told_at, is_start_end, is_element_end, is_header_end, is_top_end}
@@ -109,9 +109,10 @@ nil-back (x ∷ xs) ys e = absurd (cons_not_nil x (xs ++ ys) e)
 leaves-end : (r : Rules) (m : RawName) → Leaves r (inside (m ∷ [])) (end_tokens m)
 leaves-end r m = (nothing, [], tt, omega arith, sym (append-nil (end_tokens m)), refl)
 
-come : (r : Rules) (bytes : List ℕ) (b : ℕ) (st to : State) (n : Nest) (m : RawName) (t : Token) → frame_after r first_frame bytes ≡ open_at st n → turn st b ≡ leads to (t ∷ []) → to ≡ words → nest_all r n (t ∷ []) ≡ inside (m ∷ [])
-    → Come r bytes b t
-come r bytes b st to n m t e f w g =
+-- a byte that tells a token, and leads to where a text may end
+pub last-reads : (r : Rules) (bytes : List ℕ) (b : ℕ) (st to : State) (n : Nest) (t : Token) → frame_after r first_frame bytes ≡ open_at st n → turn st b ≡ leads to (t ∷ []) → to ≡ words
+    → Reads (bytes ++ b ∷ []) (told_all r first_frame bytes ++ t ∷ []) × IsShortest (bytes ++ b ∷ []) (told_all r first_frame bytes ++ t ∷ [])
+last-reads r bytes b st to n t e f w =
     let first : State = at stage.Start pending.Nothing false in
     let us : List Token = told_all r first_frame bytes in
     let (h, c) = came bytes r first st start n (first-sound r).live e in
@@ -119,17 +120,36 @@ come r bytes b st to n m t e f w g =
     let last : Left st (b ∷ []) (all_said (t ∷ [])) = left-from st to b (t ∷ []) [] [] sound.live f (subst (λ (s : State). Left s [] []) (sym w) words-left) in
     let short : Tight st (b ∷ []) (t ∷ []) = tight-from st to b (t ∷ []) [] [] sound.live f (no_token t []) (λ xs ys p l. nil-back xs ys (sym p)) in
     let (l, k) = c (b ∷ []) (t ∷ []) (no_token t []) last short in
-    let nest : nest_all r start (us ++ t ∷ []) ≡ inside (m ∷ []) = all-more r start us (t ∷ []) ∙ (ap (λ (x : Nest). nest_all r x (t ∷ [])) h ∙ g) in
-    let (s, keeps, is) = all-from r start (us ++ t ∷ []) (end_tokens m) tt (subst (λ (x : Nest). Leaves r x (end_tokens m)) (sym nest) (leaves-end r m)) in
-    let same : us ++ t ∷ [] ≡ head_tokens s.declared s.root s.content = head-of s (us ++ t ∷ []) m is in (
-      s.declared,
-      s.root,
-      s.content,
-      sym same,
-      subst (Reads (bytes ++ b ∷ [])) same (left-first (bytes ++ b ∷ []) (us ++ t ∷ []) l),
-      λ xs ys p q. k xs ys p (subst (λ (x : List Token). Left first xs (all_said x)) (sym same) (first-left xs (head_tokens s.declared s.root s.content) q)),
-      keeps,
-    )
+    (left-first (bytes ++ b ∷ []) (us ++ t ∷ []) l, λ xs ys p q. k xs ys p (first-left xs (us ++ t ∷ []) q))
+
+-- what the tokens lead to
+told-nest : (r : Rules) (bytes : List ℕ) (st : State) (n m : Nest) (t : Token) → frame_after r first_frame bytes ≡ open_at st n → nest_all r n (t ∷ []) ≡ m → nest_all r start (told_all r first_frame bytes ++ t ∷ []) ≡ m
+told-nest r bytes st n m t e g =
+    let (h, c) = came bytes r (at stage.Start pending.Nothing false) st start n (first-sound r).live e in
+    all-more r start (told_all r first_frame bytes) (t ∷ []) ∙ (ap (λ (x : Nest). nest_all r x (t ∷ [])) h ∙ g)
+
+come : (r : Rules) (bytes : List ℕ) (b : ℕ) (st to : State) (n : Nest) (m : RawName) (t : Token) → frame_after r first_frame bytes ≡ open_at st n → turn st b ≡ leads to (t ∷ []) → to ≡ words → nest_all r n (t ∷ []) ≡ inside (m ∷ [])
+    → Come r bytes b t
+come r bytes b st to n m t e f w g =
+    let us : List Token = told_all r first_frame bytes in
+    let (told, short) = last-reads r bytes b st to n t e f w in
+    let (s, keeps, is) = all-from r start (us ++ t ∷ []) (end_tokens m) tt (subst (λ (x : Nest). Leaves r x (end_tokens m)) (sym (told-nest r bytes st n (inside (m ∷ [])) t e g)) (leaves-end r m)) in
+    let same : us ++ t ∷ [] ≡ head_tokens s.declared s.root s.content = head-of s (us ++ t ∷ []) m is in
+    (s.declared, s.root, s.content, sym same, subst (Reads (bytes ++ b ∷ [])) same told, subst (IsShortest (bytes ++ b ∷ [])) same short, keeps)
+
+-- The bytes up to the end tag of the stream.
+abbrev pub EndCome : Rules → List ℕ → ℕ → Type 0
+EndCome r bytes b = (s : Stream) × (stream_tokens s ≡ told_all r first_frame bytes ++ token.CloseEnds ∷ []) × IsStream r (bytes ++ b ∷ []) s
+
+pub end-come : (r : Rules) (bytes : List ℕ) (b : ℕ) (st to : State) (n : Nest) → frame_after r first_frame bytes ≡ open_at st n → turn st b ≡ leads to (token.CloseEnds ∷ []) → to ≡ words → nest_all r n (token.CloseEnds ∷ []) ≡ inside []
+    → EndCome r bytes b
+end-come r bytes b st to n e f w g =
+    let us : List Token = told_all r first_frame bytes in
+    let t : Token = token.CloseEnds in
+    let (told, short) = last-reads r bytes b st to n t e f w in
+    let (s, keeps, is) = all-from r start (us ++ t ∷ []) [] tt (subst (λ (x : Nest). Leaves r x []) (sym (told-nest r bytes st n (inside []) t e g)) refl) in
+    let same : us ++ t ∷ [] ≡ stream_tokens s = sym (append-nil (us ++ t ∷ [])) ∙ is in
+    (s, sym same, (subst (Reads (bytes ++ b ∷ [])) same told, subst (IsShortest (bytes ++ b ∷ [])) same short, keeps))
 
 -- By the byte.
 

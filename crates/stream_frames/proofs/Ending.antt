@@ -8,7 +8,7 @@ use Rattle.stream_frames.proofs.Nested.{token_head, token_tail, no_token}
 
 -- The last token.
 
-last-same : (xs ys : List Token) (x y : Token) → xs ++ x ∷ [] ≡ ys ++ y ∷ [] → x ≡ y
+pub last-same : (xs ys : List Token) (x y : Token) → xs ++ x ∷ [] ≡ ys ++ y ∷ [] → x ≡ y
 last-same [] [] x y e = token_head x y [] [] e
 last-same [] (v ∷ ys) x y e = absurd (not-nil ys y (sym (token_tail x v [] (ys ++ y ∷ []) e)))
   where
@@ -23,11 +23,15 @@ last-same (u ∷ xs) [] x y e = absurd (not-nil xs x (token_tail u y (xs ++ x �
 last-same (u ∷ xs) (v ∷ ys) x y e = last-same xs ys x y (token_tail u v (xs ++ x ∷ []) (ys ++ y ∷ []) e)
 
 -- the last token of content, after another
-last_in : Content → Token → Token
+pub last_in : Content → Token → Token
 last_in nothing x = x
 last_in (word c f) x = last_in f (token.Word c)
 last_in (element t g f) x = last_in f token.CloseEnds
 last_in (hollow t f) x = last_in f (token.TagEnds true)
+
+pub last-nothing : (x : Token) → last_in nothing x ≡ x
+unfolding last_in
+last-nothing x = refl
 
 regroup-word : (p f : List Token) (x w : Token) → p ++ (x ∷ (w ∷ f)) ≡ (p ++ x ∷ []) ++ (w ∷ f)
 regroup-word p f x w = simp append_assoc
@@ -55,7 +59,7 @@ ends_element token.CloseEnds = true
 ends_element (token.TagEnds e) = e
 ends_element t = false
 
-last-ends : (f : Content) (x : Token) → ends_element (last_in f x) ≡ ends_so (ends_element x) f
+pub last-ends : (f : Content) (x : Token) → ends_element (last_in f x) ≡ ends_so (ends_element x) f
 unfolding last_in
 last-ends nothing x = refl
 last-ends (word c f) x = last-ends f (token.Word c)
@@ -84,7 +88,7 @@ start-nothing (hollow n f) x e = absurd (let bad : false ≡ true = sym (never-s
 regroup-head : (d n us f : List Token) (o e : Token) → d ++ ((o ∷ (n ++ (us ++ e ∷ []))) ++ f) ≡ (d ++ (o ∷ (n ++ us))) ++ (e ∷ f)
 regroup-head d n us f o e = simp append_assoc
 
-head-last : (d : Bool) (root : RawTag) (f : Content) (ts : List Token) (t : Token) → head_tokens d root f ≡ ts ++ t ∷ [] → last_in f (token.TagEnds false) ≡ t
+pub head-last : (d : Bool) (root : RawTag) (f : Content) (ts : List Token) (t : Token) → head_tokens d root f ≡ ts ++ t ∷ [] → last_in f (token.TagEnds false) ≡ t
 head-last d root f ts t e =
     last-is f (declaration_tokens d ++ (token.TagOpens root.name.0 ∷ (map token.NameByte root.name.1 ++ attributes_tokens root.attributes))) ts (token.TagEnds false) t
     (sym (regroup-head (declaration_tokens d) (map token.NameByte root.name.1) (attributes_tokens root.attributes) (content_tokens f) (token.TagOpens root.name.0) (token.TagEnds false)) ∙ e)
@@ -114,7 +118,7 @@ before-end (x ∷ xs) [] n m e = absurd (no-open m.1 xs n.0 (map token.NameByte 
 before-end (x ∷ xs) (y ∷ ys) n m e =
     ap (λ (t : Token). t ∷ xs) (token_head x y (xs ++ end_tokens n) (ys ++ end_tokens m) e) ∙ ap (λ (l : List Token). y ∷ l) (before-end xs ys n m (token_tail x y (xs ++ end_tokens n) (ys ++ end_tokens m) e))
 
-regroup-stream : (d t f e : List Token) → d ++ (t ++ (f ++ e)) ≡ (d ++ (t ++ f)) ++ e
+pub regroup-stream : (d t f e : List Token) → d ++ (t ++ (f ++ e)) ≡ (d ++ (t ++ f)) ++ e
 regroup-stream d t f e = simp append_assoc
 
 -- tokens that an end tag makes a stream are the head of one

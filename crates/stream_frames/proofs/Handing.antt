@@ -40,7 +40,7 @@ clear-word : (os : List Opened) (c : ℕ) (b : Building) → clear (worded_in os
 clear-word [] c b = refl
 clear-word (x ∷ xs) c b = refl
 
-clear-one : (b : Building) (t : Token) → clear (build (clear b) t) ≡ clear (build b t)
+pub clear-one : (b : Building) (t : Token) → clear (build (clear b) t) ≡ clear (build b t)
 clear-one b (token.TagEnds false) = if-clear (length b.layers == 0) _ _ _ _ refl refl
 clear-one b (token.TagEnds true) = clear-hollow _ b.words b.opened b
 clear-one b token.CloseEnds = clear-close b.opened b
@@ -100,7 +100,7 @@ cond-open : (t : Bool) (s : State) (n : Nest) → is_broken (cond t (open_at s n
 cond-open true s n h = refl
 cond-open false s n h = absurd (let bad : true ≡ false = h in cc)
 
-lost-broken : (r : Rules) (to : State) (n : Nest) → n ≡ lost → is_broken (placed r to n) ≡ false → ⊥
+pub lost-broken : (r : Rules) (to : State) (n : Nest) → n ≡ lost → is_broken (placed r to n) ≡ false → ⊥
 lost-broken r to n e h = not-true true (sym (ap (λ (x : Nest). is_broken (placed r to x)) e) ∙ h) refl
 
 -- a tag that opens one element is that of the stream

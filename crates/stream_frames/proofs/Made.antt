@@ -30,13 +30,13 @@ build-more b (x ∷ xs) ys = build-more (build b x) xs ys
 
 -- Tokens inside tags are gathered, and change nothing else.
 
-abbrev gathering : Token → Bool
+abbrev pub gathering : Token → Bool
 gathering (token.TagEnds e) = false
 gathering token.CloseEnds = false
 gathering (token.Word c) = false
 gathering t = true
 
-abbrev all-gathering : List Token → Bool
+abbrev pub all-gathering : List Token → Bool
 all-gathering [] = true
 all-gathering (t ∷ ts) = gathering t && all-gathering ts
 
@@ -54,7 +54,7 @@ gathers-one b (token.TagEnds e) h = absurd (let bad : false ≡ true = h in cc)
 gathers-one b token.CloseEnds h = absurd (let bad : false ≡ true = h in cc)
 gathers-one b (token.Word c) h = absurd (let bad : false ≡ true = h in cc)
 
-both : (s t : Bool) → (s && t) ≡ true → (s ≡ true) × (t ≡ true)
+pub both : (s t : Bool) → (s && t) ≡ true → (s ≡ true) × (t ≡ true)
 both true t e = (refl, e)
 both false t e = absurd (let bad : false ≡ true = e in cc)
 
@@ -68,7 +68,7 @@ gathering-more : (xs ys : List Token) → all-gathering xs ≡ true → all-gath
 gathering-more [] ys h k = k
 gathering-more (x ∷ xs) ys h k = let (one, more) = both (gathering x) (all-gathering xs) h in ap (λ (t : Bool). t && all-gathering (xs ++ ys)) one ∙ gathering-more xs ys more k
 
-gathering-name : (bs : List ℕ) → all-gathering (map token.NameByte bs) ≡ true
+pub gathering-name : (bs : List ℕ) → all-gathering (map token.NameByte bs) ≡ true
 gathering-name [] = refl
 gathering-name (b ∷ bs) = gathering-name bs
 
@@ -88,17 +88,20 @@ gathering-attributes (a ∷ xs) =
     (gathering-attributes xs)
 
 -- a tag up to its `>`
-abbrev tag-body : RawTag → List Token
+abbrev pub tag-body : RawTag → List Token
 tag-body t = token.TagOpens t.name.0 ∷ (map token.NameByte t.name.1 ++ attributes_tokens t.attributes)
 
-body-then : (t : RawTag) (e : Bool) → tag_tokens t e ≡ tag-body t ++ token.TagEnds e ∷ []
+pub body-then : (t : RawTag) (e : Bool) → tag_tokens t e ≡ tag-body t ++ token.TagEnds e ∷ []
 body-then t e = ap (λ (l : List Token). token.TagOpens t.name.0 ∷ l) (sym (append_assoc (map token.NameByte t.name.1) (attributes_tokens t.attributes) (token.TagEnds e ∷ [])))
 
-gathering-body : (t : RawTag) → all-gathering (tag-body t) ≡ true
+pub gathering-body : (t : RawTag) → all-gathering (tag-body t) ≡ true
 gathering-body t = gathering-more (map token.NameByte t.name.1) (attributes_tokens t.attributes) (gathering-name t.name.1) (gathering-attributes t.attributes)
 
 body-gathered : (g : Gathered) (t : RawTag) (e : Bool) → gather_all g (tag-body t) ≡ whole_tag t
 body-gathered g t e = sym (more-gathered g (tag-body t) (token.TagEnds e ∷ [])) ∙ (ap (gather_all g) (sym (body-then t e)) ∙ tag-gathered g t e)
+
+pub body-made : (b : Building) (t : RawTag) → build_all b (tag-body t) ≡ record b { tag = whole_tag t }
+body-made b t = gathers (tag-body t) b (gathering-body t) ∙ ap (λ (g : Gathered). record b { tag = g }) (body-gathered b.tag t false)
 
 pub tag-made : (b : Building) (t : RawTag) (e : Bool) → build_all b (tag_tokens t e) ≡ build (record b { tag = whole_tag t }) (token.TagEnds e)
 tag-made b t e =
@@ -107,7 +110,7 @@ tag-made b t e =
     ∙ (ap (λ (x : Building). build x (token.TagEnds e)) (gathers (tag-body t) b (gathering-body t))
     ∙ ap (λ (g : Gathered). build (record b { tag = g }) (token.TagEnds e)) (body-gathered b.tag t e)))
 
-end-made : (b : Building) (n : RawName) → (g : Gathered) × (build_all b (end_tokens n) ≡ build (record b { tag = g }) token.CloseEnds)
+pub end-made : (b : Building) (n : RawName) → (g : Gathered) × (build_all b (end_tokens n) ≡ build (record b { tag = g }) token.CloseEnds)
 end-made b n =
     let ts : List Token = token.CloseOpens n.0 ∷ map token.NameByte n.1 in (
       gather_all b.tag ts,
@@ -152,14 +155,14 @@ nodes-split (hollow t f) layers words =
 
 -- The same, built token by token in an open element.
 
-abbrev with-children : Opened → List Node → Opened
+abbrev pub with-children : Opened → List Node → Opened
 with-children x ns = record x { children = x.children ++ ns }
 
 -- an element more, and then the rest
 grown : (x : Opened) (words : List ℕ) (n : Node) (ns : List Node) → with-children (with-children x (with_words words (n ∷ []))) ns ≡ with-children x (with_words words (n ∷ []) ++ ns)
 grown x words n ns = ap (λ (l : List Node). record x { children = l }) (append_assoc x.children (with_words words (n ∷ [])) ns)
 
-not-empty : (layers : List (List Binding)) (l : List Binding) → (length (layers ++ l ∷ []) == 0) ≡ false
+pub not-empty : (layers : List (List Binding)) (l : List Binding) → (length (layers ++ l ∷ []) == 0) ≡ false
 not-empty layers l = false_from_ne_true (length (layers ++ l ∷ []) == 0) (λ h. some layers (eqb-true (length (layers ++ l ∷ [])) 0 h))
   where
     some : (layers : List (List Binding)) → length (layers ++ l ∷ []) ≡ 0 → ⊥
@@ -170,7 +173,7 @@ abbrev Content-made : Content → Type 0
 Content-made f = (g : Gathered) (layers : List (List Binding)) (x : Opened) (xs : List Opened) (words : List ℕ) (i : Option Item) → (length layers == 0) ≡ false
     → (g1 : Gathered) × (build_all (made g layers (x ∷ xs) words i) (content_tokens f) ≡ made g1 layers (with-children x (done_on layers words f) ∷ xs) (left_on words f) i)
 
-start-if : (t : Bool) (a b : Building) → t ≡ false → (if t then a else b) ≡ b
+pub start-if : (t : Bool) (a b : Building) → t ≡ false → (if t then a else b) ≡ b
 start-if true a b h = absurd (let bad : true ≡ false = h in cc)
 start-if false a b h = refl
 
@@ -196,7 +199,7 @@ closed-whole : (layers : List (List Binding)) (t : RawTag) (g : Content)
     → last_closed (left_on [] g) (with-children (record { name = name_on (inside_of layers (whole_tag t)) (whole_tag t).name; attrs = attrs_on (inside_of layers (whole_tag t)) (whole_tag t).attributes; children = [] }) (done_on (inside_of layers (whole_tag t)) [] g)) ≡ whole_on layers t g
 closed-whole layers t g = ap (λ (ns : List Node). element_of layers t ns) (sym (nodes-split g (inside_of layers (whole_tag t)) []))
 
-regroup : (t g e f : List Token) → t ++ (g ++ (e ++ f)) ≡ (t ++ (g ++ e)) ++ f
+pub regroup : (t g e f : List Token) → t ++ (g ++ (e ++ f)) ≡ (t ++ (g ++ e)) ++ f
 regroup t g e f = simp append_assoc
 
 child-then : (x : Opened) (words : List ℕ) (n : Node) → x.children ++ (with_words words [] ++ n ∷ []) ≡ x.children ++ with_words words (n ∷ [])
@@ -281,7 +284,7 @@ tops-made (hollow t f) g layers words i deep =
 
 -- The head of a stream.
 
-declared-made : (d : Bool) → build_all nothing_built (declaration_tokens d) ≡ nothing_built
+pub declared-made : (d : Bool) → build_all nothing_built (declaration_tokens d) ≡ nothing_built
 declared-made true = refl
 declared-made false = refl
 

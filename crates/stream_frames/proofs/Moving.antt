@@ -65,7 +65,7 @@ still-sort (stage.Fixed literal.Xml at) h = refl
 still-sort (stage.Fixed w at) h = refl
 still-sort s h = refl
 
-calm-was : (r : Bool) (s : Stage) → (not r || may_return s) ≡ true → r ≡ true → may_return s ≡ true
+pub calm-was : (r : Bool) (s : Stage) → (not r || may_return s) ≡ true → r ≡ true → may_return s ≡ true
 calm-was true s h e = h
 calm-was false s h e = false-true e
 

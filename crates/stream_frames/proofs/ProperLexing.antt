@@ -32,7 +32,7 @@ whole-name : (b : ℕ) (bs : List ℕ) → EndsName (b ∷ bs) → IsQName (b �
 whole-name b bs (inl e) = absurd (cons_not_nil b bs e)
 whole-name b bs (inr q) = q
 
-abbrev From : List ℕ → List Token → List ℕ → Type 0
+abbrev pub From : List ℕ → List Token → List ℕ → Type 0
 From n ts m = Checks n (all_said ts) m
 
 from-name : (bs n : List ℕ) (R : List Token) (m : List ℕ) → From n (map token.NameByte bs ++ R) m → From (n ++ bs) R m
@@ -66,7 +66,7 @@ from-attributes (x ∷ xs) n e R m c =
 regroup-tag : (o e : Token) (n a R : List Token) → (o ∷ (n ++ (a ++ e ∷ []))) ++ R ≡ o ∷ (n ++ (a ++ (e ∷ R)))
 regroup-tag o e n a R = simp append_assoc
 
-from-tag : (t : RawTag) (e : Bool) (n : List ℕ) (R : List Token) (m : List ℕ) → From n (tag_tokens t e ++ R) m → IsReadTag t × From [] R m
+pub from-tag : (t : RawTag) (e : Bool) (n : List ℕ) (R : List Token) (m : List ℕ) → From n (tag_tokens t e ++ R) m → IsReadTag t × From [] R m
 from-tag t e n R m c =
     let d = subst (λ (l : List Token). From n l m) (regroup-tag (token.TagOpens t.name.0) (token.TagEnds e) (map token.NameByte t.name.1) (attributes_tokens t.attributes) R) c in
     let (named, all, rest) = from-attributes t.attributes (t.name.0 ∷ t.name.1) e R m (from-name t.name.1 (t.name.0 ∷ []) (attributes_tokens t.attributes ++ (token.TagEnds e ∷ R)) m d.1) in
@@ -83,7 +83,7 @@ from-end k n R m c =
 regroup-element : (t g e f R : List Token) → (t ++ (g ++ (e ++ f))) ++ R ≡ t ++ (g ++ (e ++ (f ++ R)))
 regroup-element t g e f R = simp append_assoc
 
-from-content : (f : Content) (R : List Token) (m : List ℕ) → From [] (content_tokens f ++ R) m → IsRead f × From [] R m
+pub from-content : (f : Content) (R : List Token) (m : List ℕ) → From [] (content_tokens f ++ R) m → IsRead f × From [] R m
 from-content nothing R m c = (tt, c)
 from-content (word x f) R m c = let (a, b) = from-content f R m c.1 in ((c.0, a), b)
 from-content (element t g f) R m c =
@@ -98,11 +98,11 @@ from-content (hollow t f) R m c =
     let (later, z) = from-content f R m x in
     ((tagged, later), z)
 
-from-declaration : (d : Bool) (R : List Token) (m : List ℕ) → From [] (declaration_tokens d ++ R) m → From [] R m
+pub from-declaration : (d : Bool) (R : List Token) (m : List ℕ) → From [] (declaration_tokens d ++ R) m → From [] R m
 from-declaration true R m c = c.1
 from-declaration false R m c = c
 
-reads-checks : (bytes : List ℕ) (ts : List Token) → Reads bytes ts → (m : List ℕ) × From [] ts m
+pub reads-checks : (bytes : List ℕ) (ts : List Token) → Reads bytes ts → (m : List ℕ) × From [] ts m
 reads-checks bytes ts (cs, scalars, enc, text) = let (m, e, c) = pass-document [] (inl refl) _ (all_said ts) text in (m, c)
 
 -- the start of a stream that has come

@@ -35,16 +35,16 @@ use Rattle.stream_frames.proofs.ProperLexing.{IsReadAttribute, IsReadTag, IsRead
 
 -- Namespaces that may be bound.
 
-abbrev IsFair : List ℕ → List ℕ → Type 0
+abbrev pub IsFair : List ℕ → List ℕ → Type 0
 IsFair prefix space = IsXmlText space × (bytes_eq space xmlns_space ≡ false) × ((bytes_eq prefix [] ≡ true) ⊎ (bytes_eq space [] ≡ false))
 
-abbrev IsFairBinding : Binding → Type 0
+abbrev pub IsFairBinding : Binding → Type 0
 IsFairBinding b = IsFair b.prefix b.space
 
-abbrev AreFair : List (List Binding) → Type 0
+abbrev pub AreFair : List (List Binding) → Type 0
 AreFair layers = AllByRecursion (AllByRecursion IsFairBinding) layers
 
-abbrev IsFound : List ℕ → Option (List ℕ) → Type 0
+abbrev pub IsFound : List ℕ → Option (List ℕ) → Type 0
 IsFound p None = Unit {0}
 IsFound p (Some s) = IsFair p s
 
@@ -117,7 +117,7 @@ before-fair p =
     cond_both (bytes_eq p []) (Some []) (if bytes_eq p (codes "xml") then Some xml_space else None) (IsFound p) (λ h. subst (λ (q : List ℕ). IsFair q []) (sym (same-bytes p [] h)) (([], refl, tt), refl, inl refl))
     (λ h. cond_both (bytes_eq p (codes "xml")) (Some xml_space) None (IsFound p) (λ e. subst (λ (q : List ℕ). IsFair q xml_space) (sym (same-bytes p (codes "xml") e)) xml-fair) (λ e. tt))
 
-space-fair : (L : List (List Binding)) (p : List ℕ) → AreFair L → IsFound p (space_of L p)
+pub space-fair : (L : List (List Binding)) (p : List ℕ) → AreFair L → IsFound p (space_of L p)
 space-fair L p e = cond_both (bytes_eq p (codes "xmlns")) None (last_layer (space_before p) L p) (IsFound p) (λ h. tt) (λ h. last_layer-fair (space_before p) L p (before-fair p) e)
 
 -- Names.
@@ -137,7 +137,7 @@ qname-parts name (inr (p, l, e, n, m)) =
     some : ((b : ℕ) × (bs : List ℕ) × (p ≡ b ∷ bs)) → bytes_eq p [] ≡ false
     some (b, bs, e) = ap (λ (x : List ℕ). bytes_eq x []) e
 
-name-proper : (L : List (List Binding)) (name : List ℕ) → AreFair L → IsQName name → is_unbound (space_of L (prefix_of name)) ≡ false → is_space (space_of L (prefix_of name)) xml_space ≡ false → IsElementName (name_on L name)
+pub name-proper : (L : List (List Binding)) (name : List ℕ) → AreFair L → IsQName name → is_unbound (space_of L (prefix_of name)) ≡ false → is_space (space_of L (prefix_of name)) xml_space ≡ false → IsElementName (name_on L name)
 name-proper L name fair q bound other = by (space_of L (prefix_of name)) (space-fair L (prefix_of name) fair) bound other
   where
     by : (o : Option (List ℕ)) → IsFound (prefix_of name) o → is_unbound o ≡ false → is_space o xml_space ≡ false → IsElementName (record { space = or_none o; local = local_of name })
@@ -178,14 +178,14 @@ attribute-proper L w fair q v d bound = by (qname-parts w.name q).1
         subst Of (sym here) (prefixed (space_of L (prefix_of w.name)) (space-fair L (prefix_of w.name) fair) (ap is_unbound (sym here) ∙ bound) e)
 
 -- of all that are written
-abbrev AreRead : List Written → Type 0
+abbrev pub AreRead : List Written → Type 0
 AreRead ws = AllByRecursion (λ w. IsQName w.name × IsXmlText w.value) ws
 
-written-read : (xs : List RawAttribute) → AllByRecursion IsReadAttribute xs → AreRead (written xs)
+pub written-read : (xs : List RawAttribute) → AllByRecursion IsReadAttribute xs → AreRead (written xs)
 written-read [] r = tt
 written-read (x ∷ xs) r = ((r.0.0, (x.value, refl, r.0.1)), written-read xs r.1)
 
-attributes-proper : (L : List (List Binding)) (ws : List Written) → AreFair L → AreRead ws → has_unbound L ws ≡ false → AllByRecursion IsAttribute (attrs_on L ws)
+pub attributes-proper : (L : List (List Binding)) (ws : List Written) → AreFair L → AreRead ws → has_unbound L ws ≡ false → AllByRecursion IsAttribute (attrs_on L ws)
 attributes-proper L [] fair r h = tt
 attributes-proper L (w ∷ ws) fair r h =
     let (bound, more) = or-false (is_unbound (attribute_space L w.name)) (has_unbound L ws) h in
@@ -265,7 +265,7 @@ longer words c (cs, e, x) h = (cs ++ c ∷ [], encode-more cs c ∙ ap (λ (l : 
 
 -- Elements.
 
-inside-fair : (L : List (List Binding)) (t : RawTag) → AreFair L → IsReadTag t → fault_of_tag L (whole_tag t) ≡ None → AreFair (inside_of L (whole_tag t))
+pub inside-fair : (L : List (List Binding)) (t : RawTag) → AreFair L → IsReadTag t → fault_of_tag L (whole_tag t) ≡ None → AreFair (inside_of L (whole_tag t))
 inside-fair L t fair r sound =
     let s : IsSoundTag (inside_of L (whole_tag t)) (t.name.0 ∷ t.name.1) (written t.attributes) = sound-tag (inside_of L (whole_tag t)) (t.name.0 ∷ t.name.1) (written t.attributes) sound in
     each-append (AllByRecursion IsFairBinding) L (own (written t.attributes) ∷ []) fair (own-fair t.attributes r.1 s.declared, tt)
@@ -311,7 +311,7 @@ first-fair : AreFair outside_all
 first-fair = tt
 
 pub tops-proper : (r : Rules) (bytes : List ℕ) (s : Stream) → Spells r bytes s → IsNamed s.root s.content → AllByRecursion IsProper (tops_of s.root s.content)
-tops-proper r bytes s (read_text, after, e, spaces, reads, short, keeps) named =
+tops-proper r bytes s (read_text, after, e, spaces, (reads, short, keeps)) named =
     let (root_read, all) = stream-read read_text s reads in
     elements-proper (inside_of outside_all (whole_tag s.root)) s.content (inside-fair outside_all s.root first-fair root_read named.0) all named.1
 

@@ -220,6 +220,12 @@ character-xml : (c : ℕ) → has_between characters c c ≡ true → is_xml c �
 unfolding characters
 character-xml c h = grind (arith, nat_tests, h)
 
+pub start-xml : (c : ℕ) → has_between name_starts c c ≡ true → is_xml c ≡ true
+start-xml c h = character-xml c (class-has name_starts characters c starts-within h)
+
+pub further-xml : (c : ℕ) → has_between name_characters c c ≡ true → is_xml c ≡ true
+further-xml c h = character-xml c (class-has name_characters characters c names-within h)
+
 wide-allowed : (c : ℕ) → is_allowed (wide_kind c) ≡ true → is_xml c ≡ true
 unfolding wide_kind
 wide-allowed c =

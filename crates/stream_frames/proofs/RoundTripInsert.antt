@@ -42,7 +42,7 @@ use Rattle.stream_frames.proofs.RoundTripStreams.{read-runs, ends-gap, first_sta
 
 -- Content and then more.
 
-abbrev then_content : Content → Content → Content
+abbrev pub then_content : Content → Content → Content
 then_content nothing g = g
 then_content (word c f) g = word c (then_content f g)
 then_content (element t h f) g = element t h (then_content f g)
@@ -51,7 +51,7 @@ then_content (hollow t f) g = hollow t (then_content f g)
 regroup-element : (t g e f R : List Token) → t ++ (g ++ (e ++ (f ++ R))) ≡ (t ++ (g ++ (e ++ f))) ++ R
 regroup-element t g e f R = simp append_assoc
 
-then-tokens : (f g : Content) → content_tokens (then_content f g) ≡ content_tokens f ++ content_tokens g
+pub then-tokens : (f g : Content) → content_tokens (then_content f g) ≡ content_tokens f ++ content_tokens g
 then-tokens nothing g = refl
 then-tokens (word c f) g = ap (λ (l : List Token). token.Word c ∷ l) (then-tokens f g)
 then-tokens (element t h f) g =
@@ -224,7 +224,7 @@ come-ends r bytes root f (d, reads, short, keeps) =
     let last : RunsLast first_state (bytes ++ end_tag_of root) (between (gap_stage plain)) ts =
     last-told (sym (regroup-head (declaration_tokens d) (tag_tokens root false) (content_tokens f) (end_tokens root.name))) (last-then run (end-runs g c root.name (head-read bytes d root f reads).0.0)) in
     let (reads_all, short_all) = last-read (bytes ++ end_tag_of root) ts (live-first r) last in
-    (d, (bytes ++ end_tag_of root, [], sym (append-nil (bytes ++ end_tag_of root)), tt, reads_all, short_all, keeps))
+    (d, (bytes ++ end_tag_of root, [], sym (append-nil (bytes ++ end_tag_of root)), tt, (reads_all, short_all, keeps)))
 
 more-reads : (r : Rules) (bytes : List ℕ) (root : RawTag) (f : Content) (es : List Element) → HasMore r bytes root f es → IsReadBack r (bytes ++ end_tag_of root) root f es
 more-reads r bytes root f es (g, more, is, tops) = let (d, spells) = come-ends r bytes root g more in (record { declared = d; root = root; content = g }, spells, refl, is, tops)

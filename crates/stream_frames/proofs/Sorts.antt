@@ -181,296 +181,322 @@ turn_ends t = false
 abbrev pub where_ends : Turn → Turn → Turn
 where_ends t u = cond (turn_ends t) u (stops NotWellFormed)
 
--- what is known of a turn: its sort, its byte, that the twin of what opens a tag opens an end tag, and where the end of a tag leads
+-- the stages after the `<` of a tag
+abbrev pub is_less : Stage → Bool
+is_less stage.StartLess = true
+is_less stage.PrologLess = true
+is_less stage.Less = true
+is_less s = false
+
+abbrev pub is_less_kind : Kind → Bool
+is_less_kind kinds.Less = true
+is_less_kind k = false
+
+abbrev pub to_less : Turn → Bool
+to_less (goes t) = is_less t
+to_less (tells_and_goes ts t) = is_less t
+to_less (stops f) = false
+
+abbrev pub opens : List Token → Bool
+opens (token.TagOpens x ∷ ts) = true
+opens ts = false
+
+abbrev pub opens_tag : Turn → Bool
+opens_tag (tells_and_goes ts t) = opens ts
+opens_tag t = false
+
+-- what is known of a turn: its sort, its byte, that the twin of what opens a tag opens an end tag, and where the end of a tag leads; that only
+-- a `<` leads to where a tag opens, and that it opens only there
 abbrev pub Known : Stage → Kind → ℕ → Turn → Type 0
 Known s k c t = (turn_moves (sort s) t ≡ true) × (turn_own c t ≡ c) × (where_opens t (ascii stage.EndTagMark k c) ≡ where_opens t (twin_turn t)) × (where_ends t (to_words t) ≡ where_ends t t)
+    × ((not (to_less t) || is_less_kind k) ≡ true) × ((not (opens_tag t) || is_less s) ≡ true)
 
 moves-Start : (k : Kind) (c : ℕ) → Known stage.Start k c (ascii stage.Start k c)
 unfolding ascii in_declaration in_reference in_number in_name in_tag
-moves-Start kinds.Space c = (refl, refl, refl, refl)
-moves-Start k c = (refl, refl, refl, refl)
+moves-Start kinds.Space c = (refl, refl, refl, refl, refl, refl)
+moves-Start k c = (refl, refl, refl, refl, refl, refl)
 
 moves-StartLess : (k : Kind) (c : ℕ) → Known stage.StartLess k c (ascii stage.StartLess k c)
 unfolding ascii in_declaration in_reference in_number in_name in_tag
-moves-StartLess kinds.Space c = (refl, refl, refl, refl)
-moves-StartLess k c = (refl, refl, refl, refl)
+moves-StartLess kinds.Space c = (refl, refl, refl, refl, refl, refl)
+moves-StartLess k c = (refl, refl, refl, refl, refl, refl)
 
 moves-Prolog : (k : Kind) (c : ℕ) → Known stage.Prolog k c (ascii stage.Prolog k c)
 unfolding ascii in_declaration in_reference in_number in_name in_tag
-moves-Prolog kinds.Space c = (refl, refl, refl, refl)
-moves-Prolog k c = (refl, refl, refl, refl)
+moves-Prolog kinds.Space c = (refl, refl, refl, refl, refl, refl)
+moves-Prolog k c = (refl, refl, refl, refl, refl, refl)
 
 moves-PrologLess : (k : Kind) (c : ℕ) → Known stage.PrologLess k c (ascii stage.PrologLess k c)
 unfolding ascii in_declaration in_reference in_number in_name in_tag
-moves-PrologLess kinds.Space c = (refl, refl, refl, refl)
-moves-PrologLess k c = (refl, refl, refl, refl)
+moves-PrologLess kinds.Space c = (refl, refl, refl, refl, refl, refl)
+moves-PrologLess k c = (refl, refl, refl, refl, refl, refl)
 
 moves-XmlSeen : (k : Kind) (c : ℕ) → Known stage.XmlSeen k c (ascii stage.XmlSeen k c)
 unfolding ascii in_declaration in_reference in_number in_name in_tag
-moves-XmlSeen kinds.Space c = (refl, refl, refl, refl)
-moves-XmlSeen k c = (refl, refl, refl, refl)
+moves-XmlSeen kinds.Space c = (refl, refl, refl, refl, refl, refl)
+moves-XmlSeen k c = (refl, refl, refl, refl, refl, refl)
 
 moves-XmlSpace : (k : Kind) (c : ℕ) → Known stage.XmlSpace k c (ascii stage.XmlSpace k c)
 unfolding ascii in_declaration in_reference in_number in_name in_tag
-moves-XmlSpace kinds.Space c = (refl, refl, refl, refl)
-moves-XmlSpace k c = (refl, refl, refl, refl)
+moves-XmlSpace kinds.Space c = (refl, refl, refl, refl, refl, refl)
+moves-XmlSpace k c = (refl, refl, refl, refl, refl, refl)
 
 moves-DeclarationMark : (k : Kind) (c : ℕ) → Known stage.DeclarationMark k c (ascii stage.DeclarationMark k c)
 unfolding ascii in_declaration in_reference in_number in_name in_tag
-moves-DeclarationMark kinds.Space c = (refl, refl, refl, refl)
-moves-DeclarationMark k c = (refl, refl, refl, refl)
+moves-DeclarationMark kinds.Space c = (refl, refl, refl, refl, refl, refl)
+moves-DeclarationMark k c = (refl, refl, refl, refl, refl, refl)
 
 moves-Less : (k : Kind) (c : ℕ) → Known stage.Less k c (ascii stage.Less k c)
 unfolding ascii in_declaration in_reference in_number in_name in_tag
-moves-Less kinds.Space c = (refl, refl, refl, refl)
-moves-Less k c = (refl, refl, refl, refl)
+moves-Less kinds.Space c = (refl, refl, refl, refl, refl, refl)
+moves-Less k c = (refl, refl, refl, refl, refl, refl)
 
 moves-Bang : (k : Kind) (c : ℕ) → Known stage.Bang k c (ascii stage.Bang k c)
 unfolding ascii in_declaration in_reference in_number in_name in_tag
-moves-Bang kinds.Space c = (refl, refl, refl, refl)
-moves-Bang k c = (refl, refl, refl, refl)
+moves-Bang kinds.Space c = (refl, refl, refl, refl, refl, refl)
+moves-Bang k c = (refl, refl, refl, refl, refl, refl)
 
 moves-Cdata : (k : Kind) (c : ℕ) → Known stage.Cdata k c (ascii stage.Cdata k c)
 unfolding ascii in_declaration in_reference in_number in_name in_tag
-moves-Cdata kinds.Space c = (refl, refl, refl, refl)
-moves-Cdata k c = (refl, refl, refl, refl)
+moves-Cdata kinds.Space c = (refl, refl, refl, refl, refl, refl)
+moves-Cdata k c = (refl, refl, refl, refl, refl, refl)
 
 moves-EndTagMark : (k : Kind) (c : ℕ) → Known stage.EndTagMark k c (ascii stage.EndTagMark k c)
 unfolding ascii in_declaration in_reference in_number in_name in_tag
-moves-EndTagMark kinds.Space c = (refl, refl, refl, refl)
-moves-EndTagMark k c = (refl, refl, refl, refl)
+moves-EndTagMark kinds.Space c = (refl, refl, refl, refl, refl, refl)
+moves-EndTagMark k c = (refl, refl, refl, refl, refl, refl)
 
 moves-InTag : (k : Kind) (c : ℕ) → Known stage.InTag k c (ascii stage.InTag k c)
 unfolding ascii in_declaration in_reference in_number in_name in_tag
-moves-InTag kinds.Space c = (refl, refl, refl, refl)
-moves-InTag k c = (refl, refl, refl, refl)
+moves-InTag kinds.Space c = (refl, refl, refl, refl, refl, refl)
+moves-InTag k c = (refl, refl, refl, refl, refl, refl)
 
 moves-ValueEnded : (k : Kind) (c : ℕ) → Known stage.ValueEnded k c (ascii stage.ValueEnded k c)
 unfolding ascii in_declaration in_reference in_number in_name in_tag
-moves-ValueEnded kinds.Space c = (refl, refl, refl, refl)
-moves-ValueEnded k c = (refl, refl, refl, refl)
+moves-ValueEnded kinds.Space c = (refl, refl, refl, refl, refl, refl)
+moves-ValueEnded k c = (refl, refl, refl, refl, refl, refl)
 
 moves-EmptyTagMark : (k : Kind) (c : ℕ) → Known stage.EmptyTagMark k c (ascii stage.EmptyTagMark k c)
 unfolding ascii in_declaration in_reference in_number in_name in_tag
-moves-EmptyTagMark kinds.Space c = (refl, refl, refl, refl)
-moves-EmptyTagMark k c = (refl, refl, refl, refl)
+moves-EmptyTagMark kinds.Space c = (refl, refl, refl, refl, refl, refl)
+moves-EmptyTagMark k c = (refl, refl, refl, refl, refl, refl)
 
 moves-AttrNamed : (k : Kind) (c : ℕ) → Known stage.AttrNamed k c (ascii stage.AttrNamed k c)
 unfolding ascii in_declaration in_reference in_number in_name in_tag
-moves-AttrNamed kinds.Space c = (refl, refl, refl, refl)
-moves-AttrNamed k c = (refl, refl, refl, refl)
+moves-AttrNamed kinds.Space c = (refl, refl, refl, refl, refl, refl)
+moves-AttrNamed k c = (refl, refl, refl, refl, refl, refl)
 
 moves-ValueAwaited : (k : Kind) (c : ℕ) → Known stage.ValueAwaited k c (ascii stage.ValueAwaited k c)
 unfolding ascii in_declaration in_reference in_number in_name in_tag
-moves-ValueAwaited kinds.Space c = (refl, refl, refl, refl)
-moves-ValueAwaited k c = (refl, refl, refl, refl)
+moves-ValueAwaited kinds.Space c = (refl, refl, refl, refl, refl, refl)
+moves-ValueAwaited k c = (refl, refl, refl, refl, refl, refl)
 
 moves-EndTagNamed : (k : Kind) (c : ℕ) → Known stage.EndTagNamed k c (ascii stage.EndTagNamed k c)
 unfolding ascii in_declaration in_reference in_number in_name in_tag
-moves-EndTagNamed kinds.Space c = (refl, refl, refl, refl)
-moves-EndTagNamed k c = (refl, refl, refl, refl)
+moves-EndTagNamed kinds.Space c = (refl, refl, refl, refl, refl, refl)
+moves-EndTagNamed k c = (refl, refl, refl, refl, refl, refl)
 
 moves-InfoName : (i : Info) (k : Kind) (c : ℕ) → Known (stage.InfoName i) k c (ascii (stage.InfoName i) k c)
 unfolding ascii in_declaration in_reference in_number in_name in_tag
-moves-InfoName Version kinds.Space c = (refl, refl, refl, refl)
-moves-InfoName Version k c = (refl, refl, refl, refl)
-moves-InfoName Encoding kinds.Space c = (refl, refl, refl, refl)
-moves-InfoName Encoding k c = (refl, refl, refl, refl)
-moves-InfoName Standalone kinds.Space c = (refl, refl, refl, refl)
-moves-InfoName Standalone k c = (refl, refl, refl, refl)
+moves-InfoName Version kinds.Space c = (refl, refl, refl, refl, refl, refl)
+moves-InfoName Version k c = (refl, refl, refl, refl, refl, refl)
+moves-InfoName Encoding kinds.Space c = (refl, refl, refl, refl, refl, refl)
+moves-InfoName Encoding k c = (refl, refl, refl, refl, refl, refl)
+moves-InfoName Standalone kinds.Space c = (refl, refl, refl, refl, refl, refl)
+moves-InfoName Standalone k c = (refl, refl, refl, refl, refl, refl)
 
 moves-InfoEquals : (i : Info) (k : Kind) (c : ℕ) → Known (stage.InfoEquals i) k c (ascii (stage.InfoEquals i) k c)
 unfolding ascii in_declaration in_reference in_number in_name in_tag
-moves-InfoEquals Version kinds.Space c = (refl, refl, refl, refl)
-moves-InfoEquals Version k c = (refl, refl, refl, refl)
-moves-InfoEquals Encoding kinds.Space c = (refl, refl, refl, refl)
-moves-InfoEquals Encoding k c = (refl, refl, refl, refl)
-moves-InfoEquals Standalone kinds.Space c = (refl, refl, refl, refl)
-moves-InfoEquals Standalone k c = (refl, refl, refl, refl)
+moves-InfoEquals Version kinds.Space c = (refl, refl, refl, refl, refl, refl)
+moves-InfoEquals Version k c = (refl, refl, refl, refl, refl, refl)
+moves-InfoEquals Encoding kinds.Space c = (refl, refl, refl, refl, refl, refl)
+moves-InfoEquals Encoding k c = (refl, refl, refl, refl, refl, refl)
+moves-InfoEquals Standalone kinds.Space c = (refl, refl, refl, refl, refl, refl)
+moves-InfoEquals Standalone k c = (refl, refl, refl, refl, refl, refl)
 
 moves-InfoEnds : (i : Info) (k : Kind) (c : ℕ) → Known (stage.InfoEnds i) k c (ascii (stage.InfoEnds i) k c)
 unfolding ascii in_declaration in_reference in_number in_name in_tag
-moves-InfoEnds Version kinds.Space c = (refl, refl, refl, refl)
-moves-InfoEnds Version k c = (refl, refl, refl, refl)
-moves-InfoEnds Encoding kinds.Space c = (refl, refl, refl, refl)
-moves-InfoEnds Encoding k c = (refl, refl, refl, refl)
-moves-InfoEnds Standalone kinds.Space c = (refl, refl, refl, refl)
-moves-InfoEnds Standalone k c = (refl, refl, refl, refl)
+moves-InfoEnds Version kinds.Space c = (refl, refl, refl, refl, refl, refl)
+moves-InfoEnds Version k c = (refl, refl, refl, refl, refl, refl)
+moves-InfoEnds Encoding kinds.Space c = (refl, refl, refl, refl, refl, refl)
+moves-InfoEnds Encoding k c = (refl, refl, refl, refl, refl, refl)
+moves-InfoEnds Standalone kinds.Space c = (refl, refl, refl, refl, refl, refl)
+moves-InfoEnds Standalone k c = (refl, refl, refl, refl, refl, refl)
 
 moves-InfoSpace : (i : Info) (k : Kind) (c : ℕ) → Known (stage.InfoSpace i) k c (ascii (stage.InfoSpace i) k c)
 unfolding ascii in_declaration in_reference in_number in_name in_tag
-moves-InfoSpace Version kinds.Space c = (refl, refl, refl, refl)
-moves-InfoSpace Version k c = (refl, refl, refl, refl)
-moves-InfoSpace Encoding kinds.Space c = (refl, refl, refl, refl)
-moves-InfoSpace Encoding k c = (refl, refl, refl, refl)
-moves-InfoSpace Standalone kinds.Space c = (refl, refl, refl, refl)
-moves-InfoSpace Standalone k c = (refl, refl, refl, refl)
+moves-InfoSpace Version kinds.Space c = (refl, refl, refl, refl, refl, refl)
+moves-InfoSpace Version k c = (refl, refl, refl, refl, refl, refl)
+moves-InfoSpace Encoding kinds.Space c = (refl, refl, refl, refl, refl, refl)
+moves-InfoSpace Encoding k c = (refl, refl, refl, refl, refl, refl)
+moves-InfoSpace Standalone kinds.Space c = (refl, refl, refl, refl, refl, refl)
+moves-InfoSpace Standalone k c = (refl, refl, refl, refl, refl, refl)
 
 moves-MinorFirst : (q : Quote) (k : Kind) (c : ℕ) → Known (stage.MinorFirst q) k c (ascii (stage.MinorFirst q) k c)
 unfolding ascii in_declaration in_reference in_number in_name in_tag
-moves-MinorFirst Double kinds.Space c = (refl, refl, refl, refl)
-moves-MinorFirst Double k c = (refl, refl, refl, refl)
-moves-MinorFirst Single kinds.Space c = (refl, refl, refl, refl)
-moves-MinorFirst Single k c = (refl, refl, refl, refl)
+moves-MinorFirst Double kinds.Space c = (refl, refl, refl, refl, refl, refl)
+moves-MinorFirst Double k c = (refl, refl, refl, refl, refl, refl)
+moves-MinorFirst Single kinds.Space c = (refl, refl, refl, refl, refl, refl)
+moves-MinorFirst Single k c = (refl, refl, refl, refl, refl, refl)
 
 moves-Minor : (q : Quote) (k : Kind) (c : ℕ) → Known (stage.Minor q) k c (ascii (stage.Minor q) k c)
 unfolding ascii in_declaration in_reference in_number in_name in_tag
-moves-Minor Double kinds.Space c = (refl, refl, refl, refl)
-moves-Minor Double k c = (refl, refl, refl, refl)
-moves-Minor Single kinds.Space c = (refl, refl, refl, refl)
-moves-Minor Single k c = (refl, refl, refl, refl)
+moves-Minor Double kinds.Space c = (refl, refl, refl, refl, refl, refl)
+moves-Minor Double k c = (refl, refl, refl, refl, refl, refl)
+moves-Minor Single kinds.Space c = (refl, refl, refl, refl, refl, refl)
+moves-Minor Single k c = (refl, refl, refl, refl, refl, refl)
 
 moves-CharsetSeen : (q : Quote) (k : Kind) (c : ℕ) → Known (stage.CharsetSeen q) k c (ascii (stage.CharsetSeen q) k c)
 unfolding ascii in_declaration in_reference in_number in_name in_tag
-moves-CharsetSeen Double kinds.Space c = (refl, refl, refl, refl)
-moves-CharsetSeen Double k c = (refl, refl, refl, refl)
-moves-CharsetSeen Single kinds.Space c = (refl, refl, refl, refl)
-moves-CharsetSeen Single k c = (refl, refl, refl, refl)
+moves-CharsetSeen Double kinds.Space c = (refl, refl, refl, refl, refl, refl)
+moves-CharsetSeen Double k c = (refl, refl, refl, refl, refl, refl)
+moves-CharsetSeen Single kinds.Space c = (refl, refl, refl, refl, refl, refl)
+moves-CharsetSeen Single k c = (refl, refl, refl, refl, refl, refl)
 
 moves-Choice : (q : Quote) (k : Kind) (c : ℕ) → Known (stage.Choice q) k c (ascii (stage.Choice q) k c)
 unfolding ascii in_declaration in_reference in_number in_name in_tag
-moves-Choice Double kinds.Space c = (refl, refl, refl, refl)
-moves-Choice Double k c = (refl, refl, refl, refl)
-moves-Choice Single kinds.Space c = (refl, refl, refl, refl)
-moves-Choice Single k c = (refl, refl, refl, refl)
+moves-Choice Double kinds.Space c = (refl, refl, refl, refl, refl, refl)
+moves-Choice Double k c = (refl, refl, refl, refl, refl, refl)
+moves-Choice Single kinds.Space c = (refl, refl, refl, refl, refl, refl)
+moves-Choice Single k c = (refl, refl, refl, refl, refl, refl)
 
 moves-Chosen : (q : Quote) (k : Kind) (c : ℕ) → Known (stage.Chosen q) k c (ascii (stage.Chosen q) k c)
 unfolding ascii in_declaration in_reference in_number in_name in_tag
-moves-Chosen Double kinds.Space c = (refl, refl, refl, refl)
-moves-Chosen Double k c = (refl, refl, refl, refl)
-moves-Chosen Single kinds.Space c = (refl, refl, refl, refl)
-moves-Chosen Single k c = (refl, refl, refl, refl)
+moves-Chosen Double kinds.Space c = (refl, refl, refl, refl, refl, refl)
+moves-Chosen Double k c = (refl, refl, refl, refl, refl, refl)
+moves-Chosen Single kinds.Space c = (refl, refl, refl, refl, refl, refl)
+moves-Chosen Single k c = (refl, refl, refl, refl, refl, refl)
 
 moves-Text : (p : Context) (k : Kind) (c : ℕ) → Known (stage.Text p) k c (ascii (stage.Text p) k c)
 unfolding ascii in_declaration in_reference in_number in_name in_tag
-moves-Text Words kinds.Space c = (refl, refl, refl, refl)
-moves-Text Words k c = (refl, refl, refl, refl)
-moves-Text (Value Double) kinds.Space c = (refl, refl, refl, refl)
-moves-Text (Value Double) k c = (refl, refl, refl, refl)
-moves-Text (Value Single) kinds.Space c = (refl, refl, refl, refl)
-moves-Text (Value Single) k c = (refl, refl, refl, refl)
+moves-Text Words kinds.Space c = (refl, refl, refl, refl, refl, refl)
+moves-Text Words k c = (refl, refl, refl, refl, refl, refl)
+moves-Text (Value Double) kinds.Space c = (refl, refl, refl, refl, refl, refl)
+moves-Text (Value Double) k c = (refl, refl, refl, refl, refl, refl)
+moves-Text (Value Single) kinds.Space c = (refl, refl, refl, refl, refl, refl)
+moves-Text (Value Single) k c = (refl, refl, refl, refl, refl, refl)
 
 moves-Bracketed : (b : Brackets) (k : Kind) (c : ℕ) → Known (stage.Bracketed b) k c (ascii (stage.Bracketed b) k c)
 unfolding ascii in_declaration in_reference in_number in_name in_tag
-moves-Bracketed One kinds.Space c = (refl, refl, refl, refl)
-moves-Bracketed One k c = (refl, refl, refl, refl)
-moves-Bracketed Many kinds.Space c = (refl, refl, refl, refl)
-moves-Bracketed Many k c = (refl, refl, refl, refl)
+moves-Bracketed One kinds.Space c = (refl, refl, refl, refl, refl, refl)
+moves-Bracketed One k c = (refl, refl, refl, refl, refl, refl)
+moves-Bracketed Many kinds.Space c = (refl, refl, refl, refl, refl, refl)
+moves-Bracketed Many k c = (refl, refl, refl, refl, refl, refl)
 
 moves-CdataBracketed : (b : Brackets) (k : Kind) (c : ℕ) → Known (stage.CdataBracketed b) k c (ascii (stage.CdataBracketed b) k c)
 unfolding ascii in_declaration in_reference in_number in_name in_tag
-moves-CdataBracketed One kinds.Space c = (refl, refl, refl, refl)
-moves-CdataBracketed One k c = (refl, refl, refl, refl)
-moves-CdataBracketed Many kinds.Space c = (refl, refl, refl, refl)
-moves-CdataBracketed Many k c = (refl, refl, refl, refl)
+moves-CdataBracketed One kinds.Space c = (refl, refl, refl, refl, refl, refl)
+moves-CdataBracketed One k c = (refl, refl, refl, refl, refl, refl)
+moves-CdataBracketed Many kinds.Space c = (refl, refl, refl, refl, refl, refl)
+moves-CdataBracketed Many k c = (refl, refl, refl, refl, refl, refl)
 
 moves-Reference : (p : Context) (l : EntityName) (k : Kind) (c : ℕ) → Known (stage.Reference p l) k c (ascii (stage.Reference p l) k c)
 unfolding ascii in_declaration in_reference in_number in_name in_tag
-moves-Reference Words entity_name.Empty kinds.Space c = (refl, refl, refl, refl)
-moves-Reference Words entity_name.Empty k c = (refl, refl, refl, refl)
-moves-Reference Words entity_name.A kinds.Space c = (refl, refl, refl, refl)
-moves-Reference Words entity_name.A k c = (refl, refl, refl, refl)
-moves-Reference Words entity_name.Am kinds.Space c = (refl, refl, refl, refl)
-moves-Reference Words entity_name.Am k c = (refl, refl, refl, refl)
-moves-Reference Words entity_name.Amp kinds.Space c = (refl, refl, refl, refl)
-moves-Reference Words entity_name.Amp k c = (refl, refl, refl, refl)
-moves-Reference Words entity_name.Ap kinds.Space c = (refl, refl, refl, refl)
-moves-Reference Words entity_name.Ap k c = (refl, refl, refl, refl)
-moves-Reference Words entity_name.Apo kinds.Space c = (refl, refl, refl, refl)
-moves-Reference Words entity_name.Apo k c = (refl, refl, refl, refl)
-moves-Reference Words entity_name.Apos kinds.Space c = (refl, refl, refl, refl)
-moves-Reference Words entity_name.Apos k c = (refl, refl, refl, refl)
-moves-Reference Words entity_name.L kinds.Space c = (refl, refl, refl, refl)
-moves-Reference Words entity_name.L k c = (refl, refl, refl, refl)
-moves-Reference Words entity_name.Lt kinds.Space c = (refl, refl, refl, refl)
-moves-Reference Words entity_name.Lt k c = (refl, refl, refl, refl)
-moves-Reference Words entity_name.G kinds.Space c = (refl, refl, refl, refl)
-moves-Reference Words entity_name.G k c = (refl, refl, refl, refl)
-moves-Reference Words entity_name.Gt kinds.Space c = (refl, refl, refl, refl)
-moves-Reference Words entity_name.Gt k c = (refl, refl, refl, refl)
-moves-Reference Words entity_name.Q kinds.Space c = (refl, refl, refl, refl)
-moves-Reference Words entity_name.Q k c = (refl, refl, refl, refl)
-moves-Reference Words entity_name.Qu kinds.Space c = (refl, refl, refl, refl)
-moves-Reference Words entity_name.Qu k c = (refl, refl, refl, refl)
-moves-Reference Words entity_name.Quo kinds.Space c = (refl, refl, refl, refl)
-moves-Reference Words entity_name.Quo k c = (refl, refl, refl, refl)
-moves-Reference Words entity_name.Quot kinds.Space c = (refl, refl, refl, refl)
-moves-Reference Words entity_name.Quot k c = (refl, refl, refl, refl)
-moves-Reference (Value q) entity_name.Empty kinds.Space c = (refl, refl, refl, refl)
-moves-Reference (Value q) entity_name.Empty k c = (refl, refl, refl, refl)
-moves-Reference (Value q) entity_name.A kinds.Space c = (refl, refl, refl, refl)
-moves-Reference (Value q) entity_name.A k c = (refl, refl, refl, refl)
-moves-Reference (Value q) entity_name.Am kinds.Space c = (refl, refl, refl, refl)
-moves-Reference (Value q) entity_name.Am k c = (refl, refl, refl, refl)
-moves-Reference (Value q) entity_name.Amp kinds.Space c = (refl, refl, refl, refl)
-moves-Reference (Value q) entity_name.Amp k c = (refl, refl, refl, refl)
-moves-Reference (Value q) entity_name.Ap kinds.Space c = (refl, refl, refl, refl)
-moves-Reference (Value q) entity_name.Ap k c = (refl, refl, refl, refl)
-moves-Reference (Value q) entity_name.Apo kinds.Space c = (refl, refl, refl, refl)
-moves-Reference (Value q) entity_name.Apo k c = (refl, refl, refl, refl)
-moves-Reference (Value q) entity_name.Apos kinds.Space c = (refl, refl, refl, refl)
-moves-Reference (Value q) entity_name.Apos k c = (refl, refl, refl, refl)
-moves-Reference (Value q) entity_name.L kinds.Space c = (refl, refl, refl, refl)
-moves-Reference (Value q) entity_name.L k c = (refl, refl, refl, refl)
-moves-Reference (Value q) entity_name.Lt kinds.Space c = (refl, refl, refl, refl)
-moves-Reference (Value q) entity_name.Lt k c = (refl, refl, refl, refl)
-moves-Reference (Value q) entity_name.G kinds.Space c = (refl, refl, refl, refl)
-moves-Reference (Value q) entity_name.G k c = (refl, refl, refl, refl)
-moves-Reference (Value q) entity_name.Gt kinds.Space c = (refl, refl, refl, refl)
-moves-Reference (Value q) entity_name.Gt k c = (refl, refl, refl, refl)
-moves-Reference (Value q) entity_name.Q kinds.Space c = (refl, refl, refl, refl)
-moves-Reference (Value q) entity_name.Q k c = (refl, refl, refl, refl)
-moves-Reference (Value q) entity_name.Qu kinds.Space c = (refl, refl, refl, refl)
-moves-Reference (Value q) entity_name.Qu k c = (refl, refl, refl, refl)
-moves-Reference (Value q) entity_name.Quo kinds.Space c = (refl, refl, refl, refl)
-moves-Reference (Value q) entity_name.Quo k c = (refl, refl, refl, refl)
-moves-Reference (Value q) entity_name.Quot kinds.Space c = (refl, refl, refl, refl)
-moves-Reference (Value q) entity_name.Quot k c = (refl, refl, refl, refl)
+moves-Reference Words entity_name.Empty kinds.Space c = (refl, refl, refl, refl, refl, refl)
+moves-Reference Words entity_name.Empty k c = (refl, refl, refl, refl, refl, refl)
+moves-Reference Words entity_name.A kinds.Space c = (refl, refl, refl, refl, refl, refl)
+moves-Reference Words entity_name.A k c = (refl, refl, refl, refl, refl, refl)
+moves-Reference Words entity_name.Am kinds.Space c = (refl, refl, refl, refl, refl, refl)
+moves-Reference Words entity_name.Am k c = (refl, refl, refl, refl, refl, refl)
+moves-Reference Words entity_name.Amp kinds.Space c = (refl, refl, refl, refl, refl, refl)
+moves-Reference Words entity_name.Amp k c = (refl, refl, refl, refl, refl, refl)
+moves-Reference Words entity_name.Ap kinds.Space c = (refl, refl, refl, refl, refl, refl)
+moves-Reference Words entity_name.Ap k c = (refl, refl, refl, refl, refl, refl)
+moves-Reference Words entity_name.Apo kinds.Space c = (refl, refl, refl, refl, refl, refl)
+moves-Reference Words entity_name.Apo k c = (refl, refl, refl, refl, refl, refl)
+moves-Reference Words entity_name.Apos kinds.Space c = (refl, refl, refl, refl, refl, refl)
+moves-Reference Words entity_name.Apos k c = (refl, refl, refl, refl, refl, refl)
+moves-Reference Words entity_name.L kinds.Space c = (refl, refl, refl, refl, refl, refl)
+moves-Reference Words entity_name.L k c = (refl, refl, refl, refl, refl, refl)
+moves-Reference Words entity_name.Lt kinds.Space c = (refl, refl, refl, refl, refl, refl)
+moves-Reference Words entity_name.Lt k c = (refl, refl, refl, refl, refl, refl)
+moves-Reference Words entity_name.G kinds.Space c = (refl, refl, refl, refl, refl, refl)
+moves-Reference Words entity_name.G k c = (refl, refl, refl, refl, refl, refl)
+moves-Reference Words entity_name.Gt kinds.Space c = (refl, refl, refl, refl, refl, refl)
+moves-Reference Words entity_name.Gt k c = (refl, refl, refl, refl, refl, refl)
+moves-Reference Words entity_name.Q kinds.Space c = (refl, refl, refl, refl, refl, refl)
+moves-Reference Words entity_name.Q k c = (refl, refl, refl, refl, refl, refl)
+moves-Reference Words entity_name.Qu kinds.Space c = (refl, refl, refl, refl, refl, refl)
+moves-Reference Words entity_name.Qu k c = (refl, refl, refl, refl, refl, refl)
+moves-Reference Words entity_name.Quo kinds.Space c = (refl, refl, refl, refl, refl, refl)
+moves-Reference Words entity_name.Quo k c = (refl, refl, refl, refl, refl, refl)
+moves-Reference Words entity_name.Quot kinds.Space c = (refl, refl, refl, refl, refl, refl)
+moves-Reference Words entity_name.Quot k c = (refl, refl, refl, refl, refl, refl)
+moves-Reference (Value q) entity_name.Empty kinds.Space c = (refl, refl, refl, refl, refl, refl)
+moves-Reference (Value q) entity_name.Empty k c = (refl, refl, refl, refl, refl, refl)
+moves-Reference (Value q) entity_name.A kinds.Space c = (refl, refl, refl, refl, refl, refl)
+moves-Reference (Value q) entity_name.A k c = (refl, refl, refl, refl, refl, refl)
+moves-Reference (Value q) entity_name.Am kinds.Space c = (refl, refl, refl, refl, refl, refl)
+moves-Reference (Value q) entity_name.Am k c = (refl, refl, refl, refl, refl, refl)
+moves-Reference (Value q) entity_name.Amp kinds.Space c = (refl, refl, refl, refl, refl, refl)
+moves-Reference (Value q) entity_name.Amp k c = (refl, refl, refl, refl, refl, refl)
+moves-Reference (Value q) entity_name.Ap kinds.Space c = (refl, refl, refl, refl, refl, refl)
+moves-Reference (Value q) entity_name.Ap k c = (refl, refl, refl, refl, refl, refl)
+moves-Reference (Value q) entity_name.Apo kinds.Space c = (refl, refl, refl, refl, refl, refl)
+moves-Reference (Value q) entity_name.Apo k c = (refl, refl, refl, refl, refl, refl)
+moves-Reference (Value q) entity_name.Apos kinds.Space c = (refl, refl, refl, refl, refl, refl)
+moves-Reference (Value q) entity_name.Apos k c = (refl, refl, refl, refl, refl, refl)
+moves-Reference (Value q) entity_name.L kinds.Space c = (refl, refl, refl, refl, refl, refl)
+moves-Reference (Value q) entity_name.L k c = (refl, refl, refl, refl, refl, refl)
+moves-Reference (Value q) entity_name.Lt kinds.Space c = (refl, refl, refl, refl, refl, refl)
+moves-Reference (Value q) entity_name.Lt k c = (refl, refl, refl, refl, refl, refl)
+moves-Reference (Value q) entity_name.G kinds.Space c = (refl, refl, refl, refl, refl, refl)
+moves-Reference (Value q) entity_name.G k c = (refl, refl, refl, refl, refl, refl)
+moves-Reference (Value q) entity_name.Gt kinds.Space c = (refl, refl, refl, refl, refl, refl)
+moves-Reference (Value q) entity_name.Gt k c = (refl, refl, refl, refl, refl, refl)
+moves-Reference (Value q) entity_name.Q kinds.Space c = (refl, refl, refl, refl, refl, refl)
+moves-Reference (Value q) entity_name.Q k c = (refl, refl, refl, refl, refl, refl)
+moves-Reference (Value q) entity_name.Qu kinds.Space c = (refl, refl, refl, refl, refl, refl)
+moves-Reference (Value q) entity_name.Qu k c = (refl, refl, refl, refl, refl, refl)
+moves-Reference (Value q) entity_name.Quo kinds.Space c = (refl, refl, refl, refl, refl, refl)
+moves-Reference (Value q) entity_name.Quo k c = (refl, refl, refl, refl, refl, refl)
+moves-Reference (Value q) entity_name.Quot kinds.Space c = (refl, refl, refl, refl, refl, refl)
+moves-Reference (Value q) entity_name.Quot k c = (refl, refl, refl, refl, refl, refl)
 
 moves-Name : (r : NameOwner) (h : Half) (k : Kind) (c : ℕ) → Known (stage.Name r h) k c (ascii (stage.Name r h) k c)
 unfolding ascii in_declaration in_reference in_number in_name in_tag
-moves-Name StartTag Prefix kinds.Space c = (refl, refl, refl, refl)
-moves-Name StartTag Prefix k c = (refl, refl, refl, refl)
-moves-Name StartTag Local kinds.Space c = (refl, refl, refl, refl)
-moves-Name StartTag Local k c = (refl, refl, refl, refl)
-moves-Name EndTag Prefix kinds.Space c = (refl, refl, refl, refl)
-moves-Name EndTag Prefix k c = (refl, refl, refl, refl)
-moves-Name EndTag Local kinds.Space c = (refl, refl, refl, refl)
-moves-Name EndTag Local k c = (refl, refl, refl, refl)
-moves-Name Attribute Prefix kinds.Space c = (refl, refl, refl, refl)
-moves-Name Attribute Prefix k c = (refl, refl, refl, refl)
-moves-Name Attribute Local kinds.Space c = (refl, refl, refl, refl)
-moves-Name Attribute Local k c = (refl, refl, refl, refl)
+moves-Name StartTag Prefix kinds.Space c = (refl, refl, refl, refl, refl, refl)
+moves-Name StartTag Prefix k c = (refl, refl, refl, refl, refl, refl)
+moves-Name StartTag Local kinds.Space c = (refl, refl, refl, refl, refl, refl)
+moves-Name StartTag Local k c = (refl, refl, refl, refl, refl, refl)
+moves-Name EndTag Prefix kinds.Space c = (refl, refl, refl, refl, refl, refl)
+moves-Name EndTag Prefix k c = (refl, refl, refl, refl, refl, refl)
+moves-Name EndTag Local kinds.Space c = (refl, refl, refl, refl, refl, refl)
+moves-Name EndTag Local k c = (refl, refl, refl, refl, refl, refl)
+moves-Name Attribute Prefix kinds.Space c = (refl, refl, refl, refl, refl, refl)
+moves-Name Attribute Prefix k c = (refl, refl, refl, refl, refl, refl)
+moves-Name Attribute Local kinds.Space c = (refl, refl, refl, refl, refl, refl)
+moves-Name Attribute Local k c = (refl, refl, refl, refl, refl, refl)
 
 moves-Colon : (r : NameOwner) (k : Kind) (c : ℕ) → Known (stage.Colon r) k c (ascii (stage.Colon r) k c)
 unfolding ascii in_declaration in_reference in_number in_name in_tag
-moves-Colon StartTag kinds.Space c = (refl, refl, refl, refl)
-moves-Colon StartTag k c = (refl, refl, refl, refl)
-moves-Colon EndTag kinds.Space c = (refl, refl, refl, refl)
-moves-Colon EndTag k c = (refl, refl, refl, refl)
-moves-Colon Attribute kinds.Space c = (refl, refl, refl, refl)
-moves-Colon Attribute k c = (refl, refl, refl, refl)
+moves-Colon StartTag kinds.Space c = (refl, refl, refl, refl, refl, refl)
+moves-Colon StartTag k c = (refl, refl, refl, refl, refl, refl)
+moves-Colon EndTag kinds.Space c = (refl, refl, refl, refl, refl, refl)
+moves-Colon EndTag k c = (refl, refl, refl, refl, refl, refl)
+moves-Colon Attribute kinds.Space c = (refl, refl, refl, refl, refl, refl)
+moves-Colon Attribute k c = (refl, refl, refl, refl, refl, refl)
 
 moves-Hash : (p : Context) (k : Kind) (c : ℕ) → Known (stage.Hash p) k c (ascii (stage.Hash p) k c)
 unfolding ascii in_declaration in_reference in_number in_name in_tag
-moves-Hash Words kinds.Space c = (refl, refl, refl, refl)
-moves-Hash Words k c = (refl, refl, refl, refl)
-moves-Hash (Value q) kinds.Space c = (refl, refl, refl, refl)
-moves-Hash (Value q) k c = (refl, refl, refl, refl)
+moves-Hash Words kinds.Space c = (refl, refl, refl, refl, refl, refl)
+moves-Hash Words k c = (refl, refl, refl, refl, refl, refl)
+moves-Hash (Value q) kinds.Space c = (refl, refl, refl, refl, refl, refl)
+moves-Hash (Value q) k c = (refl, refl, refl, refl, refl, refl)
 
 moves-HashX : (p : Context) (k : Kind) (c : ℕ) → Known (stage.HashX p) k c (ascii (stage.HashX p) k c)
 unfolding ascii in_declaration in_reference in_number in_name in_tag
-moves-HashX Words k c = cond_both (is_digit Hexadecimal k) (goes (stage.Number Words Hexadecimal (digit c))) (stops NotWellFormed) (Known (stage.HashX Words) k c) (λ e. (refl, refl, refl, refl)) (λ e. (refl, refl, refl, refl))
-moves-HashX (Value q) k c = cond_both (is_digit Hexadecimal k) (goes (stage.Number (Value q) Hexadecimal (digit c))) (stops NotWellFormed) (Known (stage.HashX (Value q)) k c) (λ e. (refl, refl, refl, refl)) (λ e. (refl, refl, refl, refl))
+moves-HashX Words k c = cond_both (is_digit Hexadecimal k) (goes (stage.Number Words Hexadecimal (digit c))) (stops NotWellFormed) (Known (stage.HashX Words) k c) (λ e. (refl, refl, refl, refl, refl, refl)) (λ e. (refl, refl, refl, refl, refl, refl))
+moves-HashX (Value q) k c = cond_both (is_digit Hexadecimal k) (goes (stage.Number (Value q) Hexadecimal (digit c))) (stops NotWellFormed) (Known (stage.HashX (Value q)) k c) (λ e. (refl, refl, refl, refl, refl, refl)) (λ e. (refl, refl, refl, refl, refl, refl))
 
 moves-grown : (p : Context) (base : Base) (v n : ℕ) (k : Kind) (c : ℕ) (t : Bool) → may_move (text_sort p) [] (text_sort p) ≡ true → Known (stage.Number p base v) k c (cond t (goes (stage.Number p base n)) (stops NotWellFormed))
-moves-grown p base v n k c true h = (h, refl, refl, refl)
-moves-grown p base v n k c false h = (refl, refl, refl, refl)
+moves-grown p base v n k c true h = (h, refl, refl, refl, refl, refl)
+moves-grown p base v n k c false h = (refl, refl, refl, refl, refl, refl)
 
 moves-ended : (p : Context) (base : Base) (v : ℕ) (k : Kind) (c : ℕ) (t : Bool) → Known (stage.Number p base v) k c (cond t (tells_and_goes (text_token p v ∷ []) (stage.Text p)) (stops NotWellFormed))
-moves-ended Words base v k c true = (refl, refl, refl, refl)
-moves-ended (Value q) base v k c true = (refl, refl, refl, refl)
-moves-ended p base v k c false = (refl, refl, refl, refl)
+moves-ended Words base v k c true = (refl, refl, refl, refl, refl, refl)
+moves-ended (Value q) base v k c true = (refl, refl, refl, refl, refl, refl)
+moves-ended p base v k c false = (refl, refl, refl, refl, refl, refl)
 
 pub still-context : (p : Context) → may_move (text_sort p) [] (text_sort p) ≡ true
 still-context Words = refl
@@ -494,11 +520,24 @@ moves-fixed : (w : Literal) → may_move (fixed_sort w) [] (fixed_sort w) ≡ tr
 moves-fixed literal.Xml = refl
 moves-fixed w = refl
 
+moves-less : (w : Literal) (k : Kind) → (not (is_less (fixed_end w)) || is_less_kind k) ≡ true
+moves-less literal.Xml k = refl
+moves-less (literal.Name i) k = refl
+moves-less w k = refl
+
 moves-Fixed : (w : Literal) (at : ℕ) (k : Kind) (c : ℕ) → Known (stage.Fixed w at) k c (ascii (stage.Fixed w at) k c)
 unfolding ascii in_fixed
 moves-Fixed w at k c =
     cond_both (is_fixed w (get_or (letters w) at 0) c) _ (stops (fixed_fault w)) (Known (stage.Fixed w at) k c)
-    (λ e. (cond_both (nat_lt (at + 1) (length (letters w))) (stage.Fixed w (at + 1)) (fixed_end w) (λ s. may_move (fixed_sort w) [] (sort s) ≡ true) (λ g. moves-fixed w) (λ g. moves-end w), refl, refl, refl)) (λ e. (refl, refl, refl, refl))
+    (λ e. (
+      cond_both (nat_lt (at + 1) (length (letters w))) (stage.Fixed w (at + 1)) (fixed_end w) (λ s. may_move (fixed_sort w) [] (sort s) ≡ true) (λ g. moves-fixed w) (λ g. moves-end w),
+      refl,
+      refl,
+      refl,
+      cond_both (nat_lt (at + 1) (length (letters w))) (stage.Fixed w (at + 1)) (fixed_end w) (λ s. (not (is_less s) || is_less_kind k) ≡ true) (λ g. refl) (λ g. moves-less w k),
+      refl,
+    ))
+    (λ e. (refl, refl, refl, refl, refl, refl))
 
 pub moves-ascii : (s : Stage) (k : Kind) (c : ℕ) → Known s k c (ascii s k c)
 moves-ascii (stage.InfoName i) k c = moves-InfoName i k c

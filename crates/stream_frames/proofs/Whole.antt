@@ -446,13 +446,13 @@ unfolding is_live
 first-sound r = record { live = refl; calm_is = refl; room = tt; opens = tt; fits = inl refl; goes = refl }
 
 pub spells-follows : (r : Rules) (bytes : List ℕ) (s : Stream) → Spells r bytes s → Follows r first_frame bytes
-spells-follows r bytes s (text, after, e, sp, t, short, keeps) =
+spells-follows r bytes s (text, after, e, sp, (t, short, keeps)) =
     (text, after, stream_tokens s, e, sp, first-left text (stream_tokens s) t, (s, keeps, refl), λ xs ys f l. short xs ys f (left-first xs (stream_tokens s) l))
 
 pub follows-spells : (r : Rules) (bytes : List ℕ) → Follows r first_frame bytes → (s : Stream) × Spells r bytes s
 follows-spells r bytes (text, after, ts, e, sp, l, (s, keeps, is), t) =
     let short : IsShortest text (stream_tokens s) = λ xs ys f h. t xs ys f (subst (λ (x : List Token). Left (at stage.Start pending.Nothing false) xs (all_said x)) (sym is) (first-left xs (stream_tokens s) h)) in
-    (s, (text, after, e, sp, subst (Reads text) is (left-first text ts l), short, keeps))
+    (s, (text, after, e, sp, (subst (Reads text) is (left-first text ts l), short, keeps)))
 
 open-ends : (r : Rules) (f : Frame) → is_broken f ≡ false → Sound r f → (more : List ℕ) × Follows r f more
 open-ends r (open_at st n) e k = let (text, ts, l, m, t) = all-done r st n k in (text, (text, [], ts, sym (append-nil text), tt, l, m, t))

@@ -16,6 +16,8 @@ pub mod Builds
 pub mod Turned
 pub mod Reading
 pub mod Fed
+pub mod Extents
+pub mod Paths
 pub mod Parts
 pub mod Proper
 pub mod RoundTrips

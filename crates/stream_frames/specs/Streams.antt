@@ -13,10 +13,13 @@ AreSpaces (b ∷ bs) = (is_space b ≡ true) × AreSpaces bs
 abbrev pub IsShortest : List ℕ → List Token → Type 0
 IsShortest bytes ts = (xs ys : List ℕ) → bytes ≡ xs ++ ys → Reads xs ts → ys ≡ []
 
--- The bytes are a stream, which ends with the `>` of its end tag, and white space after it.
+-- The bytes are a stream, which ends with the `>` of its end tag.
+abbrev pub IsStream : Rules → List ℕ → Stream → Type 0
+IsStream r bytes s = Reads bytes (stream_tokens s) × IsShortest bytes (stream_tokens s) × KeepsRoot r s.root s.content
+
+-- The bytes are a stream, and white space after it.
 abbrev pub Spells : Rules → List ℕ → Stream → Type 0
-Spells r bytes s = (text : List ℕ) × (after : List ℕ) × (bytes ≡ text ++ after) × AreSpaces after × Reads text (stream_tokens s)
-    × IsShortest text (stream_tokens s) × KeepsRoot r s.root s.content
+Spells r bytes s = (text : List ℕ) × (after : List ℕ) × (bytes ≡ text ++ after) × AreSpaces after × IsStream r text s
 
 abbrev pub Begins : Rules → List ℕ → Type 0
 Begins r bytes = (more : List ℕ) × (s : Stream) × Spells r (bytes ++ more) s

@@ -7,12 +7,17 @@ ghost use Rattle.stream_frames.specs.Trees.{RawTag, Stream, tag_tokens};
 ghost use Rattle.stream_frames.specs.Gathering.{Gathered, gather_all, whole_tag};
 ghost use Rattle.stream_frames.specs.Faults.{IsSyntaxKind};
 ghost use Rattle.stream_frames.specs.Items.{EndsHeader, EndsTop, is_header_end, is_top_end};
-ghost use Rattle.std.specs.Prelude.{◌+◌, length, take, Some};
+ghost use Rattle.std.specs.Prelude.{◌+◌, ◌⊎◌, length, take, Some, None};
 ghost use Rattle.stream_frames.specs.declared.FrameFault.{FrameFault};
+ghost use Rattle.stream_frames.specs.declared.FrameFault.TheVariants as fault;
+ghost use Rattle.stream_frames.specs.declared.namespaces.NameFault.{NameFault};
 ghost use Rattle.stream_frames.specs.declared.item.Item.{Item};
 ghost use Rattle.stream_frames.specs.declared.item.Limits.{Limits};
 ghost use Rattle.stream_frames.specs.Reading.{Reading, reading_after, taken, is_ready, handed, first_reading, stopped, told_number, went, waiting, is_stopped, rules_of};
-ghost use Rattle.stream_frames.specs.Parts.{IsItem, IsFirstFault};
+ghost use Rattle.stream_frames.specs.Elements.{fault_of_tag};
+ghost use Rattle.stream_frames.specs.Extents.{HasOpenItem, IsSince, IsPastLimit};
+ghost use Rattle.stream_frames.specs.Paths.{Step, scope_of, EndsTag, name_kind};
+ghost use Rattle.stream_frames.specs.Parts.{IsItem, IsLargeEnd, IsFirstFault};
 ghost use Rattle.stream_frames.specs.Framing.{frame_next, frame_after, first_frame, is_broken, has_ended, fault_at};
 
 /// Bytes begin a stream exactly where the frame that they lead to is not broken, so the first byte that breaks
@@ -50,6 +55,18 @@ pub fn items_end()
         → is_top_end r (frame_after r first_frame bytes) b ≡ true → EndsTop r (bytes ++ b ∷ []) }
 {}
 
+/// A header or a top element is open from the byte after its `<` up to the byte that ends it: what is open began with a `<`; where a stream
+/// goes on, the first byte with which none is open any more ends one; and one that ends was open before.
+pub fn items_are_open_until_they_end()
+    ensures since { (r : Rules) (bytes : List ℕ) → HasOpenItem r bytes
+        → (xs : List ℕ) × (ys : List ℕ) × (bytes ≡ xs ++ (60 ∷ ys)) × IsSince r xs ys }
+    ensures ends { (r : Rules) (bytes : List ℕ) (b : ℕ)
+        → HasOpenItem r bytes → (HasOpenItem r (bytes ++ b ∷ []) → ⊥) → Begins r (bytes ++ b ∷ [])
+        → EndsHeader r (bytes ++ b ∷ []) ⊎ EndsTop r (bytes ++ b ∷ []) }
+    ensures ended { (r : Rules) (bytes : List ℕ) (b : ℕ)
+        → EndsHeader r (bytes ++ b ∷ []) ⊎ EndsTop r (bytes ++ b ∷ []) → HasOpenItem r bytes × (HasOpenItem r (bytes ++ b ∷ []) → ⊥) }
+{}
+
 /// The tokens of a tag give its name and its attributes, whatever came before.
 pub fn tags_are_gathered()
     ensures { (g : Gathered) (t : RawTag) (empty : Bool)
@@ -57,22 +74,45 @@ pub fn tags_are_gathered()
 {}
 
 /// What a framer hands out after a byte, where each item was handed out before the next byte, is the item of the grammar that ends
-/// with that byte: the header; a top element, with its names in their namespaces and its words joined; or the close tag.
+/// with that byte: the header; a top element, with its names in their namespaces and its words joined; or the close tag. Each such item
+/// is handed out, unless the framer has stopped.
 pub fn items_are_those_of_the_grammar()
-    ensures { (l : Limits) (bytes : List ℕ) (b : ℕ) (i : Item)
+    ensures found { (l : Limits) (bytes : List ℕ) (b : ℕ) (i : Item)
         → is_stopped (went l first_reading (bytes ++ b ∷ [])) ≡ false
         → waiting (went l first_reading (bytes ++ b ∷ [])) ≡ Some i → IsItem (rules_of l) (bytes ++ b ∷ []) i }
+    ensures all { (l : Limits) (bytes : List ℕ) (b : ℕ) (i : Item)
+        → is_stopped (went l first_reading (bytes ++ b ∷ [])) ≡ false
+        → IsItem (rules_of l) (bytes ++ b ∷ []) i → waiting (went l first_reading (bytes ++ b ∷ [])) ≡ Some i }
 {}
 
-/// A framer stops at the first byte that has a fault, with this fault and the byte's number: a byte past the limit of its header or
-/// top element; or one with which no stream goes on, and its kind; or the `>` of a tag whose names are refused; or the end of what has
-/// a canonical spelling past the limit.
+/// A framer stops at the first byte that has a fault, with this fault and the byte's number, and at no other: a byte past the limit of
+/// its header or top element; or one with which no stream goes on, and its kind; or the `>` of a tag whose names are refused in the scope
+/// of the elements round it; or the end of what has a canonical spelling past the limit.
 pub fn faults_are_exact()
     ensures stops { (l : Limits) (bytes : List ℕ) (b : ℕ) (f : FrameFault) (k : ℕ)
         → is_stopped (went l first_reading bytes) ≡ false → went l first_reading (bytes ++ b ∷ []) ≡ stopped f k
         → IsFirstFault l bytes b f × (k ≡ told_number (length bytes + 1)) }
+    ensures refused { (l : Limits) (bytes : List ℕ) (b : ℕ) (f : FrameFault)
+        → IsFirstFault l bytes b f → went l first_reading (bytes ++ b ∷ []) ≡ stopped f (told_number (length bytes + 1)) }
     ensures goes_on { (l : Limits) (bytes : List ℕ) (b : ℕ) (f : FrameFault)
         → is_stopped (went l first_reading (bytes ++ b ∷ [])) ≡ false → IsFirstFault l bytes b f → ⊥ }
+{}
+
+/// Where a stream goes on with a byte that is not past its limit, and the byte ends a tag, the framer stops there with the fault that the
+/// tag's names have in the scope of the elements that are open round it, and it goes on where they have none and no item ends that is too
+/// large. A fault of encoding is one of the syntax: no name and no value that is read is anything but text.
+pub fn name_faults_are_those_of_the_scope()
+    ensures refused { (l : Limits) (bytes : List ℕ) (b : ℕ) (path : List Step) (t : RawTag) (x : NameFault)
+        → is_stopped (went l first_reading bytes) ≡ false → (IsPastLimit l bytes b → ⊥) → Begins (rules_of l) (bytes ++ b ∷ [])
+        → EndsTag (bytes ++ b ∷ []) path t → fault_of_tag (scope_of path) (whole_tag t) ≡ Some x
+        → went l first_reading (bytes ++ b ∷ []) ≡ stopped (name_kind x) (told_number (length bytes + 1)) }
+    ensures kept { (l : Limits) (bytes : List ℕ) (b : ℕ) (path : List Step) (t : RawTag)
+        → is_stopped (went l first_reading bytes) ≡ false → (IsPastLimit l bytes b → ⊥) → Begins (rules_of l) (bytes ++ b ∷ [])
+        → EndsTag (bytes ++ b ∷ []) path t → fault_of_tag (scope_of path) (whole_tag t) ≡ None → (IsLargeEnd l (bytes ++ b ∷ []) → ⊥)
+        → is_stopped (went l first_reading (bytes ++ b ∷ [])) ≡ false }
+    ensures encodings { (l : Limits) (bytes : List ℕ) (b : ℕ) (k : ℕ)
+        → is_stopped (went l first_reading bytes) ≡ false → went l first_reading (bytes ++ b ∷ []) ≡ stopped fault.BadEncoding k
+        → Begins (rules_of l) (bytes ++ b ∷ []) → ⊥ }
 {}
 
 /// However a stream is cut into pieces, the framer that takes them, and hands out each item as it comes, stands where their bytes
