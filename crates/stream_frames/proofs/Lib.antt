@@ -48,3 +48,4 @@ pub mod ProperStreams
 pub mod ProperTops
 pub mod ProperMaking
 pub mod Faulting
+pub mod PlainLemmas

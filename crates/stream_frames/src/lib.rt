@@ -13,6 +13,10 @@ mod name_tests;
 mod names;
 mod namespaces;
 mod places;
+#[cfg(test)]
+mod plain;
+#[cfg(test)]
+mod plain_tests;
 pub mod round_trip;
 mod rules;
 mod scan;
