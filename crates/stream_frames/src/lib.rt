@@ -3,6 +3,8 @@
 
 mod builder;
 mod built;
+#[cfg(test)]
+mod feeding;
 mod framer;
 #[cfg(test)]
 mod framer_tests;
@@ -15,6 +17,10 @@ mod namespaces;
 mod places;
 #[cfg(test)]
 mod plain;
+#[cfg(test)]
+mod plain_frames;
+#[cfg(test)]
+mod plain_nesting;
 #[cfg(test)]
 mod plain_tests;
 pub mod round_trip;

@@ -1,10 +1,8 @@
 //! The framer against the slow program: the fault of every text that differs in one byte from a few short ones.
 
-ghost use Rattle.std.specs.Prelude.{◌≡◌, true, IfOk};
-ghost use Rattle.stream_frames.specs.Reading.{is_ready};
-
+use crate::feeding::{Cut, items_of};
 use crate::plain::plain_fault;
-use crate::{FrameFault, Framer, Item, Limits};
+use crate::{FrameFault, Item, Limits};
 use std::alloc::Global;
 use std::process::Abort;
 use std::test::Fail;
@@ -22,53 +20,18 @@ const BYTES: [u8; 24] = [
     b'1', b'-', b'!', b'[', b']', b'?', 0x80, 0xc3, 0xff,
 ];
 
-/// Feeds a piece that stands whole in what is left: how many bytes were taken, and the fault.
-fn feed_once(framer: &mut Framer, piece: &[u8]) -> Result<(usize, Option<(u64, FrameFault)>), Fail>
-    requires { is_ready framer.old.reading ≡ true }
-    ensures { IfOk result (λ r. is_ready framer.new.reading ≡ true) }
-{
-    let taken = match framer.feed(piece) {
-        Ok(taken) => taken,
-        Err(_) => return Err(Fail::from(stanza_tree::NoMemory)),
-    };
-    match framer.next() {
-        Some(Item::Broken(fault, at)) => Ok((taken, Some((at, fault)))),
-        _ => Ok((taken, None)),
-    }
-}
-
-/// The fault of bytes that are fed at once, each time what is left.
-fn fault_whole(
+/// The fault by the framer.
+fn fault_by_framer(
     alloc: Global,
     limits: Limits,
     bytes: &[u8],
+    cut: Cut,
 ) -> Result<Option<(u64, FrameFault)>, Fail> {
-    let mut framer = Framer::new(alloc, limits)?;
-    let mut left = bytes;
-    for _ in 0..bytes.len() {
-        let (taken, fault) = feed_once(&mut framer, left)?;
-        left = &left[taken.min(left.len())..];
-        if fault.is_some() || left.is_empty() {
-            return Ok(fault);
-        }
+    let items = items_of(alloc, limits, bytes, cut)?;
+    match items.as_slice() {
+        [.., Item::Broken(fault, at)] => Ok(Some((*at, *fault))),
+        _ => Ok(None),
     }
-    Ok(None)
-}
-
-/// The fault of bytes that are fed one by one.
-fn fault_by_bytes(
-    alloc: Global,
-    limits: Limits,
-    bytes: &[u8],
-) -> Result<Option<(u64, FrameFault)>, Fail> {
-    let mut framer = Framer::new(alloc, limits)?;
-    for byte in bytes {
-        let (_, fault) = feed_once(&mut framer, &[*byte])?;
-        if fault.is_some() {
-            return Ok(fault);
-        }
-    }
-    Ok(None)
 }
 
 /// The fault by the slow program.
@@ -83,7 +46,7 @@ fn fault_by_trying(
     }
 }
 
-/// All three find the same fault. Answers its kind.
+/// The framer finds the fault that the slow program finds, whole and cut after every byte. Answers its kind.
 fn expect_same(
     rt: &impl Abort,
     alloc: Global,
@@ -91,12 +54,12 @@ fn expect_same(
     bytes: &[u8],
 ) -> Result<Option<FrameFault>, Fail> {
     let plain = fault_by_trying(alloc, limits, bytes)?;
-    let whole = fault_whole(alloc, limits, bytes)?;
-    let cut = fault_by_bytes(alloc, limits, bytes)?;
+    let whole = fault_by_framer(alloc, limits, bytes, Cut::Whole)?;
     assert!(rt;
         whole == plain,
         "{bytes:?}: {whole:?}, and by trying {plain:?}"
     );
+    let cut = fault_by_framer(alloc, limits, bytes, Cut::Bytes)?;
     assert!(rt;
         cut == plain,
         "{bytes:?}, cut: {cut:?}, and by trying {plain:?}"

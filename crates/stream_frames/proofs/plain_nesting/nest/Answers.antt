@@ -1,5 +1,5 @@
 use Rattle.std.proofs.Common.{rules}
-use Rattle.stream_frames.proofs.plain.nest.Goals as goal
+use Rattle.stream_frames.proofs.plain_nesting.nest.Goals as goal
 
 pub returns-in-NamingAttribute : goal.returns-in-NamingAttribute
 returns-in-NamingAttribute c = let e = c.in_attribute.ensures c.args.rules in search (rules, e)
