@@ -2,7 +2,7 @@
 
 use crate::NameFault::{BadPrefix, NotWellFormed};
 use crate::{Binding, NameFault, TagFault, Written, name_fault, own_bindings, resolve};
-use stanza_tree::{Attr, Element, Several};
+use stanza_tree::{Element, Several};
 use std::alloc::Global;
 use std::process::Abort;
 use std::test::Fail;
@@ -133,10 +133,19 @@ fn resolved(alloc: Global, name: &[u8], attributes: &[(&[u8], &[u8])]) -> Result
     Ok(resolve(alloc, bound.as_slice(), name, attributes.as_slice())?)
 }
 
-/// The attributes are in these namespaces, in this order.
-fn expect_spaces(rt: &impl Abort, attributes: &[Attr], spaces: &[&[u8]]) {
-    assert!(rt; attributes.len() == spaces.len());
-    for (attr, space) in attributes.iter().zip(spaces) {
+/// The element is named so, and its attributes are in these namespaces, in this order.
+fn expect_names(
+    rt: &impl Abort,
+    element: &Element,
+    space: &[u8],
+    local: &[u8],
+    attribute_spaces: &[&[u8]],
+) {
+    assert!(rt; element.name.space.bytes() == space);
+    assert!(rt; element.name.local.bytes() == local);
+    let attributes = element.attrs.slice();
+    assert!(rt; attributes.len() == attribute_spaces.len());
+    for (attr, space) in attributes.iter().zip(attribute_spaces) {
         assert!(rt; attr.name.space.bytes() == *space);
     }
 }
@@ -145,9 +154,7 @@ fn expect_spaces(rt: &impl Abort, attributes: &[Attr], spaces: &[&[u8]]) {
 fn names_get_their_namespaces(rt: HostRuntime) -> Result<(), Fail> {
     let attributes: [(&[u8], &[u8]); 3] = [(b"xmlns:z", b"urn:z"), (b"a", b"1"), (b"z:b", b"2")];
     let element = resolved(rt.alloc(), b"z:e", &attributes)?;
-    assert!(&rt; element.name.space.bytes() == b"urn:z".as_slice());
-    assert!(&rt; element.name.local.bytes() == b"e".as_slice());
-    expect_spaces(&rt, element.attrs.slice(), &[b"", b"urn:z"]);
+    expect_names(&rt, &element, b"urn:z", b"e", &[b"", b"urn:z"]);
     Ok(())
 }
 
