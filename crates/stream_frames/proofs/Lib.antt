@@ -64,3 +64,4 @@ pub mod Extents
 pub mod FirstFaults
 pub mod ScopeFaults
 pub mod OpenItems
+pub mod PlainLemmas

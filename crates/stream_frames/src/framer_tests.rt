@@ -1,12 +1,10 @@
 //! Streams as items: whole, cut after every byte, and at their limits.
 
-ghost use Rattle.std.specs.Prelude.{◌≡◌, ◌<◌, true, IfOk};
-ghost use Rattle.stream_frames.specs.Reading.{is_ready};
-
 use crate::FrameFault::{
     BadEncoding, BadFormat, BadPrefix, NotWellFormed, Restricted, TooDeep, TooLong, TooManyAttrs,
 };
-use crate::{FrameFault, Framer, Item, Limits};
+use crate::feeding::{Cut, items_of};
+use crate::{FrameFault, Item, Limits};
 use stanza_tree::write;
 use std::alloc::Global;
 use std::process::Abort;
@@ -61,52 +59,40 @@ fn push_item(item: &Item, lines: &mut Vec<u8>) -> Result<u64, Fail> {
     Ok(place)
 }
 
-/// Feeds a piece that stands whole in what is left, and tells what comes of it.
-fn feed_once(framer: &mut Framer, piece: &[u8], lines: &mut Vec<u8>) -> Result<(usize, u64), Fail>
-    requires { is_ready framer.old.reading ≡ true }
-    ensures { IfOk result (λ r. is_ready framer.new.reading ≡ true) }
-{
-    let taken = match framer.feed(piece) {
-        Ok(taken) => taken,
-        Err(_) => return Err(Fail::from(stanza_tree::NoMemory)),
-    };
-    match framer.next() {
-        Some(item) => Ok((taken, push_item(&item, lines)?)),
-        None => Ok((taken, 0)),
-    }
-}
-
-/// What comes of bytes that are fed at once, each time what is left.
-fn told_whole(alloc: Global, limits: Limits, bytes: &[u8]) -> Result<(Vec<u8>, u64), Fail> {
-    let mut framer = Framer::new(alloc, limits)?;
+/// What comes of bytes: its lines, and the fault's place.
+fn told(alloc: Global, limits: Limits, bytes: &[u8], cut: Cut) -> Result<(Vec<u8>, u64), Fail> {
+    let items = items_of(alloc, limits, bytes, cut)?;
     let mut lines = Vec::new(alloc);
     let mut place = 0;
-    let mut left = bytes;
-    for _ in 0..20 {
-        let (taken, at) = feed_once(&mut framer, left, &mut lines)?;
-        left = &left[taken.min(left.len())..];
-        place = place.max(at);
-        if left.is_empty() || at > 0 {
-            break;
-        }
+    for item in items.as_slice() {
+        place = push_item(item, &mut lines)?;
     }
     Ok((lines, place))
 }
 
-/// What comes of bytes that are fed one by one, up to a fault.
-fn told_by_bytes(alloc: Global, limits: Limits, bytes: &[u8]) -> Result<(Vec<u8>, u64), Fail> {
-    let mut framer = Framer::new(alloc, limits)?;
-    let mut lines = Vec::new(alloc);
-    for byte in bytes {
-        let (_, at) = feed_once(&mut framer, &[*byte], &mut lines)?;
-        if at > 0 {
-            return Ok((lines, at));
-        }
-    }
-    Ok((lines, 0))
+/// The bytes tell the lines and have their fault at the place, whole and cut after every byte.
+fn expect_lines(
+    rt: &impl Abort,
+    alloc: Global,
+    limits: Limits,
+    bytes: &[u8],
+    lines: &[u8],
+    place: u64,
+) -> Result<(), Fail> {
+    let (whole, at) = told(alloc, limits, bytes, Cut::Whole)?;
+    assert!(rt;
+        whole.as_slice() == lines && at == place,
+        "{bytes:?}: {whole:?} at {at}"
+    );
+    let (cut, cut_at) = told(alloc, limits, bytes, Cut::Bytes)?;
+    assert!(rt;
+        cut.as_slice() == lines && cut_at == place,
+        "{bytes:?}, cut: {cut:?} at {cut_at}"
+    );
+    Ok(())
 }
 
-/// A text tells the lines and has its fault at the place, whole and cut after every byte.
+/// Each text after the bytes in front tells its lines and has its fault at the place.
 fn expect_told(
     rt: &impl Abort,
     alloc: Global,
@@ -118,16 +104,7 @@ fn expect_told(
         let mut bytes = Vec::new(alloc);
         bytes.extend_from_slice(front)?;
         bytes.extend_from_slice(text)?;
-        let (whole, at) = told_whole(alloc, limits, bytes.as_slice())?;
-        let (cut, cut_at) = told_by_bytes(alloc, limits, bytes.as_slice())?;
-        assert!(rt;
-            whole.as_slice() == *lines && at == *place,
-            "{text:?}: {whole:?} at {at}"
-        );
-        assert!(rt;
-            cut.as_slice() == *lines && cut_at == *place,
-            "{text:?}: {cut:?} at {cut_at}"
-        );
+        expect_lines(rt, alloc, limits, bytes.as_slice(), lines, *place)?;
     }
     Ok(())
 }
@@ -265,7 +242,7 @@ fn expect_at_end(
     fault: Option<FrameFault>,
 ) -> Result<(), Fail> {
     let bytes = repeated(alloc, parts)?;
-    let (lines, at) = told_whole(alloc, LIMITS, bytes.as_slice())?;
+    let (lines, at) = told(alloc, LIMITS, bytes.as_slice(), Cut::Whole)?;
     let place = if fault.is_some() { bytes.len() } else { 0 };
     assert!(rt; at == place as u64, "{fault:?}: {at}");
     if let Some(fault) = fault {

@@ -3,6 +3,8 @@
 
 mod builder;
 mod built;
+#[cfg(test)]
+mod feeding;
 mod framer;
 #[cfg(test)]
 mod framer_tests;
@@ -13,6 +15,14 @@ mod name_tests;
 mod names;
 mod namespaces;
 mod places;
+#[cfg(test)]
+mod plain;
+#[cfg(test)]
+mod plain_frames;
+#[cfg(test)]
+mod plain_nesting;
+#[cfg(test)]
+mod plain_tests;
 pub mod round_trip;
 mod rules;
 mod scan;

@@ -2,7 +2,7 @@
 
 use crate::NameFault::{BadPrefix, NotWellFormed};
 use crate::{Binding, NameFault, TagFault, Written, name_fault, own_bindings, resolve};
-use stanza_tree::Several;
+use stanza_tree::{Element, Several};
 use std::alloc::Global;
 use std::process::Abort;
 use std::test::Fail;
@@ -78,22 +78,24 @@ fn elements(rt: HostRuntime) -> Result<(), Fail> {
     Ok(())
 }
 
+/// The attributes of a tag, and its fault.
+const TAGS: &[(&[(&[u8], &[u8])], Option<NameFault>)] = &[
+    (&[(b"a", b"1"), (b"p:a", b"2")], None),
+    (&[(b"a", b"1"), (b"a", b"2")], Some(NotWellFormed)),
+    (&[(b"p:a", b"1"), (b"q:a", b"2")], Some(NotWellFormed)),
+    (&[(b"p:a", b"1"), (b"r:a", b"2")], Some(BadPrefix)),
+    (
+        &[(b"xmlns:z", b"urn:z"), (b"xmlns:z", b"urn:z")],
+        Some(NotWellFormed),
+    ),
+    (&[(b"xml:lang", b"en"), (b"xmlns", b"")], None),
+    (&[(b"a", b"1"), (b"xmlnsx", b"2")], None),
+];
+
 #[test]
 fn attributes(rt: HostRuntime) -> Result<(), Fail> {
-    let cases: [([(&[u8], &[u8]); 2], Option<NameFault>); 7] = [
-        ([(b"a", b"1"), (b"p:a", b"2")], None),
-        ([(b"a", b"1"), (b"a", b"2")], Some(NotWellFormed)),
-        ([(b"p:a", b"1"), (b"q:a", b"2")], Some(NotWellFormed)),
-        ([(b"p:a", b"1"), (b"r:a", b"2")], Some(BadPrefix)),
-        (
-            [(b"xmlns:z", b"urn:z"), (b"xmlns:z", b"urn:z")],
-            Some(NotWellFormed),
-        ),
-        ([(b"xml:lang", b"en"), (b"xmlns", b"")], None),
-        ([(b"a", b"1"), (b"xmlnsx", b"2")], None),
-    ];
-    for (written, fault) in cases {
-        expect_fault(&rt, rt.alloc(), b"a", &written, fault)?;
+    for (written, fault) in TAGS {
+        expect_fault(&rt, rt.alloc(), b"a", written, *fault)?;
     }
     Ok(())
 }
@@ -124,20 +126,35 @@ fn declarations(rt: HostRuntime) -> Result<(), Fail> {
     Ok(())
 }
 
+/// The start tag of this name with these attributes, as an element.
+fn resolved(alloc: Global, name: &[u8], attributes: &[(&[u8], &[u8])]) -> Result<Element, Fail> {
+    let attributes = written(alloc, attributes)?;
+    let bound = bindings(alloc, attributes.as_slice())?;
+    Ok(resolve(alloc, bound.as_slice(), name, attributes.as_slice())?)
+}
+
+/// The element is named so, and its attributes are in these namespaces, in this order.
+fn expect_names(
+    rt: &impl Abort,
+    element: &Element,
+    space: &[u8],
+    local: &[u8],
+    attribute_spaces: &[&[u8]],
+) {
+    assert!(rt; element.name.space.bytes() == space);
+    assert!(rt; element.name.local.bytes() == local);
+    let attributes = element.attrs.slice();
+    assert!(rt; attributes.len() == attribute_spaces.len());
+    for (attr, space) in attributes.iter().zip(attribute_spaces) {
+        assert!(rt; attr.name.space.bytes() == *space);
+    }
+}
+
 #[test]
 fn names_get_their_namespaces(rt: HostRuntime) -> Result<(), Fail> {
-    let alloc = rt.alloc();
-    let cases: [(&[u8], &[u8]); 3] = [(b"xmlns:z", b"urn:z"), (b"a", b"1"), (b"z:b", b"2")];
-    let attributes = written(alloc, cases.as_slice())?;
-    let bound = bindings(alloc, attributes.as_slice())?;
-    let element = resolve(alloc, bound.as_slice(), b"z:e", attributes.as_slice())?;
-    assert!(&rt; element.name.space.bytes() == b"urn:z".as_slice());
-    assert!(&rt; element.name.local.bytes() == b"e".as_slice());
-    assert!(&rt; element.attrs.slice().len() == 2);
-    let spaces: [&[u8]; 2] = [b"", b"urn:z"];
-    for (attr, space) in element.attrs.slice().iter().zip(spaces) {
-        assert!(&rt; attr.name.space.bytes() == space);
-    }
+    let attributes: [(&[u8], &[u8]); 3] = [(b"xmlns:z", b"urn:z"), (b"a", b"1"), (b"z:b", b"2")];
+    let element = resolved(rt.alloc(), b"z:e", &attributes)?;
+    expect_names(&rt, &element, b"urn:z", b"e", &[b"", b"urn:z"]);
     Ok(())
 }
 
