@@ -8,9 +8,10 @@ use stanza_tree::{Element, NoMemory, write};
 use std::alloc::Global;
 use stream_frames::{FrameFault, Item};
 
-/// Appends the line of a reply. `frame` is the text of the frame that was given.
+/// Appends the line of a reply, whole or not at all. `frame` is the text of the frame that was given. Costs that text.
 pub fn print_reply(reply: &Reply, frame: &[u8], out: &mut Vec<u8>) -> Result<(), NoMemory>
-    ensures { OnOk result (out.new.items ≡ out.old.items ++ print_of reply.now frame.now) }
+    ensures ok { OnOk result (out.new.items ≡ out.old.items ++ print_of reply.now frame.now) }
+    ensures err { OnErr result (out.new.items ≡ out.old.items) }
 {
     match *reply {
         Reply::Opened(number) => {
@@ -30,12 +31,14 @@ pub fn print_reply(reply: &Reply, frame: &[u8], out: &mut Vec<u8>) -> Result<(),
 }
 
 fn print_frame(text: &[u8], out: &mut Vec<u8>) -> Result<(), NoMemory>
-    ensures { OnOk result (out.new.items ≡ out.old.items ++ frame_line text.now) }
+    ensures ok { OnOk result (out.new.items ≡ out.old.items ++ frame_line text.now) }
+    ensures err { OnErr result (out.new.items ≡ out.old.items) }
 {
-    out.extend_from_slice(b"frame ")?;
-    out.extend_from_slice(text)?;
-    out.push(b'\n')?;
-    Ok(())
+    let mut line = Vec::new(*out.allocator());
+    line.extend_from_slice(b"frame ")?;
+    line.extend_from_slice(text)?;
+    line.push(b'\n')?;
+    out.extend_from_slice(line.as_slice())
 }
 
 /// Appends the line of an item, whole or not at all. Costs the canonical spelling of a top element.
