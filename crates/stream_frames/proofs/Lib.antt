@@ -62,5 +62,7 @@ pub mod Exact
 pub mod Opens
 pub mod Extents
 pub mod FirstFaults
+pub mod Faultless
+pub mod OneFault
 pub mod ScopeFaults
 pub mod OpenItems
