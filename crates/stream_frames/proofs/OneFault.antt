@@ -1,12 +1,17 @@
 -- Of given bytes there is one first fault or none, and a reading stops there.
 use Rattle.std.proofs.Common.{◌≡◌, ℕ, suc, ◌+◌, ◌^◌, ◌<◌, ◌⊎◌, inl, inr, List, [], ◌∷◌, ◌++◌, length, refl, sym, ap, ◌∙◌, subst, append-nil, false, arith}
 use Rattle.std.proofs.lemmas.List.{length-append}
+use Rattle.std.specs.Prelude.{Some}
 use Rattle.stream_lex.proofs.Lists.{same_head, same_tail, false-true}
 use Rattle.stream_frames.specs.declared.FrameFault.{FrameFault}
 use Rattle.stream_frames.specs.declared.item.Limits.{Limits}
-use Rattle.stream_frames.specs.Reading.{Reading, reads, stopped, first_reading, is_stopped, went, told_number}
-use Rattle.stream_frames.specs.Parts.{AreFaultless, IsFirstFault, IsFault}
+use Rattle.stream_frames.specs.declared.item.Item.{Item}
+use Rattle.stream_frames.specs.declared.item.Item.TheVariants as item
+use Rattle.stream_frames.specs.Reading.{Reading, reads, stopped, first_reading, is_stopped, went, waiting, told_number, rules_of}
+use Rattle.stream_frames.specs.Parts.{IsItem, AreFaultless, IsFirstFault, IsFault}
 use Rattle.stream_frames.proofs.Handing.{stopped-went, went-more}
+use Rattle.stream_frames.proofs.Faulting.{some-same}
+use Rattle.stream_frames.proofs.Waiting.{item_waits}
 use Rattle.stream_frames.proofs.Faultless.{cons-after, goes_faultless, first_waits, first_stops}
 
 -- Two places of one list.
@@ -92,3 +97,16 @@ fault_or_none l bytes = by (went l first_reading bytes) refl
     by : (s : Reading) → went l first_reading bytes ≡ s → AreFaultless l bytes ⊎ ((k : ℕ) × (f : FrameFault) × IsFault l bytes k f)
     by (reads x c m k) e = inl (goes_faultless l bytes (ap is_stopped e))
     by (stopped f n) e = let (k, number, is) = place_told l bytes n f e in inr (k, f, is)
+
+-- What waits.
+
+pub item_or_fault : (l : Limits) (bytes : List ℕ) (b : ℕ) (i : Item) → waiting (went l first_reading (bytes ++ b ∷ [])) ≡ Some i
+    → IsItem (rules_of l) (bytes ++ b ∷ []) i ⊎ ((k : ℕ) × (f : FrameFault) × (i ≡ item.Broken f (told_number k)) × IsFault l (bytes ++ b ∷ []) k f)
+item_or_fault l bytes b i e = by (went l first_reading (bytes ++ b ∷ [])) refl
+  where
+    by : (s : Reading) → went l first_reading (bytes ++ b ∷ []) ≡ s
+        → IsItem (rules_of l) (bytes ++ b ∷ []) i ⊎ ((k : ℕ) × (f : FrameFault) × (i ≡ item.Broken f (told_number k)) × IsFault l (bytes ++ b ∷ []) k f)
+    by (reads x c m n) h = inl (item_waits l bytes b i (ap is_stopped h) e)
+    by (stopped f n) h =
+        let (k, number, is) = place_told l (bytes ++ b ∷ []) n f h in
+        inr (k, f, some-same i (item.Broken f n) (sym e ∙ ap waiting h) ∙ ap (λ (j : ℕ). item.Broken f j) number, is)

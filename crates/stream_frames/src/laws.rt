@@ -12,6 +12,7 @@ ghost use Rattle.stream_frames.specs.declared.FrameFault.{FrameFault};
 ghost use Rattle.stream_frames.specs.declared.FrameFault.TheVariants as fault;
 ghost use Rattle.stream_frames.specs.declared.namespaces.NameFault.{NameFault};
 ghost use Rattle.stream_frames.specs.declared.item.Item.{Item};
+ghost use Rattle.stream_frames.specs.declared.item.Item.TheVariants as item;
 ghost use Rattle.stream_frames.specs.declared.item.Limits.{Limits};
 ghost use Rattle.stream_frames.specs.Reading.{Reading, reading_after, taken, is_ready, handed, first_reading, stopped, told_number, went, waiting, is_stopped, rules_of};
 ghost use Rattle.stream_frames.specs.Elements.{fault_of_tag};
@@ -99,8 +100,8 @@ pub fn faults_are_exact()
     ensures goes_on { (l : Limits) (bytes : List ℕ) → is_stopped (went l first_reading bytes) ≡ false → AreFaultless l bytes }
 {}
 
-/// Given bytes have one fault or none. A framer that takes them stops with this fault and its place, and else goes on. A place is told in
-/// 64 bits: one past 2^64 - 1 counts as that.
+/// Given bytes have one fault or none. A framer that takes them stops with this fault and the number of its byte, and else goes on; what waits
+/// after them is the item of the grammar that ends there, or the fault. Numbers are told in 64 bits: one past 2^64 - 1 is told as that.
 pub fn bytes_have_one_fault_or_none()
     ensures either { (l : Limits) (bytes : List ℕ) → AreFaultless l bytes ⊎ ((k : ℕ) × (f : FrameFault) × IsFault l bytes k f) }
     ensures one { (l : Limits) (bytes : List ℕ) (j k : ℕ) (f g : FrameFault)
@@ -112,6 +113,9 @@ pub fn bytes_have_one_fault_or_none()
         → went l first_reading bytes ≡ stopped f n → (k : ℕ) × (n ≡ told_number k) × IsFault l bytes k f }
     ensures exact { (l : Limits) (bytes : List ℕ) (k : ℕ) (f : FrameFault)
         → length bytes < 2 ^ 64 → went l first_reading bytes ≡ stopped f k → IsFault l bytes k f }
+    ensures waits { (l : Limits) (bytes : List ℕ) (b : ℕ) (i : Item)
+        → waiting (went l first_reading (bytes ++ b ∷ [])) ≡ Some i
+        → IsItem (rules_of l) (bytes ++ b ∷ []) i ⊎ ((k : ℕ) × (f : FrameFault) × (i ≡ item.Broken f (told_number k)) × IsFault l (bytes ++ b ∷ []) k f) }
 {}
 
 /// Where a stream goes on with a byte that is not past its limit, and the byte ends a tag, the framer stops there with the fault that the

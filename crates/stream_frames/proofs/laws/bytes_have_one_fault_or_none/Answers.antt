@@ -1,4 +1,4 @@
-use Rattle.stream_frames.proofs.OneFault.{fault_or_none, one_fault, none_else, place_stops, place_told, place_exact}
+use Rattle.stream_frames.proofs.OneFault.{fault_or_none, one_fault, none_else, place_stops, place_told, place_exact, item_or_fault}
 use Rattle.stream_frames.proofs.laws.bytes_have_one_fault_or_none.Goals as goal
 
 pub returns-clause-either : goal.returns-clause-either
@@ -18,3 +18,6 @@ returns-clause-told c = λ l bytes n f e. place_told l bytes n f e
 
 pub returns-clause-exact : goal.returns-clause-exact
 returns-clause-exact c = λ l bytes k f short e. place_exact l bytes k f short e
+
+pub returns-clause-waits : goal.returns-clause-waits
+returns-clause-waits c = λ l bytes b i e. item_or_fault l bytes b i e
