@@ -31,10 +31,6 @@ pub opened_none : (o : Option OpenElement) (ps : List Parent) → is_some o ≡ 
 opened_none None ps e = refl
 opened_none (Some x) ps e = absurd (let bad : true ≡ false = e in cc)
 
-pub word_first : (t : Token) (ts : List Token) → are_words (t ∷ ts) ≡ true → (are_words (t ∷ []) ≡ true) × (are_words ts ≡ true)
-word_first (token.Word c) ts e = (refl, e)
-word_first t ts e = absurd (let bad : false ≡ true = e in cc)
-
 -- the parent that was put away last is the first
 pub last_parent : (ps : List Parent) (p : Parent) → reverse (map open_parent (ps ++ p ∷ [])) ≡ open_parent p ∷ reverse (map open_parent ps)
 last_parent ps p = ap reverse (map-append open_parent ps (p ∷ [])) ∙ reverse-append (map open_parent ps) (open_parent p ∷ [])

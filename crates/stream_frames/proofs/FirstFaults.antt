@@ -1,4 +1,4 @@
--- The first fault of a reading, in the words of the grammar.
+-- The fault at which a reading stops, in the words of the grammar.
 use Rattle.std.proofs.Common.{◌≡◌, ℕ, ◌+◌, inl, inr, List, [], ◌∷◌, ◌++◌, length, refl, sym, ◌∙◌, Bool, true, false}
 use Rattle.stream_lex.proofs.Lists.{false-true}
 use Rattle.stream_frames.specs.declared.FrameFault.{FrameFault}
@@ -6,7 +6,7 @@ use Rattle.stream_frames.specs.declared.item.Limits.{Limits}
 use Rattle.stream_frames.specs.Framing.{Frame, frame_next, frame_after, first_frame}
 use Rattle.stream_frames.specs.Building.{nothing_built}
 use Rattle.stream_frames.specs.Reading.{Reading, reads, stopped, first_reading, is_stopped, went, rules_of, is_past, told_number}
-use Rattle.stream_frames.specs.Parts.{IsByteFault, IsFirstFault}
+use Rattle.stream_frames.specs.Parts.{IsByteFault}
 use Rattle.stream_frames.proofs.Handing.{HasRead, went-read}
 use Rattle.stream_frames.proofs.Faulting.{IsFaultAt, IsFaultIn, fault-waits, none-waits}
 use Rattle.stream_frames.proofs.Exact.{fault-stops}
@@ -38,18 +38,22 @@ byte-reading : (l : Limits) (bytes : List ℕ) (byte : ℕ) (s : Reading) (g : F
 byte-reading l bytes byte (stopped f k) g h n o e = false-true (sym o)
 byte-reading l bytes byte (reads f b m k) g (p, q) n o e = from-byte l f m bytes byte g (p, n) e
 
-told-first : (l : Limits) (bytes : List ℕ) (byte : ℕ) (g : FrameFault) → IsFaultIn l (went l first_reading bytes) bytes byte g → IsFirstFault l bytes byte g
+-- the reading of these has not stopped, and the byte after them has this fault
+abbrev pub IsNextFault : Limits → List ℕ → ℕ → FrameFault → Type 0
+IsNextFault l bytes byte g = (is_stopped (went l first_reading bytes) ≡ false) × IsByteFault l bytes byte g
+
+told-first : (l : Limits) (bytes : List ℕ) (byte : ℕ) (g : FrameFault) → IsFaultIn l (went l first_reading bytes) bytes byte g → IsNextFault l bytes byte g
 told-first l bytes byte g e = reading-byte l bytes byte (went l first_reading bytes) g (went-read bytes l first_frame nothing_built 0 0) (went-extent bytes l first_frame nothing_built 0 0) e
 
-first-told : (l : Limits) (bytes : List ℕ) (byte : ℕ) (g : FrameFault) → IsFirstFault l bytes byte g → IsFaultIn l (went l first_reading bytes) bytes byte g
+first-told : (l : Limits) (bytes : List ℕ) (byte : ℕ) (g : FrameFault) → IsNextFault l bytes byte g → IsFaultIn l (went l first_reading bytes) bytes byte g
 first-told l bytes byte g (o, e) = byte-reading l bytes byte (went l first_reading bytes) g (went-read bytes l first_frame nothing_built 0 0) (went-extent bytes l first_frame nothing_built 0 0) o e
 
 pub fault_waits : (l : Limits) (bytes : List ℕ) (byte : ℕ) (g : FrameFault) (k : ℕ) → is_stopped (went l first_reading bytes) ≡ false → went l first_reading (bytes ++ byte ∷ []) ≡ stopped g k
-    → IsFirstFault l bytes byte g × (k ≡ told_number (length bytes + 1))
+    → IsNextFault l bytes byte g × (k ≡ told_number (length bytes + 1))
 fault_waits l bytes byte g k o e = let (is, number) = fault-waits l bytes byte g k o e in (told-first l bytes byte g is, number)
 
-pub fault_stops : (l : Limits) (bytes : List ℕ) (byte : ℕ) (g : FrameFault) → IsFirstFault l bytes byte g → went l first_reading (bytes ++ byte ∷ []) ≡ stopped g (told_number (length bytes + 1))
+pub fault_stops : (l : Limits) (bytes : List ℕ) (byte : ℕ) (g : FrameFault) → IsNextFault l bytes byte g → went l first_reading (bytes ++ byte ∷ []) ≡ stopped g (told_number (length bytes + 1))
 fault_stops l bytes byte g e = fault-stops l bytes byte g (first-told l bytes byte g e)
 
-pub none_waits : (l : Limits) (bytes : List ℕ) (byte : ℕ) (g : FrameFault) → is_stopped (went l first_reading (bytes ++ byte ∷ [])) ≡ false → IsFirstFault l bytes byte g → ⊥
+pub none_waits : (l : Limits) (bytes : List ℕ) (byte : ℕ) (g : FrameFault) → is_stopped (went l first_reading (bytes ++ byte ∷ [])) ≡ false → IsNextFault l bytes byte g → ⊥
 none_waits l bytes byte g o e = none-waits l bytes byte g o (first-told l bytes byte g e)

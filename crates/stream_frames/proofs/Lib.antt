@@ -62,6 +62,8 @@ pub mod Exact
 pub mod Opens
 pub mod Extents
 pub mod FirstFaults
+pub mod Faultless
+pub mod OneFault
 pub mod ScopeFaults
 pub mod OpenItems
 pub mod PlainLemmas

@@ -89,9 +89,6 @@ unfolding nest
 closing-end [] s r = refl
 closing-end (x ∷ l) s r = refl
 
-drop-none : (i : ℕ) → drop {A = ℕ} i [] ≡ []
-drop-none i = drop_all i [] (omega arith)
-
 is_closing_token : Token → Bool
 is_closing_token (token.NameByte y) = true
 is_closing_token token.CloseEnds = true

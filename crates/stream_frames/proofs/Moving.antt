@@ -69,10 +69,6 @@ pub calm-was : (r : Bool) (s : Stage) → (not r || may_return s) ≡ true → r
 calm-was true s h e = h
 calm-was false s h e = false-true e
 
-calm-from : (r : Bool) (s : Stage) → (r ≡ true → may_return s ≡ true) → (not r || may_return s) ≡ true
-calm-from true s k = k refl
-calm-from false s k = refl
-
 no-name : (b : ℕ) (ts : List Token) → has_name ts ≡ false → own_byte b ts ≡ b
 no-name b [] h = refl
 no-name b (token.TagOpens x ∷ ts) h = absurd (let bad : true ≡ false = h in cc)

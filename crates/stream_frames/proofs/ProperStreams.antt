@@ -19,7 +19,7 @@ use Rattle.stream_frames.specs.declared.rules.Rules.{Rules}
 use Rattle.stream_frames.specs.Trees.{RawAttribute, RawTag, Content, nothing, word, element, hollow, Stream}
 use Rattle.stream_frames.specs.Streams.{Spells}
 use Rattle.stream_frames.specs.Items.{HasCome}
-use Rattle.stream_frames.specs.Namespaces.{space_before, xml_space, xmlns_space, has_prefix, prefix_of, local_of, is_declaration, declared_prefix, may_undo, may_declare, last_space, last_layer, space_of, attribute_space, own, is_unbound, has_unbound, is_forbidden, has_forbidden, is_space, same_space, is_twin, has_twin, has_twins}
+use Rattle.stream_frames.specs.Namespaces.{space_before, xml_space, xmlns_space, has_prefix, prefix_of, local_of, is_declaration, declared_prefix, may_undo, may_declare, last_space, last_layer, space_of, attribute_space, own, is_unbound, has_unbound, is_forbidden, has_forbidden, is_bound_to, same_space, is_twin, has_twin, has_twins}
 use Rattle.stream_frames.specs.Resolving.{or_none, name_on, attr_on, attrs_on}
 use Rattle.stream_frames.specs.Gathering.{written, whole_tag}
 use Rattle.stream_frames.specs.Elements.{inside_of, element_with, with_words, nodes_on, elements_on, fault_of_tag, AreNamed, outside_all, header_of, tops_of, IsNamed}
@@ -137,10 +137,10 @@ qname-parts name (inr (p, l, e, n, m)) =
     some : ((b : ℕ) × (bs : List ℕ) × (p ≡ b ∷ bs)) → bytes_eq p [] ≡ false
     some (b, bs, e) = ap (λ (x : List ℕ). bytes_eq x []) e
 
-pub name-proper : (L : List (List Binding)) (name : List ℕ) → AreFair L → IsQName name → is_unbound (space_of L (prefix_of name)) ≡ false → is_space (space_of L (prefix_of name)) xml_space ≡ false → IsElementName (name_on L name)
+pub name-proper : (L : List (List Binding)) (name : List ℕ) → AreFair L → IsQName name → is_unbound (space_of L (prefix_of name)) ≡ false → is_bound_to (space_of L (prefix_of name)) xml_space ≡ false → IsElementName (name_on L name)
 name-proper L name fair q bound other = by (space_of L (prefix_of name)) (space-fair L (prefix_of name) fair) bound other
   where
-    by : (o : Option (List ℕ)) → IsFound (prefix_of name) o → is_unbound o ≡ false → is_space o xml_space ≡ false → IsElementName (record { space = or_none o; local = local_of name })
+    by : (o : Option (List ℕ)) → IsFound (prefix_of name) o → is_unbound o ≡ false → is_bound_to o xml_space ≡ false → IsElementName (record { space = or_none o; local = local_of name })
     by None f b x = false-true (sym b)
     by (Some s) f b x = ((qname-parts name q).0, f.0, x, f.1)
 

@@ -14,7 +14,7 @@ use Rattle.stream_lex.specs.declared.stages.NameOwner.TheVariants.{StartTag, End
 use Rattle.stream_lex.specs.declared.stages.Base.{Base}
 use Rattle.stream_lex.specs.Classes.{CharacterClass, has_between, is_xml, name_starts, name_characters, characters}
 use Rattle.stream_lex.specs.Kinds.{kind, ascii_kind, wide_kind, is_kind, is_wide, is_name_start, is_name_further, is_wide_name_start, is_wide_name_further, is_allowed}
-use Rattle.stream_lex.specs.Expressions.{Sign, says, refuses, all_said, Expression, void, empty, silent_symbol, symbol, digits, concat, union, star, Times, IsText}
+use Rattle.stream_lex.specs.Expressions.{Sign, says, refuses, all_said, Expression, empty, silent_symbol, symbol, digits, concat, union, star, Times, IsText}
 use Rattle.stream_lex.specs.Grammar.{first_name_token, next_name_token, spread, a, optional, tells, told, refused, optional_space, word, first_character, later_first, further_character, local, colon, qualified_name}
 use Rattle.stream_lex.proofs.Lists.{false-true, true-false, said-append}
 use Rattle.stream_lex.proofs.Spans.{encode1}
@@ -58,10 +58,6 @@ checks-append n m k (refuses f ∷ us) vs a b = tt
 -- The texts of an expression, which begin and end at no name or at a whole one.
 abbrev pub Pass : Expression → Type 0
 Pass p = (n : List ℕ) → EndsName n → (cs : List ℕ) (ms : List Sign) → IsText p cs ms → (m : List ℕ) × EndsName m × Checks n ms m
-
-pub pass-void : Pass void
-unfolding IsText
-pass-void = λ n e cs ms m. absurd m
 
 pub pass-empty : Pass empty
 unfolding IsText
@@ -114,9 +110,6 @@ pub pass-refused : (P : Kind → Bool) → Pass (refused P)
 unfolding IsText
 pass-refused P = λ n e cs ms (c, is, x, y). (n, e, subst (λ (l : List Sign). Checks n l n) (sym y) tt)
 
-pub pass-optional : (p : Expression) → Pass p → Pass (optional p)
-pass-optional p a = pass-union p empty a pass-empty
-
 pub pass-spaces : Pass optional_space
 pass-spaces = pass-star (a kinds.Space) (pass-silent _)
 
@@ -131,9 +124,6 @@ pass-digits base f h =
     let (m, i, j) = h _ xml n e in (m, i, subst (λ (l : List Sign). Checks n l m) (sym z) j)
 
 -- Kinds and classes.
-
-from-test : (t u : Bool) → (not t || u) ≡ true → t ≡ true → u ≡ true
-from-test t u h e = implied t u h e
 
 starts_low : ℕ → Bool
 starts_low c = not (is_name_start (ascii_kind c) || is_wide_name_start (ascii_kind c)) || starts_name c

@@ -9,7 +9,7 @@ use Rattle.stanza_tree.specs.Spelling.{needs_prefix, prefix}
 use Rattle.stream_lex.proofs.Lists.{false-true}
 use Rattle.stream_frames.specs.declared.namespaces.Binding.{Binding}
 use Rattle.stream_frames.specs.declared.namespaces.Written.{Written}
-use Rattle.stream_frames.specs.Namespaces.{xml_space, xmlns_space, is_declaration, prefix_of, local_of, space_of, attribute_space, may_declare, is_forbidden, has_forbidden, is_unbound, has_unbound, is_space, same_space, is_twin, has_twin, has_twins, tag_fault}
+use Rattle.stream_frames.specs.Namespaces.{xml_space, xmlns_space, is_declaration, prefix_of, local_of, space_of, attribute_space, may_declare, is_forbidden, has_forbidden, is_unbound, has_unbound, is_bound_to, same_space, is_twin, has_twin, has_twins, tag_fault}
 use Rattle.stream_frames.specs.Resolving.{attrs_on, attr_on, or_none, name_on}
 use Rattle.stream_frames.specs.Proper.{IsNcName, IsAttribute, IsElementName, same_name}
 use Rattle.stream_frames.proofs.RoundTripSpelling.{default_written, declared_written, attributes_written, tag_written, each-append}
@@ -267,7 +267,7 @@ tag-resolved layers parent name attrs h e is d u =
     let s : SeeAll L (tag_written parent name.space attrs) (tag_names parent name.space attrs) = see-tag L parent name.space attrs n in
     let found : space_of L (prefix_of name.local) ≡ Some name.space = space-found L name e.0 (inner-under layers parent name.space attrs h u) in record {
       sound = cond-false _ _ _ (or-false _ _ (ap is_unbound found) (see-bound L (tag_written parent name.space attrs) (tag_names parent name.space attrs) s))
-          ∙ cond-false _ _ _ (or-false _ _ (ap (λ (o : Option (List ℕ)). is_space o xml_space) found ∙ e.2)
+          ∙ cond-false _ _ _ (or-false _ _ (ap (λ (o : Option (List ℕ)). is_bound_to o xml_space) found ∙ e.2)
           (or-false _ _ (fair-tag L parent name attrs e is n) (see-no_twins L (tag_written parent name.space attrs) (tag_names parent name.space attrs) s (tag-apart parent name.space attrs h is d))));
       named = ap (λ (o : Option (List ℕ)). record { space = or_none o; local = local_of name.local }) found
           ∙ ap (λ (l : List ℕ). record { space = name.space; local = l }) (cond-false _ _ _ (bare name.local (ncname-colon name.local e.0)));

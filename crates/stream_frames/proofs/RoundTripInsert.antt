@@ -24,7 +24,7 @@ use Rattle.stream_frames.specs.declared.rules.Rules.{Rules}
 use Rattle.stream_frames.specs.Trees.{RawTag, Content, nothing, word, element, hollow, tag_tokens, content_tokens, end_tokens, declaration_tokens, stream_tokens, levels, Keeps}
 use Rattle.stream_frames.specs.Streams.{Spells}
 use Rattle.stream_frames.specs.Items.{head_tokens, HasCome}
-use Rattle.stream_frames.specs.Namespaces.{xml_space, prefix_of, is_unbound, has_unbound, is_space, has_twins, tag_fault, is_declaration, declared_prefix, last_space, last_layer, space_of, own, may_declare, is_forbidden, has_forbidden, space_before}
+use Rattle.stream_frames.specs.Namespaces.{xml_space, prefix_of, is_unbound, has_unbound, is_bound_to, has_twins, tag_fault, is_declaration, declared_prefix, last_space, last_layer, space_of, own, may_declare, is_forbidden, has_forbidden, space_before}
 use Rattle.stream_frames.specs.Resolving.{or_none}
 use Rattle.stream_frames.specs.Gathering.{written, whole_tag}
 use Rattle.stream_frames.specs.Elements.{tops_of, inside_of, element_with, nodes_on, elements_on, fault_of_tag, AreNamed, outside_all, default_of, IsNamed}
@@ -122,15 +122,15 @@ xml-stays (w ∷ ws) h =
 pub record IsSoundTag (L : List (List Binding)) (name : List ℕ) (ws : List Written) : Type 0 where
   pub bound : is_unbound (space_of L (prefix_of name)) ≡ false
   pub all_bound : has_unbound L ws ≡ false
-  pub element : is_space (space_of L (prefix_of name)) xml_space ≡ false
+  pub element : is_bound_to (space_of L (prefix_of name)) xml_space ≡ false
   pub declared : has_forbidden ws ≡ false
   pub distinct : has_twins L ws ≡ false
 
 pub sound-tag : (L : List (List Binding)) (name : List ℕ) (ws : List Written) → tag_fault L name ws ≡ None → IsSoundTag L name ws
 sound-tag L name ws e =
-    let (unbound, wrong) = both fault.BadPrefix fault.NotWellFormed (is_unbound (space_of L (prefix_of name)) || has_unbound L ws) (is_space (space_of L (prefix_of name)) xml_space || (has_forbidden ws || has_twins L ws)) e in
+    let (unbound, wrong) = both fault.BadPrefix fault.NotWellFormed (is_unbound (space_of L (prefix_of name)) || has_unbound L ws) (is_bound_to (space_of L (prefix_of name)) xml_space || (has_forbidden ws || has_twins L ws)) e in
     let (a, b) = or-parts (is_unbound (space_of L (prefix_of name))) (has_unbound L ws) unbound in
-    let (c, d) = or-parts (is_space (space_of L (prefix_of name)) xml_space) (has_forbidden ws || has_twins L ws) wrong in
+    let (c, d) = or-parts (is_bound_to (space_of L (prefix_of name)) xml_space) (has_forbidden ws || has_twins L ws) wrong in
     let (f, g) = or-parts (has_forbidden ws) (has_twins L ws) d in
     record { bound = a; all_bound = b; element = c; declared = f; distinct = g }
   where

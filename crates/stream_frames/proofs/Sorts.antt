@@ -502,10 +502,6 @@ pub still-context : (p : Context) → may_move (text_sort p) [] (text_sort p) �
 still-context Words = refl
 still-context (Value q) = refl
 
-pub told-context : (p : Context) (c : ℕ) → may_move (text_sort p) (text_token p c ∷ []) (text_sort p) ≡ true
-told-context Words c = refl
-told-context (Value q) c = refl
-
 moves-Number : (p : Context) (base : Base) (v : ℕ) (k : Kind) (c : ℕ) → Known (stage.Number p base v) k c (ascii (stage.Number p base v) k c)
 unfolding ascii in_number
 moves-Number p base v kinds.Semicolon c = moves-ended p base v kinds.Semicolon c (is_xml v)

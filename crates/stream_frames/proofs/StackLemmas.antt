@@ -8,7 +8,7 @@ use Rattle.std.specs.declared.option.Option.{Option}
 use Rattle.std.specs.declared.option.Option.TheVariants.{None, Some}
 use Rattle.stream_frames.specs.declared.names.OpenName.{OpenName}
 use Rattle.stream_frames.specs.Trees.{RawName}
-use Rattle.stream_frames.specs.Stacks.{raw, stacked_on, stacked, IsClosed, outer, is_all}
+use Rattle.stream_frames.specs.Stacks.{raw, stacked_on, stacked, AreStacked, outer, is_all}
 use Rattle.stream_frames.specs.Moves.{is_one}
 
 pub stacked-snoc : (st : List RawName) (ns : List OpenName) (n : OpenName) → stacked_on st (ns ++ n ∷ []) ≡ raw n ∷ stacked_on st ns
@@ -23,7 +23,7 @@ no-snoc : (ns : List OpenName) (n : OpenName) → ns ++ n ∷ [] ≡ [] → ⊥
 no-snoc [] n e = cc
 no-snoc (m ∷ ns) n e = cc
 
-pub popped-one : (o : Option OpenName) (before after : List OpenName) (n : OpenName) → IsClosed o before → before ≡ after ++ n ∷ [] → raw n ∷ stacked_on [] after ≡ outer (stacked o before)
+pub popped-one : (o : Option OpenName) (before after : List OpenName) (n : OpenName) → AreStacked o before → before ≡ after ++ n ∷ [] → raw n ∷ stacked_on [] after ≡ outer (stacked o before)
 popped-one None before after n k e = absurd (no-snoc after n (sym e ∙ k))
 popped-one (Some m) before after n k e = sym (ap (stacked_on []) e ∙ stacked-snoc [] after n)
 
@@ -53,7 +53,7 @@ nothing-long : (ns : List OpenName) → 0 ≡ length ns → ns ≡ []
 nothing-long [] e = refl
 nothing-long (n ∷ ns) e = absurd (let f : 0 ≡ length (n ∷ ns) = e in omega arith)
 
-pub popped : (p o : Option OpenName) (before after : List OpenName) (n : ℕ) (A : Type 0) (B : OpenName → Type 0) → IsClosed o before → n ≡ length before → before ≡ after ++ option_to_list p → MatchOption p ((n ≡ 0) × A) B
+pub popped : (p o : Option OpenName) (before after : List OpenName) (n : ℕ) (A : Type 0) (B : OpenName → Type 0) → AreStacked o before → n ≡ length before → before ≡ after ++ option_to_list p → MatchOption p ((n ≡ 0) × A) B
     → stacked p after ≡ outer (stacked o before)
 popped None o before after n A B k e f m = popped-none o before (nothing-long before (sym m.0 ∙ e))
 popped (Some x) o before after n A B k e f m = popped-one o before after x k f

@@ -22,7 +22,6 @@ use Rattle.stream_frames.specs.Trees.{RawName}
 use Rattle.stream_frames.specs.Faults.{deeper, wider, looser}
 use Rattle.stream_frames.specs.Nesting.{Nest, start, inside, lost, nest_all}
 use Rattle.stream_frames.specs.Framing.{goes_with, open_at, broken, placed, settled, frame_next, is_broken, lexical_fault, byte_fault, fault_at}
-use Rattle.stream_frames.specs.Items.{tokens_told}
 use Rattle.stream_frames.specs.Moves.{tokens_move, breaks}
 use Rattle.stream_frames.specs.Tracking.{nest_at, moved, is_few, frame_of, tried, judged}
 use Rattle.stream_frames.proofs.MoveLemmas.{tokens-moved, move-breaks}
@@ -125,13 +124,6 @@ turned-live s to b l live t = by (turn s b) refl t
     by : (o : Outcome) → turn s b ≡ o → IsTurned s o to l → is_live to ≡ true
     by (leads u us) e (same, told, ok) = subst (λ (x : State). is_live x ≡ true) (sym same) (subst LeadsLive e (any-live s b live))
     by (fails g) e (same, told, bad) = subst (λ (x : State). is_live x ≡ true) (sym same) live
-
-pub turned-told : (s to : State) (b : ℕ) (l : Lexed) → IsTurned s (turn s b) to l → tokens_of l ≡ tokens_told (turn s b)
-turned-told s to b l t = by (turn s b) t
-  where
-    by : (o : Outcome) → IsTurned s o to l → tokens_of l ≡ tokens_told o
-    by (leads u us) (same, told, ok) = told
-    by (fails g) (same, told, bad) = told
 
 pub turned_few : (s to : State) (b : ℕ) (l : Lexed) → IsTurned s (turn s b) to l → is_few (tokens_of l) ≡ true
 turned_few s to b l t = by (turn s b) refl t

@@ -108,6 +108,7 @@ abbrev pub is_all_text : Building → Bool → Bool
 is_all_text b empty =
     is_text_tag (inside_of b.layers b.tag) b.tag.name b.tag.attributes && (if is_header b empty then is_utf8 (or_none (space_of (inside_of b.layers b.tag) [])) else true)
 
+-- why a tag could not be prepared: memory was wanting, its names are refused, or something in it is no text
 abbrev pub IsStartFault : Building → Bool → TagFault → Type 0
 IsStartFault b empty fault.NoMemory = Unit {0}
 IsStartFault b empty (fault.Names f) = fault_of_tag b.layers b.tag ≡ Some f

@@ -14,7 +14,7 @@ HasOpenItem r bytes = in_item (frame_after r first_frame bytes) ≡ true
 abbrev pub IsSince : Rules → List ℕ → List ℕ → Type 0
 IsSince r xs ys = (HasOpenItem r (xs ++ 60 ∷ []) → ⊥) × ((us vs : List ℕ) → ys ≡ us ++ vs → (us ≡ [] → ⊥) → HasOpenItem r (xs ++ (60 ∷ us)))
 
--- The byte after these is one of a header or a top element, and as many of its bytes as the limit is came before.
+-- The byte after these is one of a header or a top element, and as many of its bytes as the limit allows came before.
 abbrev pub IsPastLimit : Limits → List ℕ → ℕ → Type 0
 IsPastLimit l bytes byte = (HasOpenItem (rules_of l) bytes ⊎ HasOpenItem (rules_of l) (bytes ++ byte ∷ []))
     × ((xs : List ℕ) × (ys : List ℕ) × (bytes ≡ xs ++ (60 ∷ ys)) × IsSince (rules_of l) xs ys × (l.bytes ≤ length (60 ∷ ys)))

@@ -7,7 +7,7 @@ use Rattle.stream_frames.specs.declared.FrameFault.TheVariants as fault
 use Rattle.stream_frames.specs.declared.rules.Rules.{Rules}
 use Rattle.stream_frames.specs.Streams.{Begins}
 
--- the same with one level more, with one attribute more, and with any words between top elements
+-- these rules with one level more, with one attribute more, and with any words between top elements
 abbrev pub deeper : Rules → Rules
 deeper r = record r { depth = r.depth + 1 }
 
@@ -28,8 +28,8 @@ rank fault.BadFormat = 5
 rank fault.BadPrefix = 6
 rank fault.NotWellFormed = 7
 
--- Whether a kind fits bytes of which the last is the first that no stream goes on with: a stream would, but for a limit;
--- they begin no lexical reading, and are refused so; or a stream would, were any words allowed between top elements.
+-- Whether a kind fits bytes of which the last is the first with which no stream goes on: a stream would, but for a limit;
+-- or they begin no lexical reading, and are refused so; or a stream would, were any words allowed between top elements.
 abbrev pub Row : Rules → FrameFault → List ℕ → Type 0
 Row r fault.TooDeep bytes = Begins (deeper r) bytes
 Row r fault.TooManyAttrs bytes = Begins (wider r) bytes

@@ -14,6 +14,7 @@ pub record Fed : Type 0 where
   pub limits : Limits
   pub reading : Reading
 
+-- a fault, or else a reading that goes on
 abbrev pub reading_of : Option FrameFault → Frame → Building → ℕ → ℕ → Reading
 reading_of (Some f) frame b n k = stopped f k
 reading_of None frame b n k = reads frame b n k

@@ -1,4 +1,4 @@
--- The same, byte by byte: the lexical state and the nesting together.
+-- Where a stream stands, byte by byte: the lexical state and the nesting together.
 use Rattle.std.specs.Prelude.{ℕ, List, [], ◌∷◌, Bool, true, false, not, cond, ◌==◌, ◌&&◌, ◌||◌}
 use Rattle.stream_lex.specs.declared.LexFault.{LexFault}
 use Rattle.stream_lex.specs.declared.LexFault.TheVariants as lexical
@@ -93,15 +93,17 @@ lexical_fault lexical.NotWellFormed = fault.NotWellFormed
 lexical_fault lexical.Restricted = fault.Restricted
 lexical_fault lexical.BadEncoding = fault.BadEncoding
 
--- where the lexical layer goes on: whether more would be open between looser top elements
+-- neither a level nor an attribute more would help: whether a stream would go on, were any words allowed between top elements
 abbrev pub nesting_fault : Rules → Frame → ℕ → FrameFault
 nesting_fault r f b = cond (is_broken (frame_next (looser r) f b)) fault.NotWellFormed fault.BadFormat
 
+-- the fault of the lexical layer, or else the first limit without which a stream would go on
 abbrev pub byte_fault : Rules → Frame → ℕ → Outcome → FrameFault
 byte_fault r f b (fails g) = lexical_fault g
 byte_fault r f b (leads st us) =
     cond (is_broken (frame_next (deeper r) f b)) (cond (is_broken (frame_next (wider r) f b)) (nesting_fault r f b) fault.TooManyAttrs) fault.TooDeep
 
+-- after the end a byte is read as one between elements
 abbrev pub fault_at : Rules → Frame → ℕ → FrameFault
 fault_at r (open_at st n) b = byte_fault r (open_at st n) b (turn st b)
 fault_at r ended b = byte_fault r ended b (turn (at (stage.Text Words) pending.Nothing false) b)

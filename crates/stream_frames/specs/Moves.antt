@@ -1,4 +1,4 @@
--- What tokens do to a place and to the names that are open: the same nesting, by its changes.
+-- What tokens do to a place and to the names that are open: the nesting, by its changes.
 use Rattle.std.specs.Prelude.{ℕ, ◌+◌, List, [], ◌∷◌, length, Bool, true, false, not, cond, ◌&&◌, ◌||◌, nat_lt, nat_le}
 use Rattle.stream_lex.specs.declared.Token.{Token}
 use Rattle.stream_lex.specs.declared.Token.TheVariants as token

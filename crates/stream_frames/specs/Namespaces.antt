@@ -85,13 +85,14 @@ abbrev pub has_forbidden : List Written → Bool
 has_forbidden [] = false
 has_forbidden (a ∷ more) = if is_forbidden a then true else has_forbidden more
 
-abbrev pub is_space : Option (List ℕ) → List ℕ → Bool
-is_space None space = false
-is_space (Some s) space = bytes_eq s space
+-- whether this is the space that was found
+abbrev pub is_bound_to : Option (List ℕ) → List ℕ → Bool
+is_bound_to None space = false
+is_bound_to (Some s) space = bytes_eq s space
 
 abbrev pub same_space : Option (List ℕ) → Option (List ℕ) → Bool
 same_space None other = false
-same_space (Some s) other = is_space other s
+same_space (Some s) other = is_bound_to other s
 
 -- Namespaces in XML 1.0, 6.3: two attributes of one expanded name
 abbrev pub is_twin : List (List Binding) → Written → Written → Bool
@@ -110,7 +111,7 @@ has_twins bindings (a ∷ more) = if has_twin bindings a more then true else has
 abbrev pub tag_fault : List (List Binding) → List ℕ → List Written → Option NameFault
 tag_fault bindings name attributes =
     if is_unbound (space_of bindings (prefix_of name)) || has_unbound bindings attributes then Some fault.BadPrefix
-    else if is_space (space_of bindings (prefix_of name)) xml_space || (has_forbidden attributes || has_twins bindings attributes) then Some fault.NotWellFormed
+    else if is_bound_to (space_of bindings (prefix_of name)) xml_space || (has_forbidden attributes || has_twins bindings attributes) then Some fault.NotWellFormed
     else None
 
 -- The bindings that a tag declares, in their order.

@@ -1,5 +1,5 @@
--- The items of a stream, by the grammar (RFC 6120, 4.2).
-use Rattle.std.specs.Prelude.{◌≡◌, ℕ, ◌⊎◌, List, [], ◌∷◌, ◌++◌, true, false, Some}
+-- The items of a stream, and the faults of its bytes, by the grammar (RFC 6120, 4.2 and 4.9.3).
+use Rattle.std.specs.Prelude.{◌≡◌, ℕ, ◌+◌, ◌⊎◌, List, [], ◌∷◌, ◌++◌, length, true, false, Some}
 use Rattle.stanza_tree.specs.declared.node.Element.{Element}
 use Rattle.stream_frames.specs.declared.item.Item.{Item}
 use Rattle.stream_frames.specs.declared.item.Item.TheVariants as item
@@ -10,7 +10,7 @@ use Rattle.stream_frames.specs.Faults.{IsSyntaxKind}
 use Rattle.stream_frames.specs.declared.FrameFault.{FrameFault}
 use Rattle.stream_frames.specs.declared.FrameFault.TheVariants as fault
 use Rattle.stream_frames.specs.declared.item.Limits.{Limits}
-use Rattle.stream_frames.specs.Reading.{first_reading, is_stopped, went, rules_of, is_large_item}
+use Rattle.stream_frames.specs.Reading.{rules_of, is_large_item}
 use Rattle.stream_frames.specs.Extents.{IsPastLimit}
 use Rattle.stream_frames.specs.Items.{HasCome, ends_so}
 use Rattle.stream_frames.specs.Paths.{IsNameFault}
@@ -40,6 +40,14 @@ IsByteFault l bytes byte g =
     ⊎ (Begins (rules_of l) (bytes ++ byte ∷ [])
     × (IsNameFault (bytes ++ byte ∷ []) g ⊎ (IsLargeEnd l (bytes ++ byte ∷ []) × (g ≡ fault.TooLong))))))
 
--- it has this fault, and these had none
+-- none of these bytes has a fault, where those before it have come
+abbrev pub AreFaultless : Limits → List ℕ → Type 0
+AreFaultless l bytes = (xs ys : List ℕ) (b : ℕ) (g : FrameFault) → bytes ≡ xs ++ (b ∷ ys) → IsByteFault l xs b g → ⊥
+
+-- the byte after these has this fault, and these have none
 abbrev pub IsFirstFault : Limits → List ℕ → ℕ → FrameFault → Type 0
-IsFirstFault l bytes byte g = (is_stopped (went l first_reading bytes) ≡ false) × IsByteFault l bytes byte g
+IsFirstFault l bytes byte g = AreFaultless l bytes × IsByteFault l bytes byte g
+
+-- the k-th of the bytes, counted from 1, is the first that has a fault, and f is its fault
+abbrev pub IsFault : Limits → List ℕ → ℕ → FrameFault → Type 0
+IsFault l bytes k f = (xs : List ℕ) × (b : ℕ) × (ys : List ℕ) × (bytes ≡ xs ++ (b ∷ ys)) × (k ≡ length xs + 1) × IsFirstFault l xs b f

@@ -13,10 +13,11 @@ use Rattle.stream_frames.specs.Items.{told_at, in_item}
 use Rattle.stream_frames.specs.Tracking.{fault_told}
 use Rattle.stream_frames.specs.Building.{Building, nothing_built, build_all, told_judged}
 
--- a number that is told in 64 bits
+-- a number as it is told in 64 bits: the greatest stands for all above it
 abbrev pub told_number : ℕ → ℕ
 told_number n = min n (2 ^ 64 - 1)
 
+-- the rules of the syntax that these limits make
 abbrev pub rules_of : Limits → Rules
 rules_of l = record { depth = l.depth; attributes = l.attrs; loose = false }
 
@@ -35,10 +36,11 @@ first_reading = reads first_frame nothing_built 0 0
 abbrev pub is_past : Limits → Frame → Frame → ℕ → Bool
 is_past l before after n = (in_item before || in_item after) && nat_le l.bytes n
 
+-- how many bytes have come of what is open, or of what the next byte may open
 abbrev pub extent_after : Frame → ℕ → ℕ
 extent_after f n = if in_item f then n + 1 else 1
 
--- its canonical spelling is past the limit
+-- the canonical spelling of the element is past the limit
 abbrev pub is_large : Limits → Element → Bool
 is_large l e = nat_lt l.canonical (told_number (length (text e)))
 

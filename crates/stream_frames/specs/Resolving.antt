@@ -39,7 +39,7 @@ are_text_attrs (a ∷ more) = is_text_attr a && are_text_attrs more
 abbrev pub is_text_tag : List (List Binding) → List ℕ → List Written → Bool
 is_text_tag layers name attributes = is_text_name (name_on layers name) && are_text_attrs (attrs_on layers attributes)
 
--- bytes that are no text, by a test; want of memory has no cause here
+-- what a refusal may be, where the test says whether bytes are text: they are none, or memory was wanting
 abbrev pub IsRefused : Bool → TagFault → Type 0
 IsRefused b fault.NoMemory = Unit {0}
 IsRefused b (fault.Names f) = ⊥

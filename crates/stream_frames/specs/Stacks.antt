@@ -17,10 +17,10 @@ abbrev pub stacked : Option OpenName → List OpenName → List RawName
 stacked None ns = []
 stacked (Some n) ns = raw n ∷ stacked_on [] ns
 
--- without an innermost name there is none
-abbrev pub IsClosed : Option OpenName → List OpenName → Type 0
-IsClosed None ns = ns ≡ []
-IsClosed (Some n) ns = Unit {0}
+-- where no name is the innermost, there are no others
+abbrev pub AreStacked : Option OpenName → List OpenName → Type 0
+AreStacked None ns = ns ≡ []
+AreStacked (Some n) ns = Unit {0}
 
 abbrev pub outer : List RawName → List RawName
 outer [] = []

@@ -21,5 +21,6 @@ IsStream r bytes s = Reads bytes (stream_tokens s) × IsShortest bytes (stream_t
 abbrev pub Spells : Rules → List ℕ → Stream → Type 0
 Spells r bytes s = (text : List ℕ) × (after : List ℕ) × (bytes ≡ text ++ after) × AreSpaces after × IsStream r text s
 
+-- With more bytes, or with none more, these are a stream.
 abbrev pub Begins : Rules → List ℕ → Type 0
 Begins r bytes = (more : List ℕ) × (s : Stream) × Spells r (bytes ++ more) s

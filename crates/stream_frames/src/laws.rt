@@ -7,17 +7,18 @@ ghost use Rattle.stream_frames.specs.Trees.{RawTag, Stream, tag_tokens};
 ghost use Rattle.stream_frames.specs.Gathering.{Gathered, gather_all, whole_tag};
 ghost use Rattle.stream_frames.specs.Faults.{IsSyntaxKind};
 ghost use Rattle.stream_frames.specs.Items.{EndsHeader, EndsTop, is_header_end, is_top_end};
-ghost use Rattle.std.specs.Prelude.{◌+◌, ◌⊎◌, length, take, Some, None};
+ghost use Rattle.std.specs.Prelude.{◌+◌, ◌^◌, ◌<◌, ◌⊎◌, length, take, Some, None};
 ghost use Rattle.stream_frames.specs.declared.FrameFault.{FrameFault};
 ghost use Rattle.stream_frames.specs.declared.FrameFault.TheVariants as fault;
 ghost use Rattle.stream_frames.specs.declared.namespaces.NameFault.{NameFault};
 ghost use Rattle.stream_frames.specs.declared.item.Item.{Item};
+ghost use Rattle.stream_frames.specs.declared.item.Item.TheVariants as item;
 ghost use Rattle.stream_frames.specs.declared.item.Limits.{Limits};
 ghost use Rattle.stream_frames.specs.Reading.{Reading, reading_after, taken, is_ready, handed, first_reading, stopped, told_number, went, waiting, is_stopped, rules_of};
 ghost use Rattle.stream_frames.specs.Elements.{fault_of_tag};
 ghost use Rattle.stream_frames.specs.Extents.{HasOpenItem, IsSince, IsPastLimit};
 ghost use Rattle.stream_frames.specs.Paths.{Step, scope_of, EndsTag, name_kind};
-ghost use Rattle.stream_frames.specs.Parts.{IsItem, IsLargeEnd, IsFirstFault};
+ghost use Rattle.stream_frames.specs.Parts.{IsItem, IsLargeEnd, AreFaultless, IsFirstFault, IsFault};
 ghost use Rattle.stream_frames.specs.Framing.{frame_next, frame_after, first_frame, is_broken, has_ended, fault_at};
 
 /// Bytes begin a stream exactly where the frame that they lead to is not broken, so the first byte that breaks
@@ -75,27 +76,46 @@ pub fn tags_are_gathered()
 
 /// What a framer hands out after a byte, where each item was handed out before the next byte, is the item of the grammar that ends
 /// with that byte: the header; a top element, with its names in their namespaces and its words joined; or the close tag. Each such item
-/// is handed out, unless the framer has stopped.
+/// is handed out, unless a byte up to there has a fault.
 pub fn items_are_those_of_the_grammar()
     ensures found { (l : Limits) (bytes : List ℕ) (b : ℕ) (i : Item)
-        → is_stopped (went l first_reading (bytes ++ b ∷ [])) ≡ false
+        → AreFaultless l (bytes ++ b ∷ [])
         → waiting (went l first_reading (bytes ++ b ∷ [])) ≡ Some i → IsItem (rules_of l) (bytes ++ b ∷ []) i }
     ensures all { (l : Limits) (bytes : List ℕ) (b : ℕ) (i : Item)
-        → is_stopped (went l first_reading (bytes ++ b ∷ [])) ≡ false
+        → AreFaultless l (bytes ++ b ∷ [])
         → IsItem (rules_of l) (bytes ++ b ∷ []) i → waiting (went l first_reading (bytes ++ b ∷ [])) ≡ Some i }
 {}
 
-/// A framer stops at the first byte that has a fault, with this fault and the byte's number, and at no other: a byte past the limit of
-/// its header or top element; or one with which no stream goes on, and its kind; or the `>` of a tag whose names are refused in the scope
-/// of the elements round it; or the end of what has a canonical spelling past the limit.
+/// A framer stops at the first byte that has a fault, with this fault and the byte's number, and at no other: it has stopped exactly where
+/// some byte had one. What has a fault is a byte past the limit of its header or top element; or one with which no stream goes on, and then
+/// the fault is of its kind; or the `>` of a tag whose names are refused in the scope of the elements round it; or the end of what has a
+/// canonical spelling past the limit.
 pub fn faults_are_exact()
     ensures stops { (l : Limits) (bytes : List ℕ) (b : ℕ) (f : FrameFault) (k : ℕ)
-        → is_stopped (went l first_reading bytes) ≡ false → went l first_reading (bytes ++ b ∷ []) ≡ stopped f k
+        → AreFaultless l bytes → went l first_reading (bytes ++ b ∷ []) ≡ stopped f k
         → IsFirstFault l bytes b f × (k ≡ told_number (length bytes + 1)) }
     ensures refused { (l : Limits) (bytes : List ℕ) (b : ℕ) (f : FrameFault)
         → IsFirstFault l bytes b f → went l first_reading (bytes ++ b ∷ []) ≡ stopped f (told_number (length bytes + 1)) }
-    ensures goes_on { (l : Limits) (bytes : List ℕ) (b : ℕ) (f : FrameFault)
-        → is_stopped (went l first_reading (bytes ++ b ∷ [])) ≡ false → IsFirstFault l bytes b f → ⊥ }
+    ensures faultless { (l : Limits) (bytes : List ℕ) → AreFaultless l bytes → is_stopped (went l first_reading bytes) ≡ false }
+    ensures goes_on { (l : Limits) (bytes : List ℕ) → is_stopped (went l first_reading bytes) ≡ false → AreFaultless l bytes }
+{}
+
+/// Given bytes have one fault or none. A framer that takes them stops with this fault and the number of its byte, and else goes on; what waits
+/// after them is the item of the grammar that ends there, or the fault. Numbers are told in 64 bits: one past 2^64 - 1 is told as that.
+pub fn bytes_have_one_fault_or_none()
+    ensures either { (l : Limits) (bytes : List ℕ) → AreFaultless l bytes ⊎ ((k : ℕ) × (f : FrameFault) × IsFault l bytes k f) }
+    ensures one { (l : Limits) (bytes : List ℕ) (j k : ℕ) (f g : FrameFault)
+        → IsFault l bytes j f → IsFault l bytes k g → (j ≡ k) × (f ≡ g) }
+    ensures never_both { (l : Limits) (bytes : List ℕ) (k : ℕ) (f : FrameFault) → IsFault l bytes k f → AreFaultless l bytes → ⊥ }
+    ensures stops { (l : Limits) (bytes : List ℕ) (k : ℕ) (f : FrameFault)
+        → IsFault l bytes k f → went l first_reading bytes ≡ stopped f (told_number k) }
+    ensures told { (l : Limits) (bytes : List ℕ) (n : ℕ) (f : FrameFault)
+        → went l first_reading bytes ≡ stopped f n → (k : ℕ) × (n ≡ told_number k) × IsFault l bytes k f }
+    ensures exact { (l : Limits) (bytes : List ℕ) (k : ℕ) (f : FrameFault)
+        → length bytes < 2 ^ 64 → went l first_reading bytes ≡ stopped f k → IsFault l bytes k f }
+    ensures waits { (l : Limits) (bytes : List ℕ) (b : ℕ) (i : Item)
+        → waiting (went l first_reading (bytes ++ b ∷ [])) ≡ Some i
+        → IsItem (rules_of l) (bytes ++ b ∷ []) i ⊎ ((k : ℕ) × (f : FrameFault) × (i ≡ item.Broken f (told_number k)) × IsFault l (bytes ++ b ∷ []) k f) }
 {}
 
 /// Where a stream goes on with a byte that is not past its limit, and the byte ends a tag, the framer stops there with the fault that the
@@ -103,15 +123,15 @@ pub fn faults_are_exact()
 /// large. A fault of encoding is one of the syntax: no name and no value that is read is anything but text.
 pub fn name_faults_are_those_of_the_scope()
     ensures refused { (l : Limits) (bytes : List ℕ) (b : ℕ) (path : List Step) (t : RawTag) (x : NameFault)
-        → is_stopped (went l first_reading bytes) ≡ false → (IsPastLimit l bytes b → ⊥) → Begins (rules_of l) (bytes ++ b ∷ [])
+        → AreFaultless l bytes → (IsPastLimit l bytes b → ⊥) → Begins (rules_of l) (bytes ++ b ∷ [])
         → EndsTag (bytes ++ b ∷ []) path t → fault_of_tag (scope_of path) (whole_tag t) ≡ Some x
         → went l first_reading (bytes ++ b ∷ []) ≡ stopped (name_kind x) (told_number (length bytes + 1)) }
     ensures kept { (l : Limits) (bytes : List ℕ) (b : ℕ) (path : List Step) (t : RawTag)
-        → is_stopped (went l first_reading bytes) ≡ false → (IsPastLimit l bytes b → ⊥) → Begins (rules_of l) (bytes ++ b ∷ [])
+        → AreFaultless l bytes → (IsPastLimit l bytes b → ⊥) → Begins (rules_of l) (bytes ++ b ∷ [])
         → EndsTag (bytes ++ b ∷ []) path t → fault_of_tag (scope_of path) (whole_tag t) ≡ None → (IsLargeEnd l (bytes ++ b ∷ []) → ⊥)
         → is_stopped (went l first_reading (bytes ++ b ∷ [])) ≡ false }
     ensures encodings { (l : Limits) (bytes : List ℕ) (b : ℕ) (k : ℕ)
-        → is_stopped (went l first_reading bytes) ≡ false → went l first_reading (bytes ++ b ∷ []) ≡ stopped fault.BadEncoding k
+        → AreFaultless l bytes → went l first_reading (bytes ++ b ∷ []) ≡ stopped fault.BadEncoding k
         → Begins (rules_of l) (bytes ++ b ∷ []) → ⊥ }
 {}
 

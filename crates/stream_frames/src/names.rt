@@ -48,13 +48,13 @@ pub(crate) struct Names {
 impl Model for Names {
     ghost use Rattle.std.specs.Prelude.{List};
     ghost use Rattle.stream_frames.specs.Trees.{RawName};
-    ghost use Rattle.stream_frames.specs.Stacks.{stacked, IsClosed};
+    ghost use Rattle.stream_frames.specs.Stacks.{stacked, AreStacked};
 
     ghost Value = { List RawName };
 
     ghost view = { λ n. stacked n.innermost n.others.items };
 
-    ghost invariant = { λ n. IsClosed n.innermost n.others.items };
+    ghost invariant = { λ n. AreStacked n.innermost n.others.items };
 }
 
 impl Names {
