@@ -1,6 +1,6 @@
 //! What follows from the contract of [`run`].
-ghost use Rattle.std.specs.Prelude.{◌≡◌, ◌⊎◌, ℕ, List, [], ◌∷◌, Option, Some, codes};
-ghost use Rattle.xmppd.specs.Accounts.{IsPasswordLine};
+ghost use Rattle.std.specs.Prelude.{◌≡◌, ◌⊎◌, ℕ, List, [], ◌∷◌, Option, Some, None, codes};
+ghost use Rattle.xmppd.specs.Accounts.{Accounted, IsPasswordLine};
 ghost use Rattle.xmppd.specs.Commands.{Make, task_of};
 ghost use Rattle.xmppd.specs.Runs.{Replayed};
 ghost use Rattle.replay_script.specs.Valid.{IsValid};
@@ -21,7 +21,9 @@ pub fn accounts_are_made<R>(
 ) -> Status
     requires task { (name : List ℕ) × ((salt : List ℕ) × (task_of words.now ≡ Some (Make name salt))) }
     requires line { (password : List ℕ) × IsPasswordLine password source.old }
-    ensures { (result ≡ Status.Done) ⊎ (result ≡ Status.NoMemory) }
+    ensures ends { (result ≡ Status.Done) ⊎ (result ≡ Status.NoMemory) }
+    ensures accounted { (name salt : List ℕ) → task_of words.now ≡ Some (Make name salt)
+        → Accounted (λ _. None) name salt (Some source.old) (Some source.new) sink.old sink.new result }
 {
     run(rt, alloc, words, source, sink)
 }
@@ -44,7 +46,8 @@ pub fn valid_scripts_are_played<R>(
 ) -> Status
     requires task { words.now ≡ codes "replay" ∷ [] }
     requires valid { IsValid source.old }
-    ensures { (result ≡ Status.Done) ⊎ (result ≡ Status.NoMemory) }
+    ensures ends { (result ≡ Status.Done) ⊎ (result ≡ Status.NoMemory) }
+    ensures replayed { Replayed (Some source.old) (Some source.new) None None result }
 {
     run(rt, alloc, words, source, sink)
 }

@@ -4,6 +4,6 @@ use Rattle.xmppd.proofs.Endings.{never}
 use Rattle.xmppd.proofs.Valid.{ends_played}
 use Rattle.xmppd.proofs.laws.valid_scripts_are_played.Goals as goal
 
-pub returns : goal.returns
-returns g c =
+pub returns-clause-ends : goal.returns-clause-ends
+returns-clause-ends g c =
     ends_played c.args.source.now (Some c.run.new.source) None None c.run.result c.requires.valid (c.run.ensures.replayed c.requires.task) (λ is. never (c.run.ensures.read is)) (λ is. never (c.run.ensures.written is))
