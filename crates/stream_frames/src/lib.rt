@@ -3,6 +3,7 @@
 
 mod builder;
 mod built;
+mod expanded;
 #[cfg(test)]
 mod feeding;
 mod framer;

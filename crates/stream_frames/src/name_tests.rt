@@ -56,7 +56,7 @@ fn expect_fault(
     let attributes = written(alloc, attributes)?;
     let bound = bindings(alloc, attributes.as_slice())?;
     assert!(rt;
-        name_fault(bound.as_slice(), name, attributes.as_slice()) == fault,
+        name_fault(alloc, bound.as_slice(), name, attributes.as_slice())? == fault,
         "{name:?}"
     );
     Ok(())

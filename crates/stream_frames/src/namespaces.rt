@@ -1,9 +1,11 @@
 //! The names on a tag, with the namespaces that are declared (Namespaces in XML 1.0).
 
-ghost use Rattle.std.specs.Prelude.{◌≡◌, None, IfOk};
+ghost use Rattle.std.specs.Prelude.{◌≡◌, None, map, IfOk};
 ghost use Rattle.std.specs.Option.{option_copied};
-ghost use Rattle.stream_frames.specs.Namespaces.{colon_at, has_prefix, prefix_of, local_of, is_declaration, declared_prefix, may_undo, may_declare, last_space, last_layer, space_of, attribute_space, has_unbound, is_forbidden, has_forbidden, is_twin, has_twin, has_twins, tag_fault, own, space_before};
+ghost use Rattle.stream_frames.specs.Expanded.{full_name, fault_of_names};
+ghost use Rattle.stream_frames.specs.Namespaces.{colon_at, has_prefix, prefix_of, local_of, is_declaration, declared_prefix, may_undo, may_declare, last_space, last_layer, space_of, attribute_space, is_forbidden, has_forbidden, tag_fault, own, space_before};
 
+use crate::expanded::{Expanded, any_repeat, any_unbound, expanded_names};
 use stanza_tree::{NoMemory, Several};
 use std::alloc::Global;
 
@@ -172,17 +174,6 @@ pub(crate) fn attribute_bound<'a>(bindings: &'a [Several<Binding>], name: &[u8])
     }
 }
 
-fn any_unbound(bindings: &[Several<Binding>], attributes: &[Written]) -> bool
-    ensures { result ≡ has_unbound bindings.now attributes.now }
-{
-    for attribute in attributes {
-        if attribute_bound(bindings, attribute.name.slice()).is_none() {
-            return true;
-        }
-    }
-    false
-}
-
 fn is_forbidden_here(attribute: &Written) -> bool
     ensures { result ≡ is_forbidden attribute.now }
 {
@@ -201,61 +192,40 @@ fn any_forbidden(attributes: &[Written]) -> bool
     false
 }
 
-fn are_twins(bindings: &[Several<Binding>], one: &Written, other: &Written) -> bool
-    ensures { result ≡ is_twin bindings.now one.now other.now }
-{
-    let first = attribute_bound(bindings, one.name.slice());
-    let second = attribute_bound(bindings, other.name.slice());
-    let same = match (first, second) {
-        (Some(a), Some(b)) => b == a,
-        _ => false,
-    };
-    local(one.name.slice()) == local(other.name.slice()) && same
-}
-
-fn any_twin_of(bindings: &[Several<Binding>], one: &Written, others: &[Written]) -> bool
-    ensures { result ≡ has_twin bindings.now one.now others.now }
-{
-    for other in others {
-        if are_twins(bindings, one, other) {
-            return true;
-        }
-    }
-    false
-}
-
-fn any_twins(bindings: &[Several<Binding>], attributes: &[Written]) -> bool
-    ensures { result ≡ has_twins bindings.now attributes.now }
-{
-    for (i, attribute) in attributes.iter().enumerate() {
-        if any_twin_of(bindings, attribute, &attributes[i + 1..]) {
-            return true;
-        }
-    }
-    false
-}
-
-/// The fault of a tag by its names. The bindings are those of each element round it, outermost first, and then
-/// its own. The time grows with the square of the attributes.
-pub fn name_fault(
-    bindings: &[Several<Binding>],
-    name: &[u8],
+fn fault_of_names(
+    space: Option<&[u8]>,
+    names: &[Expanded<'_>],
     attributes: &[Written],
 ) -> Option<NameFault>
-    ensures { result ≡ tag_fault bindings.now name.now attributes.now }
+    ensures { result ≡ fault_of_names (option_copied space.entry) (map full_name names.now) attributes.now }
 {
-    let space = bound(bindings, prefix(name));
-    if space.is_none() || any_unbound(bindings, attributes) {
+    if space.is_none() || any_unbound(names) {
         return Some(NameFault::BadPrefix);
     }
     let is_xml = match space {
         Some(space) => space == XML_SPACE,
         None => false,
     };
-    if is_xml || any_forbidden(attributes) || any_twins(bindings, attributes) {
+    if is_xml || any_forbidden(attributes) || any_repeat(names) {
         return Some(NameFault::NotWellFormed);
     }
     None
+}
+
+/// The fault of a tag by its names, or want of memory. The bindings are those of each element round it, outermost first,
+/// and then its own. Each prefix is looked up once in all bindings; then the names of each two attributes are compared.
+#[tactic(auto, using(crate::proofs::ExpandedLemmas::fault_by_names))]
+pub fn name_fault(
+    alloc: Global,
+    bindings: &[Several<Binding>],
+    name: &[u8],
+    attributes: &[Written],
+) -> Result<Option<NameFault>, NoMemory>
+    ensures { IfOk result (λ f. f ≡ tag_fault bindings.now name.now attributes.now) }
+{
+    let space = bound(bindings, prefix(name));
+    let names = expanded_names(alloc, bindings, attributes)?;
+    Ok(fault_of_names(space, names.as_slice(), attributes))
 }
 
 fn copied(alloc: Global, bytes: &[u8]) -> Result<Several<u8>, NoMemory>

@@ -124,7 +124,7 @@ pub fn resolve(
     ensures utf8 { OnOk result (is_text_tag layers.now name.now attributes.now ≡ true) }
     ensures fault { IfErr result (IsTagFault layers.now name.now attributes.now) }
 {
-    if let Some(fault) = name_fault(layers, name, attributes) {
+    if let Some(fault) = name_fault(alloc, layers, name, attributes)? {
         return Err(TagFault::Names(fault));
     }
     let space = space_or_none(bound(layers, prefix(name)));
