@@ -23,6 +23,7 @@ pub mod Ending
 pub mod Coming
 pub mod GatherLemmas
 pub mod TextLemmas
+pub mod LookupLemmas
 pub mod ExpandedLemmas
 pub mod BuildLemmas
 pub mod FeedLemmas

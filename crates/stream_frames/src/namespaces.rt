@@ -105,24 +105,21 @@ fn may_be_declared(prefix: &[u8], space: &[u8]) -> bool
     }
 }
 
-/// What the last binding of the prefix binds it to, or else what was given.
-pub(crate) fn last_bound<'a>(
-    given: Option<&'a [u8]>,
-    bindings: &'a [Binding],
-    prefix: &[u8],
-) -> Option<&'a [u8]>
-    ensures { option_copied result ≡ last_space (option_copied given.entry) bindings.now prefix.now }
+/// What the last of these bindings of the prefix binds it to.
+pub(crate) fn last_bound<'a>(bindings: &'a [Binding], prefix: &[u8]) -> Option<&'a [u8]>
+    ensures { option_copied result ≡ last_space None bindings.entry.now prefix.now }
 {
-    let mut found = given;
-    for binding in bindings {
+    for i in (0..bindings.len()).rev() {
+        let binding = &bindings[i];
         if binding.prefix.slice() == prefix {
-            found = Some(binding.space.slice());
+            return Some(binding.space.slice());
         }
     }
-    found
+    None
 }
 
-/// The same through the bindings of each element, outermost first.
+/// The same through the bindings of each element, which come outermost first, or else what was given. The innermost are
+/// looked at first.
 pub(crate) fn last_in_layers<'a>(
     given: Option<&'a [u8]>,
     layers: &'a [Several<Binding>],
@@ -130,11 +127,12 @@ pub(crate) fn last_in_layers<'a>(
 ) -> Option<&'a [u8]>
     ensures { option_copied result ≡ last_layer (option_copied given.entry) layers.now prefix.now }
 {
-    let mut found = given;
-    for layer in layers {
-        found = last_bound(found, layer.slice(), prefix);
+    for i in (0..layers.len()).rev() {
+        if let Some(space) = last_bound(layers[i].slice(), prefix) {
+            return Some(space);
+        }
     }
-    found
+    given
 }
 
 /// What the prefix is bound to before any tag: the default namespace to nothing, and `xml`.
