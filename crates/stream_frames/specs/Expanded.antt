@@ -8,17 +8,18 @@ use Rattle.stream_frames.specs.declared.namespaces.NameFault.TheVariants as faul
 use Rattle.stream_frames.specs.declared.expanded.Expanded.{Expanded}
 use Rattle.stream_frames.specs.Namespaces.{local_of, attribute_space, is_unbound, same_space, is_space, xml_space, has_forbidden}
 
--- a namespace, unless the prefix is not bound, and a local part
+-- a namespace, unless the prefix is not bound, and a local part; and the attribute as it stands in the tag
 pub record FullName : Type 0 where
   pub space : Option (List ℕ)
   pub local : List ℕ
+  pub written : Written
 
 abbrev pub full_name : Expanded → FullName
-full_name e = record { space = option_copied e.space; local = e.local.now }
+full_name e = record { space = option_copied e.space; local = e.local.now; written = e.written.now }
 
 -- that of an attribute
 abbrev pub expanded : List (List Binding) → Written → FullName
-expanded bindings a = record { space = attribute_space bindings a.name; local = local_of a.name }
+expanded bindings a = record { space = attribute_space bindings a.name; local = local_of a.name; written = a }
 
 -- one of them is in no namespace that is bound
 abbrev pub has_unbound_name : List FullName → Bool

@@ -9,11 +9,13 @@ use crate::namespaces::{Binding, Written, attribute_bound, local};
 use stanza_tree::{NoMemory, Several};
 use std::alloc::Global;
 
-/// The namespace of an attribute, unless its prefix is not bound, and its local part.
+/// The namespace of an attribute, unless its prefix is not bound, and its local part; and the attribute as it stands in
+/// its tag.
 #[derive(Clone, Copy)]
 pub(crate) struct Expanded<'a> {
     pub space: Option<&'a [u8]>,
     pub local: &'a [u8],
+    pub written: &'a Written,
 }
 
 fn expand<'a>(bindings: &'a [Several<Binding>], attribute: &'a Written) -> Expanded<'a>
@@ -23,6 +25,7 @@ fn expand<'a>(bindings: &'a [Several<Binding>], attribute: &'a Written) -> Expan
     Expanded {
         space: attribute_bound(bindings, name),
         local: local(name),
+        written: attribute,
     }
 }
 

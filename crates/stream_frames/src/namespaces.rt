@@ -3,9 +3,9 @@
 ghost use Rattle.std.specs.Prelude.{◌≡◌, None, map, IfOk};
 ghost use Rattle.std.specs.Option.{option_copied};
 ghost use Rattle.stream_frames.specs.Expanded.{full_name, fault_of_names};
-ghost use Rattle.stream_frames.specs.Namespaces.{colon_at, has_prefix, prefix_of, local_of, is_declaration, declared_prefix, may_undo, may_declare, last_space, last_layer, space_of, attribute_space, is_forbidden, has_forbidden, tag_fault, own, space_before};
+ghost use Rattle.stream_frames.specs.Namespaces.{colon_at, has_prefix, prefix_of, local_of, is_declaration, declared_prefix, may_undo, may_declare, last_space, last_layer, space_of, attribute_space, is_forbidden, has_forbidden, own, space_before};
 
-use crate::expanded::{Expanded, any_repeat, any_unbound, expanded_names};
+use crate::expanded::{Expanded, any_repeat, any_unbound};
 use stanza_tree::{NoMemory, Several};
 use std::alloc::Global;
 
@@ -190,7 +190,9 @@ fn any_forbidden(attributes: &[Written]) -> bool
     false
 }
 
-fn fault_of_names(
+/// The fault of a tag by the namespace of its element and the expanded names of its attributes. Each two names are
+/// compared, so the time grows with the attributes and the bytes of the tag, by their product.
+pub(crate) fn name_fault(
     space: Option<&[u8]>,
     names: &[Expanded<'_>],
     attributes: &[Written],
@@ -208,22 +210,6 @@ fn fault_of_names(
         return Some(NameFault::NotWellFormed);
     }
     None
-}
-
-/// The fault of a tag by its names, or want of memory. The bindings are those of each element round it, outermost first,
-/// and then its own. Each prefix is looked up once in all bindings; then the names of each two attributes are compared.
-#[tactic(auto, using(crate::proofs::ExpandedLemmas::fault_by_names))]
-pub fn name_fault(
-    alloc: Global,
-    bindings: &[Several<Binding>],
-    name: &[u8],
-    attributes: &[Written],
-) -> Result<Option<NameFault>, NoMemory>
-    ensures { IfOk result (λ f. f ≡ tag_fault bindings.now name.now attributes.now) }
-{
-    let space = bound(bindings, prefix(name));
-    let names = expanded_names(alloc, bindings, attributes)?;
-    Ok(fault_of_names(space, names.as_slice(), attributes))
 }
 
 fn copied(alloc: Global, bytes: &[u8]) -> Result<Several<u8>, NoMemory>
