@@ -29,7 +29,7 @@ fn expand<'a>(bindings: &'a [Several<Binding>], attribute: &'a Written) -> Expan
     }
 }
 
-/// The expanded names of the attributes, in their order.
+/// The expanded names of the attributes, in their order. Each prefix is looked up in the bindings, innermost first.
 pub(crate) fn expanded_names<'a>(
     alloc: Global,
     bindings: &'a [Several<Binding>],

@@ -191,7 +191,7 @@ fn any_forbidden(attributes: &[Written]) -> bool
 }
 
 /// The fault of a tag by the namespace of its element and the expanded names of its attributes. Each two names are
-/// compared, so the time grows with the attributes and the bytes of the tag, by their product.
+/// compared, so the time grows with the attributes times the bytes of their names and namespaces.
 pub(crate) fn name_fault(
     space: Option<&[u8]>,
     names: &[Expanded<'_>],

@@ -100,7 +100,8 @@ fn full_attrs(alloc: Global, names: &[Expanded<'_>]) -> Result<Several<Attr>, Ta
 }
 
 /// The element that a tag begins, without children. The bindings are those of each element round it, outermost first,
-/// and then its own. Each prefix is looked up once in all bindings.
+/// and then its own. The prefix of each name is looked up once, so the time grows with the attributes times the bindings;
+/// and with the attributes times the bytes of their names and namespaces, since each two names are compared.
 #[tactic(auto, using(crate::proofs::ExpandedLemmas::fault_by_names, crate::proofs::ExpandedLemmas::attrs_by_names))]
 pub fn resolve(
     alloc: Global,
