@@ -23,6 +23,8 @@ pub mod Ending
 pub mod Coming
 pub mod GatherLemmas
 pub mod TextLemmas
+pub mod LookupLemmas
+pub mod ExpandedLemmas
 pub mod BuildLemmas
 pub mod FeedLemmas
 pub mod Made

@@ -7,6 +7,7 @@ pub mod Stacks
 pub mod Moves
 pub mod Tracking
 pub mod Namespaces
+pub mod Expanded
 pub mod Items
 pub mod Resolving
 pub mod Gathering

@@ -8,6 +8,7 @@ use Rattle.stream_frames.specs.declared.namespaces.Written.{Written}
 use Rattle.stream_frames.specs.declared.tags.TagFault.{TagFault}
 use Rattle.stream_frames.specs.declared.tags.TagFault.TheVariants as fault
 use Rattle.stream_frames.specs.Namespaces.{prefix_of, local_of, is_declaration, space_of, attribute_space, tag_fault}
+use Rattle.stream_frames.specs.Expanded.{FullName}
 
 -- a namespace that is not bound counts as none
 abbrev pub or_none : Option (List ℕ) → List ℕ
@@ -24,6 +25,14 @@ attr_on layers a = record { name = record { space = or_none (attribute_space lay
 abbrev pub attrs_on : List (List Binding) → List Written → List Attr
 attrs_on layers [] = []
 attrs_on layers (a ∷ more) = if is_declaration a.name then attrs_on layers more else attr_on layers a ∷ attrs_on layers more
+
+-- the same by the expanded names
+abbrev pub attr_of : FullName → Attr
+attr_of n = record { name = record { space = or_none n.space; local = n.local }; value = n.written.value }
+
+abbrev pub attrs_of : List FullName → List Attr
+attrs_of [] = []
+attrs_of (n ∷ ns) = if is_declaration n.written.name then attrs_of ns else attr_of n ∷ attrs_of ns
 
 -- names and values are texts
 abbrev pub is_text_name : Name → Bool

@@ -31,11 +31,14 @@ fn one_byte(alloc: Global, byte: u8) -> Result<Vec<u8>, NoMemory>
 }
 
 /// The default namespace inside a tag that declares these bindings.
-#[tactic(auto, using(crate::proofs::TextLemmas::layer_more))]
+#[tactic(auto, using(crate::proofs::TextLemmas::layer_more, crate::proofs::LookupLemmas::last_known))]
 fn default_bound<'a>(layers: &'a [Several<Binding>], own: &'a [Binding]) -> Option<&'a [u8]>
     ensures { option_copied result ≡ space_of (layers.now ++ own.now ∷ []) [] }
 {
-    last_bound(last_in_layers(bound_before(b""), layers, b""), own, b"")
+    match last_bound(own, b"") {
+        Some(space) => Some(space),
+        None => last_in_layers(bound_before(b""), layers, b""),
+    }
 }
 
 /// The same as a text.

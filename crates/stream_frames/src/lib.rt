@@ -3,6 +3,7 @@
 
 mod builder;
 mod built;
+mod expanded;
 #[cfg(test)]
 mod feeding;
 mod framer;
@@ -33,7 +34,7 @@ mod tracker;
 
 pub use framer::{Framer, Short};
 pub use item::{Item, Limits};
-pub use namespaces::{Binding, NameFault, Written, name_fault, own_bindings};
+pub use namespaces::{Binding, NameFault, Written, own_bindings};
 pub use rules::Rules;
 pub use scan::syntax_fault;
 pub use tags::{TagFault, resolve};

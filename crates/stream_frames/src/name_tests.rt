@@ -1,7 +1,7 @@
 //! Names of tags with the namespaces that are declared, from Namespaces in XML 1.0.
 
 use crate::NameFault::{BadPrefix, NotWellFormed};
-use crate::{Binding, NameFault, TagFault, Written, name_fault, own_bindings, resolve};
+use crate::{Binding, NameFault, TagFault, Written, own_bindings, resolve};
 use stanza_tree::{Element, Several};
 use std::alloc::Global;
 use std::process::Abort;
@@ -45,7 +45,18 @@ fn bindings(alloc: Global, attributes: &[Written]) -> Result<Vec<Several<Binding
     Ok(all)
 }
 
-/// A tag with these attributes has this fault.
+/// Why a tag with these attributes is refused.
+fn fault_of(
+    alloc: Global,
+    name: &[u8],
+    attributes: &[(&[u8], &[u8])],
+) -> Result<Option<TagFault>, Fail> {
+    let attributes = written(alloc, attributes)?;
+    let bound = bindings(alloc, attributes.as_slice())?;
+    Ok(resolve(alloc, bound.as_slice(), name, attributes.as_slice()).err())
+}
+
+/// The names of a tag with these attributes have this fault.
 fn expect_fault(
     rt: &impl Abort,
     alloc: Global,
@@ -53,10 +64,8 @@ fn expect_fault(
     attributes: &[(&[u8], &[u8])],
     fault: Option<NameFault>,
 ) -> Result<(), Fail> {
-    let attributes = written(alloc, attributes)?;
-    let bound = bindings(alloc, attributes.as_slice())?;
     assert!(rt;
-        name_fault(bound.as_slice(), name, attributes.as_slice()) == fault,
+        fault_of(alloc, name, attributes)? == fault.map(TagFault::Names),
         "{name:?}"
     );
     Ok(())
@@ -160,13 +169,7 @@ fn names_get_their_namespaces(rt: HostRuntime) -> Result<(), Fail> {
 
 #[test]
 fn a_tag_may_be_no_text(rt: HostRuntime) -> Result<(), Fail> {
-    let alloc = rt.alloc();
-    let attributes = written(alloc, &[(b"a", b"\xff")])?;
-    let bound = bindings(alloc, attributes.as_slice())?;
-    let fault = match resolve(alloc, bound.as_slice(), b"e", attributes.as_slice()) {
-        Ok(_) => None,
-        Err(fault) => Some(fault),
-    };
+    let fault = fault_of(rt.alloc(), b"e", &[(b"a", b"\xff")])?;
     assert!(&rt; fault == Some(TagFault::NotUtf8));
     Ok(())
 }

@@ -1,9 +1,11 @@
 //! The names on a tag, with the namespaces that are declared (Namespaces in XML 1.0).
 
-ghost use Rattle.std.specs.Prelude.{◌≡◌, None, IfOk};
+ghost use Rattle.std.specs.Prelude.{◌≡◌, None, map, IfOk};
 ghost use Rattle.std.specs.Option.{option_copied};
-ghost use Rattle.stream_frames.specs.Namespaces.{colon_at, has_prefix, prefix_of, local_of, is_declaration, declared_prefix, may_undo, may_declare, last_space, last_layer, space_of, attribute_space, has_unbound, is_forbidden, has_forbidden, is_twin, has_twin, has_twins, tag_fault, own, space_before};
+ghost use Rattle.stream_frames.specs.Expanded.{full_name, fault_of_names};
+ghost use Rattle.stream_frames.specs.Namespaces.{colon_at, has_prefix, prefix_of, local_of, is_declaration, declared_prefix, may_undo, may_declare, last_space, last_layer, space_of, attribute_space, is_forbidden, has_forbidden, own, space_before};
 
+use crate::expanded::{Expanded, any_repeat, any_unbound};
 use stanza_tree::{NoMemory, Several};
 use std::alloc::Global;
 
@@ -103,24 +105,21 @@ fn may_be_declared(prefix: &[u8], space: &[u8]) -> bool
     }
 }
 
-/// What the last binding of the prefix binds it to, or else what was given.
-pub(crate) fn last_bound<'a>(
-    given: Option<&'a [u8]>,
-    bindings: &'a [Binding],
-    prefix: &[u8],
-) -> Option<&'a [u8]>
-    ensures { option_copied result ≡ last_space (option_copied given.entry) bindings.now prefix.now }
+/// What the last of these bindings of the prefix binds it to.
+pub(crate) fn last_bound<'a>(bindings: &'a [Binding], prefix: &[u8]) -> Option<&'a [u8]>
+    ensures { option_copied result ≡ last_space None bindings.entry.now prefix.now }
 {
-    let mut found = given;
-    for binding in bindings {
+    for i in (0..bindings.len()).rev() {
+        let binding = &bindings[i];
         if binding.prefix.slice() == prefix {
-            found = Some(binding.space.slice());
+            return Some(binding.space.slice());
         }
     }
-    found
+    None
 }
 
-/// The same through the bindings of each element, outermost first.
+/// The same through the bindings of each element, which come outermost first, or else what was given. The innermost are
+/// looked at first.
 pub(crate) fn last_in_layers<'a>(
     given: Option<&'a [u8]>,
     layers: &'a [Several<Binding>],
@@ -128,11 +127,12 @@ pub(crate) fn last_in_layers<'a>(
 ) -> Option<&'a [u8]>
     ensures { option_copied result ≡ last_layer (option_copied given.entry) layers.now prefix.now }
 {
-    let mut found = given;
-    for layer in layers {
-        found = last_bound(found, layer.slice(), prefix);
+    for i in (0..layers.len()).rev() {
+        if let Some(space) = last_bound(layers[i].slice(), prefix) {
+            return Some(space);
+        }
     }
-    found
+    given
 }
 
 /// What the prefix is bound to before any tag: the default namespace to nothing, and `xml`.
@@ -172,17 +172,6 @@ pub(crate) fn attribute_bound<'a>(bindings: &'a [Several<Binding>], name: &[u8])
     }
 }
 
-fn any_unbound(bindings: &[Several<Binding>], attributes: &[Written]) -> bool
-    ensures { result ≡ has_unbound bindings.now attributes.now }
-{
-    for attribute in attributes {
-        if attribute_bound(bindings, attribute.name.slice()).is_none() {
-            return true;
-        }
-    }
-    false
-}
-
 fn is_forbidden_here(attribute: &Written) -> bool
     ensures { result ≡ is_forbidden attribute.now }
 {
@@ -201,58 +190,23 @@ fn any_forbidden(attributes: &[Written]) -> bool
     false
 }
 
-fn are_twins(bindings: &[Several<Binding>], one: &Written, other: &Written) -> bool
-    ensures { result ≡ is_twin bindings.now one.now other.now }
-{
-    let first = attribute_bound(bindings, one.name.slice());
-    let second = attribute_bound(bindings, other.name.slice());
-    let same = match (first, second) {
-        (Some(a), Some(b)) => b == a,
-        _ => false,
-    };
-    local(one.name.slice()) == local(other.name.slice()) && same
-}
-
-fn any_twin_of(bindings: &[Several<Binding>], one: &Written, others: &[Written]) -> bool
-    ensures { result ≡ has_twin bindings.now one.now others.now }
-{
-    for other in others {
-        if are_twins(bindings, one, other) {
-            return true;
-        }
-    }
-    false
-}
-
-fn any_twins(bindings: &[Several<Binding>], attributes: &[Written]) -> bool
-    ensures { result ≡ has_twins bindings.now attributes.now }
-{
-    for (i, attribute) in attributes.iter().enumerate() {
-        if any_twin_of(bindings, attribute, &attributes[i + 1..]) {
-            return true;
-        }
-    }
-    false
-}
-
-/// The fault of a tag by its names. The bindings are those of each element round it, outermost first, and then
-/// its own. The time grows with the square of the attributes.
-pub fn name_fault(
-    bindings: &[Several<Binding>],
-    name: &[u8],
+/// The fault of a tag by the namespace of its element and the expanded names of its attributes. Each two names are
+/// compared, so the time grows with the attributes times the bytes of their names and namespaces.
+pub(crate) fn name_fault(
+    space: Option<&[u8]>,
+    names: &[Expanded<'_>],
     attributes: &[Written],
 ) -> Option<NameFault>
-    ensures { result ≡ tag_fault bindings.now name.now attributes.now }
+    ensures { result ≡ fault_of_names (option_copied space.entry) (map full_name names.now) attributes.now }
 {
-    let space = bound(bindings, prefix(name));
-    if space.is_none() || any_unbound(bindings, attributes) {
+    if space.is_none() || any_unbound(names) {
         return Some(NameFault::BadPrefix);
     }
     let is_xml = match space {
         Some(space) => space == XML_SPACE,
         None => false,
     };
-    if is_xml || any_forbidden(attributes) || any_twins(bindings, attributes) {
+    if is_xml || any_forbidden(attributes) || any_repeat(names) {
         return Some(NameFault::NotWellFormed);
     }
     None

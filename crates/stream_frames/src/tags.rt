@@ -1,14 +1,14 @@
 //! A tag becomes an element without children: its names get their namespaces (Namespaces in XML 1.0).
 
-ghost use Rattle.std.specs.Prelude.{◌≡◌, [], ◌∷◌, ◌++◌, true, ◌&&◌, None, IfOk, IfErr, OnOk};
+ghost use Rattle.std.specs.Prelude.{◌≡◌, [], ◌∷◌, ◌++◌, true, ◌&&◌, None, map, IfOk, IfErr, OnOk};
 ghost use Rattle.std.specs.Option.{option_copied};
 ghost use Rattle.std.specs.Str.{is_utf8};
-ghost use Rattle.stream_frames.specs.Namespaces.{space_of, attribute_space, tag_fault};
-ghost use Rattle.stream_frames.specs.Resolving.{or_none, name_on, attr_on, attrs_on, is_text_attr, are_text_attrs, is_text_tag, IsRefused, IsTagFault};
+ghost use Rattle.stream_frames.specs.Namespaces.{space_of, tag_fault};
+ghost use Rattle.stream_frames.specs.Expanded.{full_name};
+ghost use Rattle.stream_frames.specs.Resolving.{or_none, name_on, attrs_on, attr_of, attrs_of, is_text_attr, are_text_attrs, is_text_tag, IsRefused, IsTagFault};
 
-use crate::namespaces::{
-    Binding, NameFault, Written, attribute_bound, bound, declares, local, name_fault, prefix,
-};
+use crate::expanded::{Expanded, expanded_names};
+use crate::namespaces::{Binding, NameFault, Written, bound, declares, local, name_fault, prefix};
 use stanza_tree::{Attr, Element, Name, Several, Text, TextFault};
 use std::alloc::{AllocError, Global};
 
@@ -65,20 +65,14 @@ pub(crate) fn space_or_none(space: Option<&[u8]>) -> &[u8]
     }
 }
 
-fn full_attr(
-    alloc: Global,
-    layers: &[Several<Binding>],
-    attribute: &Written,
-) -> Result<Attr, TagFault>
-    ensures ok { IfOk result (λ a. a ≡ attr_on layers.now attribute.now) }
-    ensures utf8 { OnOk result (is_text_attr (attr_on layers.now attribute.now) ≡ true) }
-    ensures err { IfErr result (IsRefused (is_text_attr (attr_on layers.now attribute.now))) }
+fn full_attr(alloc: Global, name: &Expanded<'_>) -> Result<Attr, TagFault>
+    ensures ok { IfOk result (λ a. a ≡ attr_of (full_name name.now)) }
+    ensures utf8 { OnOk result (is_text_attr (attr_of (full_name name.now)) ≡ true) }
+    ensures err { IfErr result (IsRefused (is_text_attr (attr_of (full_name name.now)))) }
 {
-    let written = attribute.name.slice();
-    let space = space_or_none(attribute_bound(layers, written));
-    let name = full_name(alloc, space, local(written))?;
-    let value = text(alloc, attribute.value.slice())?;
-    Ok(Attr { name, value })
+    let full = full_name(alloc, space_or_none(name.space), name.local)?;
+    let value = text(alloc, name.written.value.slice())?;
+    Ok(Attr { name: full, value })
 }
 
 fn add(attrs: &mut Vec<Attr>, attr: Attr) -> Result<(), AllocError>
@@ -88,19 +82,15 @@ fn add(attrs: &mut Vec<Attr>, attr: Attr) -> Result<(), AllocError>
     Ok(())
 }
 
-fn full_attrs(
-    alloc: Global,
-    layers: &[Several<Binding>],
-    attributes: &[Written],
-) -> Result<Several<Attr>, TagFault>
-    ensures ok { IfOk result (λ s. s ≡ attrs_on layers.now attributes.now) }
-    ensures utf8 { OnOk result (are_text_attrs (attrs_on layers.now attributes.now) ≡ true) }
-    ensures err { IfErr result (IsRefused (are_text_attrs (attrs_on layers.now attributes.now))) }
+fn full_attrs(alloc: Global, names: &[Expanded<'_>]) -> Result<Several<Attr>, TagFault>
+    ensures ok { IfOk result (λ s. s ≡ attrs_of (map full_name names.now)) }
+    ensures utf8 { OnOk result (are_text_attrs (attrs_of (map full_name names.now)) ≡ true) }
+    ensures err { IfErr result (IsRefused (are_text_attrs (attrs_of (map full_name names.now)))) }
 {
     let mut attrs = Vec::new(alloc);
-    for attribute in attributes {
-        if !declares(attribute.name.slice()) {
-            match full_attr(alloc, layers, attribute) {
+    for name in names {
+        if !declares(name.written.name.slice()) {
+            match full_attr(alloc, name) {
                 Ok(attr) => add(&mut attrs, attr)?,
                 Err(fault) => return Err(fault),
             }
@@ -110,7 +100,9 @@ fn full_attrs(
 }
 
 /// The element that a tag begins, without children. The bindings are those of each element round it, outermost first,
-/// and then its own.
+/// and then its own. The prefix of each name is looked up once, so the time grows with the attributes times the bindings;
+/// and with the attributes times the bytes of their names and namespaces, since each two names are compared.
+#[tactic(auto, using(crate::proofs::ExpandedLemmas::fault_by_names, crate::proofs::ExpandedLemmas::attrs_by_names))]
 pub fn resolve(
     alloc: Global,
     layers: &[Several<Binding>],
@@ -124,12 +116,13 @@ pub fn resolve(
     ensures utf8 { OnOk result (is_text_tag layers.now name.now attributes.now ≡ true) }
     ensures fault { IfErr result (IsTagFault layers.now name.now attributes.now) }
 {
-    if let Some(fault) = name_fault(layers, name, attributes) {
+    let space = bound(layers, prefix(name));
+    let names = expanded_names(alloc, layers, attributes)?;
+    if let Some(fault) = name_fault(space, names.as_slice(), attributes) {
         return Err(TagFault::Names(fault));
     }
-    let space = space_or_none(bound(layers, prefix(name)));
-    let full = full_name(alloc, space, local(name))?;
-    let attrs = full_attrs(alloc, layers, attributes)?;
+    let full = full_name(alloc, space_or_none(space), local(name))?;
+    let attrs = full_attrs(alloc, names.as_slice())?;
     Ok(Element {
         name: full,
         attrs,

@@ -1,7 +1,6 @@
-use Rattle.std.proofs.Common.{◌≡◌, drop}
-use Rattle.std.specs.Option.{option_copied}
+use Rattle.std.proofs.Common.{◌≡◌, take, None}
 use Rattle.stream_frames.specs.Namespaces.{last_space}
 use Rattle.stream_frames.proofs.namespaces.last_bound.Given as goal
 
-abbrev pub invariant-loop-binding : goal.invariant-loop-binding
-invariant-loop-binding l = last_space (option_copied l.found) (drop l.binding-index l.bindings) l.prefix ≡ last_space (option_copied l.given) l.bindings l.prefix
+abbrev pub invariant-loop-i : goal.invariant-loop-i
+invariant-loop-i l = last_space None (take l.i l.bindings) l.prefix ≡ last_space None l.bindings l.prefix
