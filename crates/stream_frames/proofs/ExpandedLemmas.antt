@@ -3,7 +3,7 @@ use Rattle.std.proofs.Common.{◌≡◌, ◌||◌, ◌∙◌, List, ℕ, [], ◌
 use Rattle.stream_frames.specs.declared.namespaces.Binding.{Binding}
 use Rattle.stream_frames.specs.declared.namespaces.Written.{Written}
 use Rattle.stream_frames.specs.declared.namespaces.NameFault.TheVariants as fault
-use Rattle.stream_frames.specs.Namespaces.{has_unbound, has_twin, has_twins, is_twin, is_unbound, attribute_space, is_space, xml_space, has_forbidden, is_declaration, space_of, prefix_of, tag_fault}
+use Rattle.stream_frames.specs.Namespaces.{has_unbound, has_twin, has_twins, is_twin, is_unbound, attribute_space, is_bound_to, xml_space, has_forbidden, is_declaration, space_of, prefix_of, tag_fault}
 use Rattle.stream_frames.specs.Expanded.{expanded, has_unbound_name, is_among, has_repeat, fault_of_names}
 use Rattle.stream_frames.specs.Resolving.{attr_on, attrs_on, attrs_of}
 
@@ -24,8 +24,8 @@ twins_by_names bindings (a ∷ more) =
 pub fault_by_names : (bindings : List (List Binding)) (name : List ℕ) (attributes : List Written) → fault_of_names (space_of bindings (prefix_of name)) (map (expanded bindings) attributes) attributes ≡ tag_fault bindings name attributes
 fault_by_names bindings name attributes =
     let space = space_of bindings (prefix_of name) in
-    ap (λ b. if is_unbound space || b then Some fault.BadPrefix else if is_space space xml_space || (has_forbidden attributes || has_repeat (map (expanded bindings) attributes)) then Some fault.NotWellFormed else None) (unbound_by_names bindings attributes)
-    ∙ ap (λ b. if is_unbound space || has_unbound bindings attributes then Some fault.BadPrefix else if is_space space xml_space || (has_forbidden attributes || b) then Some fault.NotWellFormed else None) (twins_by_names bindings attributes)
+    ap (λ b. if is_unbound space || b then Some fault.BadPrefix else if is_bound_to space xml_space || (has_forbidden attributes || has_repeat (map (expanded bindings) attributes)) then Some fault.NotWellFormed else None) (unbound_by_names bindings attributes)
+    ∙ ap (λ b. if is_unbound space || has_unbound bindings attributes then Some fault.BadPrefix else if is_bound_to space xml_space || (has_forbidden attributes || b) then Some fault.NotWellFormed else None) (twins_by_names bindings attributes)
 
 pub attrs_by_names : (layers : List (List Binding)) (attributes : List Written) → attrs_of (map (expanded layers) attributes) ≡ attrs_on layers attributes
 attrs_by_names layers [] = refl

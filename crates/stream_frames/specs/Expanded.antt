@@ -6,7 +6,7 @@ use Rattle.stream_frames.specs.declared.namespaces.Written.{Written}
 use Rattle.stream_frames.specs.declared.namespaces.NameFault.{NameFault}
 use Rattle.stream_frames.specs.declared.namespaces.NameFault.TheVariants as fault
 use Rattle.stream_frames.specs.declared.expanded.Expanded.{Expanded}
-use Rattle.stream_frames.specs.Namespaces.{local_of, attribute_space, is_unbound, same_space, is_space, xml_space, has_forbidden}
+use Rattle.stream_frames.specs.Namespaces.{local_of, attribute_space, is_unbound, same_space, is_bound_to, xml_space, has_forbidden}
 
 -- a namespace, unless the prefix is not bound, and a local part; and the attribute as it stands in the tag
 pub record FullName : Type 0 where
@@ -42,5 +42,5 @@ has_repeat (n ∷ ns) = if is_among n ns then true else has_repeat ns
 abbrev pub fault_of_names : Option (List ℕ) → List FullName → List Written → Option NameFault
 fault_of_names space names attributes =
     if is_unbound space || has_unbound_name names then Some fault.BadPrefix
-    else if is_space space xml_space || (has_forbidden attributes || has_repeat names) then Some fault.NotWellFormed
+    else if is_bound_to space xml_space || (has_forbidden attributes || has_repeat names) then Some fault.NotWellFormed
     else None
