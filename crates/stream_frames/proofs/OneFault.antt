@@ -55,8 +55,7 @@ same-place l xs us b c f g (inr (inr (zs, p))) (none, is) (clean, has) = absurd 
 
 pub one_fault : (l : Limits) (bytes : List ℕ) (j k : ℕ) (f g : FrameFault) → IsFault l bytes j f → IsFault l bytes k g → (j ≡ k) × (f ≡ g)
 one_fault l bytes j k f g (xs, b, ys, e, number, first) (us, c, vs, h, other, next) =
-    let same : xs ≡ us = same-place l xs us b c f g (apart xs us ys vs b c (sym e ∙ h)) first next in
-    (
+    let same : xs ≡ us = same-place l xs us b c f g (apart xs us ys vs b c (sym e ∙ h)) first next in (
       number ∙ (ap (λ (x : List ℕ). length x + 1) same ∙ sym other),
       stopped-fault f g _ _ (sym (place_stops l bytes j f (xs, b, ys, e, number, first)) ∙ place_stops l bytes k g (us, c, vs, h, other, next)),
     )
