@@ -5,17 +5,17 @@ use Rattle.std.specs.Prelude.{if◌then◌else◌}
 use Rattle.std.proofs.lemmas.List.{take_all}
 use Rattle.stanza_tree.specs.Spelling.{text}
 use Rattle.stanza_tree.specs.declared.node.Element.{Element}
-use Rattle.stream_frames.specs.Building.{Building, build_all, told_judged}
-use Rattle.stream_frames.specs.Framing.{Frame, frame_next}
-use Rattle.stream_frames.specs.Items.{told_at}
-use Rattle.stream_frames.specs.Tracking.{fault_told}
-use Rattle.stream_frames.specs.declared.FrameFault.{FrameFault}
-use Rattle.stream_frames.specs.declared.FrameFault.TheVariants as fault
-use Rattle.stream_frames.specs.declared.item.Item.{Item}
-use Rattle.stream_frames.specs.declared.item.Item.TheVariants as item
-use Rattle.stream_frames.specs.declared.item.Limits.{Limits}
+use Rattle.stream_grammar.specs.Building.{Building, build_all, told_judged}
+use Rattle.stream_grammar.specs.Framing.{Frame, frame_next}
+use Rattle.stream_grammar.specs.Items.{told_at}
+use Rattle.stream_grammar.specs.Telling.{fault_told}
+use Rattle.stream_grammar.specs.declared.FrameFault.{FrameFault}
+use Rattle.stream_grammar.specs.declared.FrameFault.TheVariants as fault
+use Rattle.stream_grammar.specs.declared.item.Item.{Item}
+use Rattle.stream_grammar.specs.declared.item.Item.TheVariants as item
+use Rattle.stream_grammar.specs.declared.item.Limits.{Limits}
 use Rattle.replay_script.specs.Stanzas.{limits, in_client_stream, begins_with_tag, item_of}
-use Rattle.stream_frames.specs.Reading.{Reading, taken, reads, stopped, is_ready, handed, reading_next, reading_after, waiting, concluded, or_else, fault_if, is_past, extent_after, rules_of, is_large, is_large_item, byte_judged, told_number}
+use Rattle.stream_grammar.specs.Reading.{Reading, taken, reads, stopped, is_ready, handed, reading_next, reading_after, waiting, concluded, or_else, fault_if, is_past, extent_after, rules_of, is_large, is_large_item, byte_judged, told_number}
 
 pub handed_is_ready : (s : Reading) → is_ready (handed s) ≡ true
 handed_is_ready (reads f b n k) = refl

@@ -2,8 +2,8 @@
 use Rattle.std.specs.Prelude.{ℕ, ◌<◌, ⊤, ◌==◌, List, [], ◌∷◌, ◌++◌, Option, Some, flat_map, option_to_list, if◌then◌else◌}
 use Rattle.house_model.specs.Histories.{Outcome, Made, Short, Turn}
 use Rattle.house_model.specs.States.{State}
-use Rattle.stream_frames.specs.declared.item.Item.{Item}
-use Rattle.stream_frames.specs.Reading.{Reading, reads, stopped, first_reading, reading_next, handed, waiting, went}
+use Rattle.stream_grammar.specs.declared.item.Item.{Item}
+use Rattle.stream_grammar.specs.Reading.{Reading, reads, stopped, first_reading, reading_next, handed, waiting, went}
 use Rattle.replay_script.specs.declared.step.Step.{Step}
 use Rattle.replay_script.specs.declared.step.Step.TheVariants as step
 use Rattle.replay_script.specs.Prints.{print_item, print_outcome}

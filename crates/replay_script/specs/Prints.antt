@@ -5,10 +5,10 @@ use Rattle.house_model.specs.declared.reply.Reply.{Reply}
 use Rattle.house_model.specs.declared.reply.Reply.TheVariants.{Opened, Done, Bound, Frame, Nothing, Absent, Unready, NoUser}
 use Rattle.house_model.specs.Histories.{Outcome, Made, Short}
 use Rattle.stanza_tree.specs.Spelling.{text}
-use Rattle.stream_frames.specs.declared.FrameFault.{FrameFault}
-use Rattle.stream_frames.specs.declared.FrameFault.TheVariants.{NotWellFormed, Restricted, BadPrefix, BadFormat, TooLong, TooDeep, TooManyAttrs, BadEncoding}
-use Rattle.stream_frames.specs.declared.item.Item.{Item}
-use Rattle.stream_frames.specs.declared.item.Item.TheVariants.{Header, Top, CloseTag, Broken}
+use Rattle.stream_grammar.specs.declared.FrameFault.{FrameFault}
+use Rattle.stream_grammar.specs.declared.FrameFault.TheVariants.{NotWellFormed, Restricted, BadPrefix, BadFormat, TooLong, TooDeep, TooManyAttrs, BadEncoding}
+use Rattle.stream_grammar.specs.declared.item.Item.{Item}
+use Rattle.stream_grammar.specs.declared.item.Item.TheVariants.{Header, Top, CloseTag, Broken}
 
 -- these bytes and a line feed
 abbrev pub line : List ℕ → List ℕ

@@ -5,10 +5,10 @@ use Rattle.stanza_tree.specs.Spelling.{client_space}
 use Rattle.stanza_tree.specs.declared.node.Element.{Element}
 use Rattle.jid_core.specs.Addresses.{Address, address_of}
 use Rattle.jid_core.specs.declared.fault.JidFault.{JidFault}
-use Rattle.stream_frames.specs.Reading.{Reading, first_reading, reading_after, waiting, handed, taken}
-use Rattle.stream_frames.specs.declared.item.Item.{Item}
-use Rattle.stream_frames.specs.declared.item.Item.TheVariants as item
-use Rattle.stream_frames.specs.declared.item.Limits.{Limits}
+use Rattle.stream_grammar.specs.Reading.{Reading, first_reading, reading_after, waiting, handed, taken}
+use Rattle.stream_grammar.specs.declared.item.Item.{Item}
+use Rattle.stream_grammar.specs.declared.item.Item.TheVariants as item
+use Rattle.stream_grammar.specs.declared.item.Limits.{Limits}
 use Rattle.replay_script.specs.Readings.{on}
 
 -- what every stream is held to

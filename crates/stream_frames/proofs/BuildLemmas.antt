@@ -8,24 +8,18 @@ use Rattle.stream_frames.specs.Builds.{opened, open_parent}
 use Rattle.std.proofs.lemmas.List.{map-append, reverse-append}
 use Rattle.stream_lex.specs.declared.Token.{Token}
 use Rattle.stream_lex.specs.declared.Token.TheVariants as token
-use Rattle.stanza_tree.specs.declared.node.Node.{Node}
-use Rattle.stream_frames.specs.Elements.{with_words}
-use Rattle.stream_frames.specs.Building.{Opened, Building, worded_in, but_last, last_closed, with_child, closed_in, build_all}
+use Rattle.stream_grammar.proofs.LastLemmas.{but_last_layer}
+use Rattle.stream_grammar.specs.Building.{Opened, Building, worded_in, but_last, last_closed, with_child, closed_in, build_all}
 use Rattle.stanza_tree.specs.declared.node.Element.{Element}
-use Rattle.stream_frames.specs.declared.namespaces.Binding.{Binding}
-use Rattle.stream_frames.specs.declared.item.Item.TheVariants as item
-use Rattle.stream_frames.specs.Tracking.{are_words}
+use Rattle.stream_grammar.specs.declared.namespaces.Binding.{Binding}
+use Rattle.stream_grammar.specs.declared.item.Item.TheVariants as item
+use Rattle.stream_grammar.specs.Telling.{are_words}
 
 -- between top elements words are passed over
 pub no_words : (ts : List Token) (b : Building) → b.opened ≡ [] → are_words ts ≡ true → build_all b ts ≡ b
 no_words [] b e h = refl
 no_words (token.Word c ∷ ts) b e h = ap (λ (x : Building). build_all x ts) (ap (λ (os : List Opened). worded_in os c b) e) ∙ no_words ts b e h
 no_words (t ∷ ts) b e h = absurd (let bad : false ≡ true = h in cc)
-
--- words, and then a child
-pub words_then : (words : List ℕ) (n : Node) → with_words words (n ∷ []) ≡ with_words words [] ++ n ∷ []
-words_then [] n = refl
-words_then (w ∷ ws) n = refl
 
 pub opened_none : (o : Option OpenElement) (ps : List Parent) → is_some o ≡ false → opened o ps ≡ []
 opened_none None ps e = refl
@@ -34,11 +28,6 @@ opened_none (Some x) ps e = absurd (let bad : true ≡ false = e in cc)
 -- the parent that was put away last is the first
 pub last_parent : (ps : List Parent) (p : Parent) → reverse (map open_parent (ps ++ p ∷ [])) ≡ open_parent p ∷ reverse (map open_parent ps)
 last_parent ps p = ap reverse (map-append open_parent ps (p ∷ [])) ∙ reverse-append (map open_parent ps) (open_parent p ∷ [])
-
-pub but_last_layer : {X : Type 0} (ls : List X) (l : X) → but_last (ls ++ l ∷ []) ≡ ls
-but_last_layer {X = X} [] l = refl
-but_last_layer {X = X} (k ∷ []) l = refl
-but_last_layer {X = X} (k ∷ m ∷ ls) l = ap (λ (xs : List X). k ∷ xs) (but_last_layer (m ∷ ls) l)
 
 -- what a vector has without its last
 nothing_long : {X : Type 0} (xs : List X) → 0 ≡ length xs → xs ≡ []

@@ -1,11 +1,11 @@
 -- Names that are unbound or come twice, by the expanded names.
 use Rattle.std.proofs.Common.{◌≡◌, ◌||◌, ◌∙◌, List, ℕ, [], ◌∷◌, map, refl, ap, true, if◌then◌else◌, Some, None}
-use Rattle.stream_frames.specs.declared.namespaces.Binding.{Binding}
-use Rattle.stream_frames.specs.declared.namespaces.Written.{Written}
-use Rattle.stream_frames.specs.declared.namespaces.NameFault.TheVariants as fault
-use Rattle.stream_frames.specs.Namespaces.{has_unbound, has_twin, has_twins, is_twin, is_unbound, attribute_space, is_bound_to, xml_space, has_forbidden, is_declaration, space_of, prefix_of, tag_fault}
-use Rattle.stream_frames.specs.Expanded.{expanded, has_unbound_name, is_among, has_repeat, fault_of_names}
-use Rattle.stream_frames.specs.Resolving.{attr_on, attrs_on, attrs_of}
+use Rattle.stream_grammar.specs.declared.namespaces.Binding.{Binding}
+use Rattle.stream_grammar.specs.declared.namespaces.Written.{Written}
+use Rattle.stream_grammar.specs.declared.namespaces.NameFault.TheVariants as fault
+use Rattle.stream_grammar.specs.Namespaces.{has_unbound, has_twin, has_twins, is_twin, is_unbound, attribute_space, is_bound_to, xml_space, has_forbidden, is_declaration, space_of, prefix_of, tag_fault}
+use Rattle.stream_frames.specs.Expanded.{expanded, has_unbound_name, is_among, has_repeat, fault_of_names, attrs_of}
+use Rattle.stream_grammar.specs.Resolving.{attr_on, attrs_on}
 
 pub unbound_by_names : (bindings : List (List Binding)) (attributes : List Written) → has_unbound_name (map (expanded bindings) attributes) ≡ has_unbound bindings attributes
 unbound_by_names bindings [] = refl

@@ -7,17 +7,18 @@ use Rattle.stream_lex.specs.declared.Token.{Token}
 use Rattle.stream_lex.specs.declared.Token.TheVariants as token
 use Rattle.stream_lex.specs.declared.stages.State.{State}
 use Rattle.stream_lex.proofs.Lists.{false-true}
-use Rattle.stream_frames.specs.declared.rules.Rules.{Rules}
+use Rattle.stream_grammar.specs.declared.rules.Rules.{Rules}
 use Rattle.stream_frames.specs.declared.places.Place.{Place}
 use Rattle.stream_frames.specs.declared.places.Place.TheVariants as place
 use Rattle.stream_frames.specs.declared.places.Move.{Move}
 use Rattle.stream_frames.specs.declared.places.Move.TheVariants as move
-use Rattle.stream_frames.specs.Trees.{RawName, is_space}
-use Rattle.stream_frames.specs.Nesting.{Nest, start, declared, inside, naming, in_tag, naming_attribute, in_value, closing, lost, may_stand, before_root, after_name, nest, nest_all}
-use Rattle.stream_frames.specs.Framing.{comes_to_space, is_empty_mark, is_after_end_name, open_at, broken, placed, is_broken}
+use Rattle.stream_grammar.specs.Trees.{RawName, is_space}
+use Rattle.stream_grammar.specs.Nesting.{Nest, start, declared, inside, naming, in_tag, naming_attribute, in_value, closing, lost, may_stand, before_root, after_name, nest, nest_all}
+use Rattle.stream_grammar.specs.Framing.{comes_to_space, is_empty_mark, is_after_end_name, open_at, broken, placed, is_broken}
 use Rattle.stream_frames.specs.Stacks.{outer, left_of, next_is, is_all}
 use Rattle.stream_frames.specs.Moves.{is_none, is_one, stands, root_move, content_move, name_move, attribute_move, value_move, closing_move, start_move, naming_move, place_move, words_move, many_move, tokens_move, gap_breaks, tag_breaks, place_breaks, breaks}
-use Rattle.stream_frames.specs.Tracking.{nest_at, moved, are_words, is_few}
+use Rattle.stream_frames.specs.Tracking.{nest_at, moved}
+use Rattle.stream_grammar.specs.Telling.{are_words, is_few}
 
 or-true : (t : Bool) → (t || true) ≡ true
 or-true true = refl

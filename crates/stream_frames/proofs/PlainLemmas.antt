@@ -9,19 +9,19 @@ use Rattle.stream_lex.specs.declared.Lexed.{Lexed}
 use Rattle.stream_lex.specs.declared.stages.State.{State}
 use Rattle.stream_lex.specs.Leading.{tokens_of, IsTurned}
 use Rattle.stream_lex.specs.Turns.{Outcome, leads, fails, turn}
-use Rattle.stream_frames.specs.declared.rules.Rules.{Rules}
+use Rattle.stream_grammar.specs.declared.rules.Rules.{Rules}
 use Rattle.stream_frames.specs.declared.places.Place.{Place}
 use Rattle.stream_frames.specs.declared.places.Place.TheVariants as place
-use Rattle.stream_frames.specs.Trees.{RawName}
-use Rattle.stream_frames.specs.Nesting.{Nest, nest_all}
-use Rattle.stream_frames.specs.declared.FrameFault.{FrameFault}
-use Rattle.stream_frames.specs.declared.item.Limits.{Limits}
-use Rattle.stream_frames.specs.Building.{Building, build_all}
+use Rattle.stream_grammar.specs.Trees.{RawName}
+use Rattle.stream_grammar.specs.Nesting.{Nest, nest_all}
+use Rattle.stream_grammar.specs.declared.FrameFault.{FrameFault}
+use Rattle.stream_grammar.specs.declared.item.Limits.{Limits}
+use Rattle.stream_grammar.specs.Building.{Building, build_all}
 use Rattle.stream_frames.specs.Fed.{reading_of}
-use Rattle.stream_frames.specs.Items.{tokens_told, told_at}
-use Rattle.stream_frames.specs.Reading.{reads, stopped, first_reading, byte_judged, told_number, rules_of, extent_after, concluded, reading_next, went, is_stopped}
+use Rattle.stream_grammar.specs.Items.{tokens_told, told_at}
+use Rattle.stream_grammar.specs.Reading.{reads, stopped, first_reading, byte_judged, told_number, rules_of, extent_after, concluded, reading_next, went, is_stopped}
 use Rattle.stream_frames.specs.Tracking.{nest_at}
-use Rattle.stream_frames.specs.Framing.{Frame, open_at, broken, frame_next, goes_with, placed, settled, lexical_fault, byte_fault}
+use Rattle.stream_grammar.specs.Framing.{Frame, open_at, broken, frame_next, goes_with, placed, settled, lexical_fault, byte_fault}
 
 pub placed_rest : (r : Rules) (s : State) (p : Place) (st : List RawName) (n : RawName) → (p ≡ place.Inside → st ≡ [] → ⊥)
     → placed r s (nest_at p st n) ≡ cond (goes_with r s (nest_at p st n)) (open_at s (nest_at p st n)) broken

@@ -3,15 +3,16 @@ use Rattle.std.proofs.Common.{◌≡◌, ℕ, ◌+◌, ◌<◌, List, [], ◌∷
 use Rattle.std.proofs.lemmas.List.{take_more, take-take, take-append-drop}
 use Rattle.std.specs.declared.option.Option.{Option}
 use Rattle.std.specs.declared.option.Option.TheVariants.{None, Some}
-use Rattle.stream_frames.specs.declared.FrameFault.{FrameFault}
-use Rattle.stream_frames.specs.declared.rules.Rules.{Rules}
-use Rattle.stream_frames.specs.Streams.{Spells, Begins}
-use Rattle.stream_frames.specs.Faults.{IsSyntaxKind, IsSyntaxFault}
-use Rattle.stream_frames.specs.Framing.{Frame, frame_next, frame_after, first_frame, is_broken, fault_at}
-use Rattle.stream_frames.specs.Tracking.{Tracked, fault_told}
-use Rattle.stream_frames.proofs.Whole.{open-begins, broken-begins}
-use Rattle.stream_frames.proofs.Agreeing.{after-snoc}
-use Rattle.stream_frames.proofs.Blaming.{fault-kind}
+use Rattle.stream_grammar.specs.declared.FrameFault.{FrameFault}
+use Rattle.stream_grammar.specs.declared.rules.Rules.{Rules}
+use Rattle.stream_grammar.specs.Streams.{Spells, Begins}
+use Rattle.stream_grammar.specs.Faults.{IsSyntaxKind, IsSyntaxFault}
+use Rattle.stream_grammar.specs.Framing.{Frame, frame_next, frame_after, first_frame, is_broken, fault_at}
+use Rattle.stream_frames.specs.Tracking.{Tracked}
+use Rattle.stream_grammar.specs.Telling.{fault_told}
+use Rattle.stream_grammar.proofs.Whole.{open-begins, broken-begins}
+use Rattle.stream_grammar.proofs.Agreeing.{after-snoc}
+use Rattle.stream_grammar.proofs.Blaming.{fault-kind}
 
 -- the tracker has read the first i bytes, without a fault
 abbrev pub HasRead : Rules → List ℕ → ℕ → Tracked → Type 0

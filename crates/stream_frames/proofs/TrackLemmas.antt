@@ -13,20 +13,21 @@ use Rattle.stream_lex.specs.Turns.{Outcome, leads, fails, turn}
 use Rattle.stream_lex.specs.Live.{is_live}
 use Rattle.stream_lex.specs.Leading.{tokens_of, IsTurned}
 use Rattle.stream_lex.proofs.Living.{LeadsLive}
-use Rattle.stream_frames.specs.declared.rules.Rules.{Rules}
+use Rattle.stream_grammar.specs.declared.rules.Rules.{Rules}
 use Rattle.stream_frames.specs.declared.places.Place.{Place}
 use Rattle.stream_frames.specs.declared.places.Move.{Move}
-use Rattle.stream_frames.specs.declared.FrameFault.{FrameFault}
-use Rattle.stream_frames.specs.declared.FrameFault.TheVariants as fault
-use Rattle.stream_frames.specs.Trees.{RawName}
-use Rattle.stream_frames.specs.Faults.{deeper, wider, looser}
-use Rattle.stream_frames.specs.Nesting.{Nest, start, inside, lost, nest_all}
-use Rattle.stream_frames.specs.Framing.{goes_with, open_at, broken, placed, settled, frame_next, is_broken, lexical_fault, byte_fault, fault_at}
+use Rattle.stream_grammar.specs.declared.FrameFault.{FrameFault}
+use Rattle.stream_grammar.specs.declared.FrameFault.TheVariants as fault
+use Rattle.stream_grammar.specs.Trees.{RawName}
+use Rattle.stream_grammar.specs.Faults.{deeper, wider, looser}
+use Rattle.stream_grammar.specs.Nesting.{Nest, start, inside, lost, nest_all}
+use Rattle.stream_grammar.specs.Framing.{goes_with, open_at, broken, placed, settled, frame_next, is_broken, lexical_fault, byte_fault, fault_at}
 use Rattle.stream_frames.specs.Moves.{tokens_move, breaks}
-use Rattle.stream_frames.specs.Tracking.{nest_at, moved, is_few, frame_of, tried, judged}
+use Rattle.stream_frames.specs.Tracking.{nest_at, moved, frame_of, tried, judged}
+use Rattle.stream_grammar.specs.Telling.{is_few}
 use Rattle.stream_frames.proofs.MoveLemmas.{tokens-moved, move-breaks}
-use Rattle.stream_frames.proofs.Few.{turn-few}
-use Rattle.stream_frames.proofs.Following.{any-live}
+use Rattle.stream_grammar.proofs.Few.{turn-few}
+use Rattle.stream_grammar.proofs.Following.{any-live}
 
 cond-open : (s : State) (n : Nest) (c : Bool) → is_broken (cond c (open_at s n) broken) ≡ false → cond c (open_at s n) broken ≡ open_at s n
 cond-open s n true e = refl

@@ -6,10 +6,10 @@ use Rattle.stream_frames.specs.declared.built.OpenElement.{OpenElement}
 use Rattle.stream_frames.specs.declared.built.Parent.{Parent}
 use Rattle.stream_frames.specs.declared.built.Ready.{Ready}
 use Rattle.stream_frames.specs.declared.built.Ready.TheVariants as ready
-use Rattle.stream_frames.specs.declared.item.Item.TheVariants as item
-use Rattle.stream_frames.specs.Gathering.{Gathered, gather}
-use Rattle.stream_frames.specs.Building.{Opened, Building, settled_words, ended_in, closed_in, build_all}
-use Rattle.stream_frames.specs.Tracking.{are_words}
+use Rattle.stream_grammar.specs.declared.item.Item.TheVariants as item
+use Rattle.stream_grammar.specs.Gathering.{Gathered, gather}
+use Rattle.stream_grammar.specs.Building.{Opened, Building, settled_words, ended_in, closed_in, build_all}
+use Rattle.stream_grammar.specs.Telling.{are_words}
 use Rattle.stream_lex.specs.declared.Token.TheVariants as token
 
 abbrev pub open_parent : Parent → Opened

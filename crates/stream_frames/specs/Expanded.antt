@@ -1,12 +1,14 @@
 -- The expanded names of a tag's attributes (Namespaces in XML 1.0, 2.1).
 use Rattle.std.specs.Prelude.{ℕ, List, [], ◌∷◌, Bool, true, false, ◌&&◌, ◌||◌, bytes_eq, if◌then◌else◌, Option, Some, None}
 use Rattle.std.specs.Option.{option_copied}
-use Rattle.stream_frames.specs.declared.namespaces.Binding.{Binding}
-use Rattle.stream_frames.specs.declared.namespaces.Written.{Written}
-use Rattle.stream_frames.specs.declared.namespaces.NameFault.{NameFault}
-use Rattle.stream_frames.specs.declared.namespaces.NameFault.TheVariants as fault
+use Rattle.stanza_tree.specs.declared.node.Attr.{Attr}
+use Rattle.stream_grammar.specs.declared.namespaces.Binding.{Binding}
+use Rattle.stream_grammar.specs.declared.namespaces.Written.{Written}
+use Rattle.stream_grammar.specs.declared.namespaces.NameFault.{NameFault}
+use Rattle.stream_grammar.specs.declared.namespaces.NameFault.TheVariants as fault
 use Rattle.stream_frames.specs.declared.expanded.Expanded.{Expanded}
-use Rattle.stream_frames.specs.Namespaces.{local_of, attribute_space, is_unbound, same_space, is_bound_to, xml_space, has_forbidden}
+use Rattle.stream_grammar.specs.Namespaces.{local_of, is_declaration, attribute_space, is_unbound, same_space, is_bound_to, xml_space, has_forbidden}
+use Rattle.stream_grammar.specs.Resolving.{or_none}
 
 -- a namespace, unless the prefix is not bound, and a local part; and the attribute as it stands in the tag
 pub record FullName : Type 0 where
@@ -44,3 +46,11 @@ fault_of_names space names attributes =
     if is_unbound space || has_unbound_name names then Some fault.BadPrefix
     else if is_bound_to space xml_space || (has_forbidden attributes || has_repeat names) then Some fault.NotWellFormed
     else None
+
+-- the attributes of these names, without declarations
+abbrev pub attr_of : FullName → Attr
+attr_of n = record { name = record { space = or_none n.space; local = n.local }; value = n.written.value }
+
+abbrev pub attrs_of : List FullName → List Attr
+attrs_of [] = []
+attrs_of (n ∷ ns) = if is_declaration n.written.name then attrs_of ns else attr_of n ∷ attrs_of ns

@@ -1,14 +1,14 @@
 -- What a framer stands for.
 use Rattle.std.specs.Prelude.{◌≡◌, ℕ, List, Result, Ok, Err, Option, Some, None}
 use Rattle.stream_lex.specs.declared.Token.{Token}
-use Rattle.stream_frames.specs.declared.FrameFault.{FrameFault}
+use Rattle.stream_grammar.specs.declared.FrameFault.{FrameFault}
 use Rattle.stream_frames.specs.declared.built.Builder.{Builder}
 use Rattle.stream_frames.specs.declared.built.Ready.{Ready}
-use Rattle.stream_frames.specs.declared.item.Limits.{Limits}
-use Rattle.stream_frames.specs.Framing.{Frame}
-use Rattle.stream_frames.specs.Building.{Building, build_all, told_judged}
+use Rattle.stream_grammar.specs.declared.item.Limits.{Limits}
+use Rattle.stream_grammar.specs.Framing.{Frame}
+use Rattle.stream_grammar.specs.Building.{Building, build_all, told_judged}
 use Rattle.stream_frames.specs.Builds.{building, IsReady, applied}
-use Rattle.stream_frames.specs.Reading.{Reading, reads, stopped}
+use Rattle.stream_grammar.specs.Reading.{Reading, reads, stopped}
 
 pub record Fed : Type 0 where
   pub limits : Limits

@@ -3,13 +3,13 @@ use Rattle.std.specs.Prelude.{ℕ, ◌+◌, List, [], ◌∷◌, length, Bool, t
 use Rattle.stream_lex.specs.declared.Token.{Token}
 use Rattle.stream_lex.specs.declared.Token.TheVariants as token
 use Rattle.stream_lex.specs.declared.stages.State.{State}
-use Rattle.stream_frames.specs.declared.rules.Rules.{Rules}
+use Rattle.stream_grammar.specs.declared.rules.Rules.{Rules}
 use Rattle.stream_frames.specs.declared.places.Place.{Place}
 use Rattle.stream_frames.specs.declared.places.Place.TheVariants as place
 use Rattle.stream_frames.specs.declared.places.Move.{Move}
 use Rattle.stream_frames.specs.declared.places.Move.TheVariants as move
-use Rattle.stream_frames.specs.Trees.{RawName, is_space}
-use Rattle.stream_frames.specs.Framing.{comes_to_space, is_empty_mark, is_after_end_name}
+use Rattle.stream_grammar.specs.Trees.{RawName, is_space}
+use Rattle.stream_grammar.specs.Framing.{comes_to_space, is_empty_mark, is_after_end_name}
 use Rattle.stream_frames.specs.Stacks.{outer, begins_so, left_of, next_is, is_all}
 
 abbrev pub is_none : List RawName → Bool

@@ -1,25 +1,24 @@
 -- Where a stream stands, as it is kept.
-use Rattle.std.specs.Prelude.{ℕ, List, [], ◌∷◌, ◌++◌, Bool, true, false, cond}
+use Rattle.std.specs.Prelude.{List, [], ◌∷◌, ◌++◌, cond}
 use Rattle.stream_lex.specs.declared.Token.{Token}
 use Rattle.stream_lex.specs.declared.LexFault.{LexFault}
 use Rattle.stream_lex.specs.declared.stages.State.{State}
-use Rattle.stream_frames.specs.declared.rules.Rules.{Rules}
-use Rattle.stream_lex.specs.declared.Token.TheVariants as token
+use Rattle.stream_grammar.specs.declared.rules.Rules.{Rules}
 use Rattle.stream_frames.specs.declared.places.Place.{Place}
 use Rattle.stream_frames.specs.declared.places.Place.TheVariants as place
 use Rattle.stream_frames.specs.declared.places.Move.{Move}
 use Rattle.stream_frames.specs.declared.places.Move.TheVariants as move
 use Rattle.stream_frames.specs.declared.tracker.Standing.{Standing}
 use Rattle.stream_frames.specs.declared.tracker.Standing.TheVariants as standing
-use Rattle.stream_frames.specs.declared.FrameFault.{FrameFault}
-use Rattle.stream_frames.specs.declared.FrameFault.TheVariants as fault
-use Rattle.stream_frames.specs.Faults.{deeper, wider, looser}
+use Rattle.stream_grammar.specs.declared.FrameFault.{FrameFault}
+use Rattle.stream_grammar.specs.declared.FrameFault.TheVariants as fault
+use Rattle.stream_grammar.specs.Faults.{deeper, wider, looser}
 use Rattle.stream_frames.specs.Moves.{tokens_move, breaks}
 use Rattle.std.specs.declared.option.Option.{Option}
 use Rattle.std.specs.declared.option.Option.TheVariants.{None, Some}
-use Rattle.stream_frames.specs.Trees.{RawName}
-use Rattle.stream_frames.specs.Nesting.{Nest, start, declared, inside, naming, in_tag, naming_attribute, in_value, closing, lost}
-use Rattle.stream_frames.specs.Framing.{Frame, open_at, ended, broken, frame_next, is_broken, lexical_fault, fault_at}
+use Rattle.stream_grammar.specs.Trees.{RawName}
+use Rattle.stream_grammar.specs.Nesting.{Nest, start, declared, inside, naming, in_tag, naming_attribute, in_value, closing, lost}
+use Rattle.stream_grammar.specs.Framing.{Frame, open_at, ended, broken, lexical_fault}
 use Rattle.stream_frames.specs.Stacks.{outer, left_of}
 
 -- the nesting at a place, where these names are open, and this much of a tag's name has come
@@ -43,17 +42,6 @@ moved move.Enters st n = inside (n ∷ st)
 moved move.Leaves st n = inside (outer st)
 moved move.Lost st n = lost
 
-abbrev pub are_words : List Token → Bool
-are_words [] = true
-are_words (token.Word c ∷ ts) = are_words ts
-are_words (t ∷ ts) = false
-
--- one token at most, or words
-abbrev pub is_few : List Token → Bool
-is_few [] = true
-is_few (t ∷ []) = true
-is_few (t ∷ u ∷ ts) = are_words (t ∷ u ∷ ts)
-
 -- what a tracker stands for
 pub record Tracked : Type 0 where
   pub rules : Rules
@@ -69,10 +57,6 @@ abbrev pub frame_of : State → Nest → Frame
 frame_of s lost = broken
 frame_of s (inside []) = ended
 frame_of s n = open_at s n
-
--- the fault that a byte brings
-abbrev pub fault_told : Rules → Frame → ℕ → Option FrameFault
-fault_told r f b = cond (is_broken f) None (cond (is_broken (frame_next r f b)) (Some (fault_at r f b)) None)
 
 -- the fault of tokens that break, by rules that allow more
 abbrev pub tried : Rules → Place → List RawName → State → List Token → FrameFault

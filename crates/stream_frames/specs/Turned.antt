@@ -4,7 +4,7 @@ use Rattle.stream_lex.specs.Live.{is_live}
 use Rattle.stream_lex.specs.Turns.{turn}
 use Rattle.stream_lex.specs.Leading.{IsTurned}
 use Rattle.stream_frames.specs.declared.tracker.Turned.{Turned}
-use Rattle.stream_frames.specs.Framing.{Frame, open_at}
+use Rattle.stream_grammar.specs.Framing.{Frame, open_at}
 
 abbrev pub Lexes : Frame → ℕ → Turned → Type 0
 Lexes (open_at s n) b t = IsTurned s (turn s b) t.state t.lexed × (is_live t.state ≡ true)

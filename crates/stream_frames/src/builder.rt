@@ -3,23 +3,24 @@
 ghost use Rattle.std.specs.Prelude.{◌≡◌, ℕ, ◌<◌, ◌≤◌, ◌+◌, ◌*◌, List, [], ◌∷◌, ◌++◌, length, true, false, None, Some, IfOk, IfErr, OnOk, OnErr, vec_len, vec_capacity, string_bytes, string_len, string_capacity};
 ghost use Rattle.std.specs.Option.{option_copied, is_some};
 ghost use Rattle.std.specs.Str.{is_utf8};
-ghost use Rattle.stream_frames.specs.Namespaces.{own, space_of};
-ghost use Rattle.stream_frames.specs.Resolving.{or_none, is_text_tag, IsRefused, IsTagFault};
-ghost use Rattle.stream_frames.specs.Elements.{inside_of, element_with, with_words, fault_of_tag};
+ghost use Rattle.stream_grammar.specs.Namespaces.{own, space_of};
+ghost use Rattle.stream_grammar.specs.Resolving.{or_none, is_text_tag};
+ghost use Rattle.stream_frames.specs.TagFaults.{IsRefused, IsTagFault, IsStartFault, IsFaultOf, AreFaultOf};
+ghost use Rattle.stream_grammar.specs.Elements.{inside_of, element_with, with_words, fault_of_tag};
 ghost use Rattle.stream_lex.specs.declared.Token.TheVariants as token;
-ghost use Rattle.stream_frames.specs.Building.{Building, IsStartFault, IsFaultOf, AreFaultOf, is_all_text, tag_judged, told_judged, nothing_built, build, build_all, last_closed, settled_words, closed_in, ended_in, with_child};
-ghost use Rattle.stream_frames.specs.Gathering.{gather};
-ghost use Rattle.stream_frames.specs.Tracking.{is_few, are_words};
+ghost use Rattle.stream_grammar.specs.Building.{Building, is_all_text, tag_judged, told_judged, nothing_built, build, build_all, last_closed, settled_words, closed_in, ended_in, with_child};
+ghost use Rattle.stream_grammar.specs.Gathering.{gather};
+ghost use Rattle.stream_grammar.specs.Telling.{is_few, are_words};
 ghost use Rattle.stream_frames.specs.declared.built.Ready.TheVariants as ready;
 ghost use Rattle.stream_frames.specs.Builds.{opened, tag_of, building, HasChildRoom, IsReady, applied, open_element, open_parent};
 
 use crate::built::{Builder, OpenElement, Parent, Ready};
-use crate::item::Item;
-use crate::namespaces::{Binding, Written, bound_before, last_bound, last_in_layers, own_bindings};
+use crate::namespaces::{bound_before, last_bound, last_in_layers, own_bindings};
 use crate::tags::{TagFault, resolve, space_or_none, text};
 use stanza_tree::{Attr, Element, Name, NoMemory, Node, Several, Text};
 use std::alloc::Global;
 use std::mem;
+use stream_grammar::{Binding, Item, Written};
 use stream_lex::Token;
 
 fn one_byte(alloc: Global, byte: u8) -> Result<Vec<u8>, NoMemory>

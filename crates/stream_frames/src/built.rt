@@ -2,10 +2,9 @@
 
 ghost use Rattle.std.specs.Prelude.{◌≡◌, ◌<◌, None, vec_len, vec_capacity};
 
-use crate::item::Item;
-use crate::namespaces::{Binding, Written};
 use stanza_tree::{Attr, Element, Name, Node, Several, Text};
 use std::alloc::Global;
+use stream_grammar::{Binding, Item, Written};
 
 /// An element that is open.
 #[derive(Drop)]

@@ -2,12 +2,13 @@
 
 ghost use Rattle.std.specs.Prelude.{◌≡◌, map, IfOk};
 ghost use Rattle.std.specs.Option.{option_copied};
-ghost use Rattle.stream_frames.specs.Namespaces.{same_space};
+ghost use Rattle.stream_grammar.specs.Namespaces.{same_space};
 ghost use Rattle.stream_frames.specs.Expanded.{full_name, expanded, has_unbound_name, is_same, is_among, has_repeat};
 
-use crate::namespaces::{Binding, Written, attribute_bound, local};
+use crate::namespaces::{attribute_bound, local};
 use stanza_tree::{NoMemory, Several};
 use std::alloc::Global;
+use stream_grammar::{Binding, Written};
 
 /// The namespace of an attribute, unless its prefix is not bound, and its local part; and the attribute as it stands in
 /// its tag.

@@ -1,11 +1,12 @@
 //! A stream that is fed to a framer, whole or byte by byte, for the tests.
 
 ghost use Rattle.std.specs.Prelude.{◌≡◌, true, IfOk};
-ghost use Rattle.stream_frames.specs.Reading.{is_ready};
+ghost use Rattle.stream_grammar.specs.Reading.{is_ready};
 
-use crate::{Framer, Item, Limits};
+use crate::Framer;
 use std::alloc::Global;
 use std::test::Fail;
+use stream_grammar::{Item, Limits};
 
 /// How the bytes of a stream come.
 #[derive(Clone, Copy)]

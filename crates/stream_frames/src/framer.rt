@@ -2,24 +2,21 @@
 
 ghost use Rattle.std.specs.Prelude.{◌≡◌, ◌≤◌, ◌<◌, ◌+◌, List, ℕ, take, length, true, false, IfOk, IfErr, OnOk, OnErr, Some, None};
 ghost use Rattle.std.specs.Option.{option_copied};
-ghost use Rattle.stream_frames.specs.Reading.{Reading, reads, stopped, first_reading, reading_next, reading_after, byte_judged, waiting, handed, is_ready, is_done, is_stopped, taken, is_large_item, rules_of};
+ghost use Rattle.stream_grammar.specs.Reading.{Reading, reads, stopped, first_reading, reading_next, reading_after, byte_judged, waiting, handed, is_ready, is_done, is_stopped, taken, is_large_item, rules_of};
 ghost use Rattle.stream_frames.specs.Fed.{Fed, IsPrepared};
-ghost use Rattle.stream_frames.specs.Framing.{frame_next};
-ghost use Rattle.stream_frames.specs.Items.{told_at, in_item};
-ghost use Rattle.stream_frames.specs.Tracking.{is_few};
-ghost use Rattle.stream_frames.specs.Building.{build_all};
+ghost use Rattle.stream_grammar.specs.Framing.{frame_next};
+ghost use Rattle.stream_grammar.specs.Items.{told_at, in_item};
+ghost use Rattle.stream_grammar.specs.Telling.{is_few};
+ghost use Rattle.stream_grammar.specs.Building.{build_all};
 ghost use Rattle.stream_frames.specs.Builds.{building};
 
-use crate::FrameFault;
 use crate::built::{Builder, Ready};
-use crate::item::{Item, Limits};
-use crate::namespaces::NameFault;
-use crate::rules::Rules;
 use crate::tags::TagFault;
 use crate::tracker::Tracker;
 use stanza_tree::{NoMemory, length};
 use std::alloc::Global;
 use std::marker::Model;
+use stream_grammar::{FrameFault, Item, Limits, NameFault};
 use stream_lex::Token;
 
 /// What the tokens of a byte will do, or the fault by its names of a tag that they end.
@@ -112,7 +109,7 @@ pub struct Framer {
 impl Model for Framer {
     ghost use Rattle.std.specs.Prelude.{◌≡◌, ◌≤◌, ◌^◌};
     ghost use Rattle.stream_frames.specs.Builds.{building};
-    ghost use Rattle.stream_frames.specs.Reading.{rules_of};
+    ghost use Rattle.stream_grammar.specs.Reading.{rules_of};
     ghost use Rattle.stream_frames.specs.Fed.{Fed, reading_of};
     ghost use Rattle.std.specs.Coded.{codes};
     ghost use Rattle.stanza_tree.specs.contracts.node.Node as node;
@@ -124,18 +121,6 @@ impl Model for Framer {
     ghost view = { λ f. record { limits = f.limits; reading = reading_of f.fault f.tracker.frame (building f.builder) f.extent f.offset } };
 
     ghost invariant = { λ f. (f.tracker.rules ≡ rules_of f.limits) × (f.extent ≤ 2 ^ 32) };
-}
-
-impl Limits {
-    fn rules(self) -> Rules
-        ensures { result ≡ rules_of self }
-    {
-        Rules {
-            depth: self.depth as u64,
-            attributes: self.attrs as u64,
-            loose: false,
-        }
-    }
 }
 
 impl Framer {
@@ -190,7 +175,7 @@ impl Framer {
     /// Reads a piece up to the byte that ends an item or has a fault, and else to its end: how many bytes were taken. After a
     /// fault every piece is taken whole. Costs the piece's length; at the end of an item its size too, and at the end of a tag the
     /// square of its attributes.
-    #[tactic(auto, using(crate::proofs::FeedLemmas::stays, crate::proofs::FeedLemmas::after_one, crate::proofs::FeedLemmas::rest_going))]
+    #[tactic(auto, using(stream_grammar::proofs::FeedLemmas::stays, stream_grammar::proofs::FeedLemmas::after_one, stream_grammar::proofs::FeedLemmas::rest_going))]
     pub fn feed(&mut self, piece: &[u8]) -> Result<usize, Short>
         requires { is_ready self.old.reading ≡ true }
         ensures limits { self.new.limits ≡ self.old.limits }

@@ -1,14 +1,14 @@
 //! Streams as items: whole, cut after every byte, and at their limits.
 
-use crate::FrameFault::{
-    BadEncoding, BadFormat, BadPrefix, NotWellFormed, Restricted, TooDeep, TooLong, TooManyAttrs,
-};
 use crate::feeding::{Cut, items_of};
-use crate::{FrameFault, Item, Limits};
 use stanza_tree::write;
 use std::alloc::Global;
 use std::process::Abort;
 use std::test::Fail;
+use stream_grammar::FrameFault::{
+    BadEncoding, BadFormat, BadPrefix, NotWellFormed, Restricted, TooDeep, TooLong, TooManyAttrs,
+};
+use stream_grammar::{FrameFault, Item, Limits};
 
 const LIMITS: Limits = Limits {
     bytes: 65_536,

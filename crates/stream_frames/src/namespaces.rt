@@ -3,38 +3,16 @@
 ghost use Rattle.std.specs.Prelude.{◌≡◌, None, map, IfOk};
 ghost use Rattle.std.specs.Option.{option_copied};
 ghost use Rattle.stream_frames.specs.Expanded.{full_name, fault_of_names};
-ghost use Rattle.stream_frames.specs.Namespaces.{colon_at, has_prefix, prefix_of, local_of, is_declaration, declared_prefix, may_undo, may_declare, last_space, last_layer, space_of, attribute_space, is_forbidden, has_forbidden, own, space_before};
+ghost use Rattle.stream_grammar.specs.Namespaces.{colon_at, has_prefix, prefix_of, local_of, is_declaration, declared_prefix, may_undo, may_declare, last_space, last_layer, space_of, attribute_space, is_forbidden, has_forbidden, own, space_before};
 
 use crate::expanded::{Expanded, any_repeat, any_unbound};
 use stanza_tree::{NoMemory, Several};
 use std::alloc::Global;
+use stream_grammar::{Binding, NameFault, Written};
 
 const XML_SPACE: &[u8] = b"http://www.w3.org/XML/1998/namespace";
 
 const XMLNS_SPACE: &[u8] = b"http://www.w3.org/2000/xmlns/";
-
-/// A prefix, or the default namespace where it is empty, and what it is bound to.
-#[derive(Drop)]
-pub struct Binding {
-    pub prefix: Several<u8>,
-    pub space: Several<u8>,
-}
-
-/// An attribute as it stands in a tag: its name, and its value without the quotes and escapes.
-#[derive(Drop)]
-pub struct Written {
-    pub name: Several<u8>,
-    pub value: Several<u8>,
-}
-
-/// Why the names on a tag are refused.
-#[derive(Clone, Copy, Debug, PartialEq, Eq)]
-pub enum NameFault {
-    /// A prefix that is not declared.
-    BadPrefix,
-    /// Two attributes of one name, or an element or a declaration that Namespaces in XML 1.0 forbids.
-    NotWellFormed,
-}
 
 /// The place of the colon, or the number of all bytes.
 fn colon_place(name: &[u8]) -> usize

@@ -2,12 +2,12 @@
 
 ghost use Rattle.std.specs.Prelude.{◌≡◌};
 ghost use Rattle.stream_lex.specs.Characters.{is_nothing};
-ghost use Rattle.stream_frames.specs.Trees.{is_space};
-ghost use Rattle.stream_frames.specs.Framing.{stage_to_space, begins_space};
+ghost use Rattle.stream_grammar.specs.Trees.{is_space};
+ghost use Rattle.stream_grammar.specs.Framing.{stage_to_space, begins_space};
 ghost use Rattle.stream_frames.specs.Moves.{stands, root_move, start_move, content_move, name_move, naming_move, attribute_move, value_move, closing_move, place_move, words_move, many_move, tokens_move, gap_breaks, tag_breaks, place_breaks, breaks};
 
 use crate::names::Names;
-use crate::rules::Rules;
+use stream_grammar::Rules;
 use stream_lex::{Base, Context, EntityName, Pending, Stage, State, Token};
 
 /// Where the tokens stand.

@@ -2,24 +2,21 @@
 //! by the definitions. What is made of a tag's names is that of the framer.
 
 ghost use Rattle.std.specs.Prelude.{◌≡◌, ℕ, ◌<◌, ◌≤◌, true, false, None, length, take, IfOk, IfSome, IfNone};
-ghost use Rattle.stream_frames.specs.Items.{told_at};
-ghost use Rattle.stream_frames.specs.Tracking.{is_few};
-ghost use Rattle.stream_frames.specs.Building.{build_all, told_judged};
+ghost use Rattle.stream_grammar.specs.Items.{told_at};
+ghost use Rattle.stream_grammar.specs.Telling.{is_few};
+ghost use Rattle.stream_grammar.specs.Building.{build_all, told_judged};
 ghost use Rattle.stream_frames.specs.Builds.{building};
-ghost use Rattle.stream_frames.specs.Reading.{stopped, first_reading, byte_judged, reading_next, handed, went, is_stopped, is_large_item, rules_of, extent_after};
+ghost use Rattle.stream_grammar.specs.Reading.{stopped, first_reading, byte_judged, reading_next, handed, went, is_stopped, is_large_item, rules_of, extent_after};
 
-use crate::FrameFault;
 use crate::built::Builder;
-use crate::item::{Item, Limits};
-use crate::namespaces::NameFault;
 use crate::places::Place;
 use crate::plain_frames::PlainFrame;
-use crate::rules::Rules;
 use crate::tags::TagFault;
 use crate::tracker::Standing;
 use stanza_tree::{NoMemory, length};
 use std::alloc::Global;
 use std::marker::Model;
+use stream_grammar::{FrameFault, Item, Limits, NameFault, Rules};
 use stream_lex::Token;
 
 fn rules_of(limits: Limits) -> Rules
@@ -74,7 +71,7 @@ struct PlainReading {
 
 impl Model for PlainReading {
     ghost use Rattle.stream_frames.specs.Builds.{building};
-    ghost use Rattle.stream_frames.specs.Reading.{Reading};
+    ghost use Rattle.stream_grammar.specs.Reading.{Reading};
     ghost use Rattle.stream_frames.specs.Fed.{reading_of};
     ghost use Rattle.std.specs.Coded.{codes};
     ghost use Rattle.stanza_tree.specs.contracts.node.Node as node;

@@ -10,20 +10,20 @@ ghost use Rattle.stream_lex.specs.declared.stages.Stage.TheVariants as stage;
 ghost use Rattle.stream_lex.specs.declared.stages.State.{State};
 ghost use Rattle.stream_lex.specs.Leading.{tokens_of, IsTurned};
 ghost use Rattle.stream_lex.specs.Turns.{at, leads, turn};
-ghost use Rattle.stream_frames.specs.Items.{told_at, in_item, in_item_nest};
-ghost use Rattle.stream_frames.specs.Trees.{RawName};
-ghost use Rattle.stream_frames.specs.Nesting.{lost};
-ghost use Rattle.stream_frames.specs.Framing.{begins_space, stage_to_space, comes_to_space, goes_with, placed, frame_next, is_broken, lexical_fault, byte_fault, fault_at};
-ghost use Rattle.stream_frames.specs.Tracking.{is_few, nest_at, framed, fault_told};
+ghost use Rattle.stream_grammar.specs.Items.{told_at, in_item, in_item_nest};
+ghost use Rattle.stream_grammar.specs.Trees.{RawName};
+ghost use Rattle.stream_grammar.specs.Nesting.{lost};
+ghost use Rattle.stream_grammar.specs.Framing.{begins_space, stage_to_space, comes_to_space, goes_with, placed, frame_next, is_broken, lexical_fault, byte_fault, fault_at};
+ghost use Rattle.stream_grammar.specs.Telling.{is_few, fault_told};
+ghost use Rattle.stream_frames.specs.Tracking.{nest_at, framed};
 
-use crate::FrameFault;
 use crate::places::{Place, is_white};
 use crate::plain_nesting::{PlainName, PlainNest, copy_names, left, nest_all};
-use crate::rules::Rules;
 use crate::tracker::Standing;
 use stanza_tree::NoMemory;
 use std::alloc::Global;
 use std::marker::Model;
+use stream_grammar::{FrameFault, Rules};
 use stream_lex::{Base, Context, EntityName, Lex, LexFault, Lexed, Pending, Stage, State, Token};
 
 fn comes_to_space(state: State) -> bool
@@ -90,7 +90,7 @@ pub(crate) struct PlainFrame {
 }
 
 impl Model for PlainFrame {
-    ghost use Rattle.stream_frames.specs.Framing.{Frame};
+    ghost use Rattle.stream_grammar.specs.Framing.{Frame};
     ghost use Rattle.stream_frames.specs.Tracking.{framed};
 
     ghost Value = { Frame };

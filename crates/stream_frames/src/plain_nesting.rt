@@ -2,16 +2,16 @@
 
 ghost use Rattle.std.specs.Prelude.{◌≡◌, [], ◌∷◌, ◌++◌, IfOk};
 ghost use Rattle.std.specs.Option.{unwrap_or};
-ghost use Rattle.stream_frames.specs.declared.rules.Rules.{Rules};
-ghost use Rattle.stream_frames.specs.Nesting.{lost, inside, naming, naming_attribute, in_value, closing, before_root, may_stand, after_name, nest, nest_all};
+ghost use Rattle.stream_grammar.specs.declared.rules.Rules.{Rules};
+ghost use Rattle.stream_grammar.specs.Nesting.{lost, inside, naming, naming_attribute, in_value, closing, before_root, may_stand, after_name, nest, nest_all};
 ghost use Rattle.stream_frames.specs.Stacks.{outer, left_of};
 ghost use Rattle.stream_frames.specs.Tracking.{nest_at};
 
 use crate::places::{Place, is_white};
-use crate::rules::Rules;
 use stanza_tree::NoMemory;
 use std::alloc::Global;
 use std::marker::Model;
+use stream_grammar::Rules;
 use stream_lex::Token;
 
 /// A name as it stands in a tag.
@@ -22,7 +22,7 @@ pub(crate) struct PlainName {
 }
 
 impl Model for PlainName {
-    ghost use Rattle.stream_frames.specs.Trees.{RawName};
+    ghost use Rattle.stream_grammar.specs.Trees.{RawName};
 
     ghost Value = { RawName };
 
@@ -78,7 +78,7 @@ pub(crate) struct PlainNest {
 }
 
 impl Model for PlainNest {
-    ghost use Rattle.stream_frames.specs.Nesting.{Nest};
+    ghost use Rattle.stream_grammar.specs.Nesting.{Nest};
     ghost use Rattle.stream_frames.specs.Tracking.{nest_at};
 
     ghost Value = { Nest };
@@ -112,7 +112,7 @@ fn stands_in(rules: Rules, open: &[PlainName], c: char) -> bool
     is_white(c as u32) || rules.loose || open.len() > 1
 }
 
-#[tactic(auto, unfolding(crate::specs::Nesting::nest))]
+#[tactic(auto, unfolding(stream_grammar::specs::Nesting::nest))]
 fn in_words(
     alloc: Global,
     rules: Rules,
@@ -185,7 +185,7 @@ fn in_tag(
     }
 }
 
-#[tactic(auto, unfolding(crate::specs::Nesting::nest))]
+#[tactic(auto, unfolding(stream_grammar::specs::Nesting::nest))]
 fn in_name(
     rules: Rules,
     open: Vec<PlainName>,
@@ -200,7 +200,7 @@ fn in_name(
     }
 }
 
-#[tactic(auto, unfolding(crate::specs::Nesting::nest))]
+#[tactic(auto, unfolding(stream_grammar::specs::Nesting::nest))]
 fn in_attribute(
     open: Vec<PlainName>,
     name: PlainName,
@@ -216,7 +216,7 @@ fn in_attribute(
     }
 }
 
-#[tactic(auto, unfolding(crate::specs::Nesting::nest))]
+#[tactic(auto, unfolding(stream_grammar::specs::Nesting::nest))]
 fn in_value(open: Vec<PlainName>, name: PlainName, count: u64, token: Token) -> Option<PlainNest>
     ensures { (r : Rules) → unwrap_or result lost ≡ nest r (in_value open.items name count) token }
 {
@@ -237,7 +237,7 @@ pub(crate) fn left(open: &[PlainName], at: usize) -> &[u8]
     }
 }
 
-#[tactic(auto, unfolding(crate::specs::Nesting::nest))]
+#[tactic(auto, unfolding(stream_grammar::specs::Nesting::nest))]
 fn in_end_tag(
     open: Vec<PlainName>,
     name: PlainName,
@@ -262,7 +262,7 @@ fn in_end_tag(
     }
 }
 
-#[tactic(auto, unfolding(crate::specs::Nesting::nest))]
+#[tactic(auto, unfolding(stream_grammar::specs::Nesting::nest))]
 fn nest(
     alloc: Global,
     rules: Rules,
@@ -287,7 +287,7 @@ fn nest(
     }
 }
 
-#[tactic(auto, unfolding(crate::specs::Nesting::nest))]
+#[tactic(auto, unfolding(stream_grammar::specs::Nesting::nest))]
 fn nest_on(
     alloc: Global,
     rules: Rules,

@@ -2,10 +2,10 @@
 
 use crate::feeding::{Cut, items_of};
 use crate::plain::plain_fault;
-use crate::{FrameFault, Item, Limits};
 use std::alloc::Global;
 use std::process::Abort;
 use std::test::Fail;
+use stream_grammar::{FrameFault, Item, Limits};
 
 const AMPLE: Limits = Limits {
     bytes: 65_536,

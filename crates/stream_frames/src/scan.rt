@@ -1,14 +1,13 @@
 //! Where bytes stop beginning a stream.
 
 ghost use Rattle.std.specs.Prelude.{◌≡◌, ◌<◌, ◌^◌, IfOk, IfSome, IfNone};
-ghost use Rattle.stream_frames.specs.Streams.{Begins};
-ghost use Rattle.stream_frames.specs.Faults.{IsSyntaxFault};
+ghost use Rattle.stream_grammar.specs.Streams.{Begins};
+ghost use Rattle.stream_grammar.specs.Faults.{IsSyntaxFault};
 
-use crate::FrameFault;
-use crate::rules::Rules;
 use crate::tracker::Tracker;
 use stanza_tree::NoMemory;
 use std::alloc::Global;
+use stream_grammar::{FrameFault, Rules};
 
 /// The first fault of the syntax of a stream: the least number of bytes that begin none, and its kind. None where all the
 /// bytes begin a stream.

@@ -3,14 +3,16 @@
 ghost use Rattle.std.specs.Prelude.{◌≡◌, [], ◌∷◌, ◌++◌, true, ◌&&◌, None, map, IfOk, IfErr, OnOk};
 ghost use Rattle.std.specs.Option.{option_copied};
 ghost use Rattle.std.specs.Str.{is_utf8};
-ghost use Rattle.stream_frames.specs.Namespaces.{space_of, tag_fault};
-ghost use Rattle.stream_frames.specs.Expanded.{full_name};
-ghost use Rattle.stream_frames.specs.Resolving.{or_none, name_on, attrs_on, attr_of, attrs_of, is_text_attr, are_text_attrs, is_text_tag, IsRefused, IsTagFault};
+ghost use Rattle.stream_grammar.specs.Namespaces.{space_of, tag_fault};
+ghost use Rattle.stream_frames.specs.Expanded.{full_name, attr_of, attrs_of};
+ghost use Rattle.stream_grammar.specs.Resolving.{or_none, name_on, attrs_on, is_text_attr, are_text_attrs, is_text_tag};
+ghost use Rattle.stream_frames.specs.TagFaults.{IsRefused, IsTagFault};
 
 use crate::expanded::{Expanded, expanded_names};
-use crate::namespaces::{Binding, NameFault, Written, bound, declares, local, name_fault, prefix};
+use crate::namespaces::{bound, declares, local, name_fault, prefix};
 use stanza_tree::{Attr, Element, Name, Several, Text, TextFault};
 use std::alloc::{AllocError, Global};
+use stream_grammar::{Binding, NameFault, Written};
 
 /// Why a tag did not become an element.
 #[derive(Clone, Copy, Debug, PartialEq, Eq)]

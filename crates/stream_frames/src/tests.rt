@@ -2,11 +2,14 @@
 
 ghost use Rattle.std.specs.Prelude.{◌<◌};
 
-use crate::FrameFault::{BadEncoding, BadFormat, NotWellFormed, Restricted, TooDeep, TooManyAttrs};
-use crate::{FrameFault, Rules, syntax_fault};
+use crate::syntax_fault;
 use std::alloc::Global;
 use std::process::Abort;
 use std::test::Fail;
+use stream_grammar::FrameFault::{
+    BadEncoding, BadFormat, NotWellFormed, Restricted, TooDeep, TooManyAttrs,
+};
+use stream_grammar::{FrameFault, Rules};
 
 /// The header of 116 bytes that the texts below follow.
 const HEADER: &[u8] =

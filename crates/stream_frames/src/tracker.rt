@@ -3,25 +3,25 @@
 ghost use Rattle.std.specs.Prelude.{◌≡◌, ℕ, ◌<◌, ◌^◌, [], true, false, None, Some, IfOk, IfErr, OnOk, OnErr};
 ghost use Rattle.stream_lex.specs.declared.stages.State.{State};
 ghost use Rattle.stream_lex.specs.Leading.{tokens_of, IsTurned};
-ghost use Rattle.stream_frames.specs.Framing.{open_at, ended, first_frame, frame_next, is_broken, has_ended, lexical_fault, fault_at};
+ghost use Rattle.stream_grammar.specs.Framing.{open_at, ended, first_frame, frame_next, is_broken, has_ended, lexical_fault, fault_at};
 ghost use Rattle.stream_lex.specs.Live.{is_live};
 ghost use Rattle.stream_lex.specs.Turns.{turn};
-ghost use Rattle.stream_frames.specs.Items.{is_between_tops, told_at};
+ghost use Rattle.stream_grammar.specs.Items.{is_between_tops, told_at};
 ghost use Rattle.stream_frames.specs.Stacks.{raw};
 ghost use Rattle.stream_frames.specs.Moves.{tokens_move, breaks};
-ghost use Rattle.stream_frames.specs.Trees.{RawName, is_space};
-ghost use Rattle.stream_frames.specs.declared.rules.Rules.{Rules};
+ghost use Rattle.stream_grammar.specs.Trees.{RawName, is_space};
+ghost use Rattle.stream_grammar.specs.declared.rules.Rules.{Rules};
 ghost use Rattle.stream_frames.specs.Turned.{Lexes};
-ghost use Rattle.stream_frames.specs.Items.{in_item, in_item_nest};
-ghost use Rattle.stream_frames.specs.Tracking.{is_few, nest_at, moved, framed, frame_of, tried, judged, fault_told};
+ghost use Rattle.stream_grammar.specs.Items.{in_item, in_item_nest};
+ghost use Rattle.stream_grammar.specs.Telling.{is_few, fault_told};
+ghost use Rattle.stream_frames.specs.Tracking.{nest_at, moved, framed, frame_of, tried, judged};
 
-use crate::FrameFault;
 use crate::names::{Names, OpenName};
 use crate::places::{Move, Place, is_breaking, is_white, move_of};
-use crate::rules::Rules;
 use stanza_tree::NoMemory;
 use std::alloc::Global;
 use std::marker::Model;
+use stream_grammar::{FrameFault, Rules};
 use stream_lex::{Context, Lex, LexFault, Lexed, Stage, State, Token};
 
 /// Whether a stream is open, ended or broken.

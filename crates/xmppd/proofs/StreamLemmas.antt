@@ -7,9 +7,9 @@ use Rattle.std.specs.Prelude.{Option, Some, None, if◌then◌else◌, option_to
 use Rattle.house_model.specs.Histories.{Turn, StandsFor}
 use Rattle.house_model.specs.Keeping.{Kept}
 use Rattle.house_model.specs.States.{State}
-use Rattle.stream_frames.specs.declared.item.Item.{Item}
-use Rattle.stream_frames.specs.declared.item.Limits.{Limits}
-use Rattle.stream_frames.specs.Reading.{Reading, reads, stopped, first_reading, reading_next, reading_after, handed, is_ready, is_none, is_done, taken, went, waiting}
+use Rattle.stream_grammar.specs.declared.item.Item.{Item}
+use Rattle.stream_grammar.specs.declared.item.Limits.{Limits}
+use Rattle.stream_grammar.specs.Reading.{Reading, reads, stopped, first_reading, reading_next, reading_after, handed, is_ready, is_none, is_done, taken, went, waiting}
 use Rattle.replay_script.specs.Deeds.{with_framer, item_in, items_of, print_items}
 use Rattle.replay_script.specs.Prints.{print_item}
 use Rattle.replay_script.specs.Stanzas.{limits}

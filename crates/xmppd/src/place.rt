@@ -1,6 +1,6 @@
 //! The framer of a connection's place.
 ghost use Rattle.std.specs.Prelude.{◌≡◌, ◌++◌, true, IfOk, OnOk};
-ghost use Rattle.stream_frames.specs.Reading.{first_reading, reading_next, handed, is_ready, went};
+ghost use Rattle.stream_grammar.specs.Reading.{first_reading, reading_next, handed, is_ready, went};
 ghost use Rattle.replay_script.specs.Deeds.{item_in, items_of, print_items};
 ghost use Rattle.replay_script.specs.Stanzas.{limits};
 

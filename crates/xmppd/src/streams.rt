@@ -1,6 +1,6 @@
 //! The framers of a play.
 ghost use Rattle.std.specs.Prelude.{◌≡◌, ◌<◌, ◌≤◌, ◌++◌, length, IfOk, OnOk};
-ghost use Rattle.stream_frames.specs.Reading.{Reading, first_reading, handed, went};
+ghost use Rattle.stream_grammar.specs.Reading.{Reading, first_reading, handed, went};
 ghost use Rattle.replay_script.specs.Deeds.{no_framers, with_framer, items_of, print_items};
 ghost use Rattle.replay_script.specs.Stanzas.{limits};
 ghost use Rattle.xmppd.specs.Streams.{framers_of};

@@ -1,5 +1,5 @@
 use Rattle.std.proofs.Common.{◌≡◌, true}
-use Rattle.stream_frames.specs.Reading.{is_ready}
+use Rattle.stream_grammar.specs.Reading.{is_ready}
 use Rattle.stream_frames.proofs.feeding.feed_all.Given as goal
 
 abbrev pub invariant-loop : goal.invariant-loop

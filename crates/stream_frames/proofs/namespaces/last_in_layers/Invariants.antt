@@ -1,6 +1,6 @@
 use Rattle.std.proofs.Common.{◌≡◌, take}
 use Rattle.std.specs.Option.{option_copied}
-use Rattle.stream_frames.specs.Namespaces.{last_layer}
+use Rattle.stream_grammar.specs.Namespaces.{last_layer}
 use Rattle.stream_frames.proofs.namespaces.last_in_layers.Given as goal
 
 abbrev pub invariant-loop-i : goal.invariant-loop-i

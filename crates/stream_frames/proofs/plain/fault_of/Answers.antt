@@ -1,6 +1,6 @@
 use Rattle.std.proofs.Common.{◌≡◌, ℕ, IfOk, subst}
 use Rattle.std.specs.Prelude.{IfSome}
-use Rattle.stream_frames.specs.Reading.{Reading, stopped, went}
+use Rattle.stream_grammar.specs.Reading.{Reading, stopped, went}
 use Rattle.stream_frames.proofs.plain.fault_of.Goals as goal
 
 pub returns-clause-some : goal.returns-clause-some

@@ -1,5 +1,5 @@
 use Rattle.std.proofs.Common.{◌≡◌, ℕ, ◌<◌, take, false}
-use Rattle.stream_frames.specs.Reading.{first_reading, went, is_stopped}
+use Rattle.stream_grammar.specs.Reading.{first_reading, went, is_stopped}
 use Rattle.stream_frames.proofs.plain.plain_fault.Given as goal
 
 abbrev pub invariant-loop-k : goal.invariant-loop-k

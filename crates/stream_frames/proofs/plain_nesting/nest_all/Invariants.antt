@@ -1,6 +1,6 @@
 use Rattle.std.proofs.Common.{◌≡◌, drop}
 use Rattle.std.specs.Option.{unwrap_or}
-use Rattle.stream_frames.specs.Nesting.{lost, nest_all}
+use Rattle.stream_grammar.specs.Nesting.{lost, nest_all}
 use Rattle.stream_frames.proofs.plain_nesting.nest_all.Given as goal
 
 abbrev pub invariant-loop-token : goal.invariant-loop-token

@@ -1,6 +1,6 @@
 use Rattle.std.proofs.Common.{◌≡◌, ◌++◌, map, drop}
-use Rattle.stream_frames.specs.Expanded.{full_name}
-use Rattle.stream_frames.specs.Resolving.{attrs_of, are_text_attrs}
+use Rattle.stream_frames.specs.Expanded.{full_name, attrs_of}
+use Rattle.stream_grammar.specs.Resolving.{are_text_attrs}
 use Rattle.stream_frames.proofs.tags.full_attrs.Given as goal
 
 abbrev pub invariant-loop-name : goal.invariant-loop-name

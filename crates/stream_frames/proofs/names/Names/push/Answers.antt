@@ -2,7 +2,7 @@ use Rattle.std.proofs.Common.{◌≡◌, List, ◌∷◌, ◌++◌, [], ap, sym,
 use Rattle.std.specs.declared.option.Option.{Option}
 use Rattle.std.specs.declared.option.Option.TheVariants.{Some}
 use Rattle.stream_frames.specs.declared.names.OpenName.{OpenName}
-use Rattle.stream_frames.specs.Trees.{RawName}
+use Rattle.stream_grammar.specs.Trees.{RawName}
 use Rattle.stream_frames.specs.Stacks.{raw, stacked}
 use Rattle.stream_frames.proofs.StackLemmas.{pushed-some}
 use Rattle.stream_frames.proofs.names.Names.push.Goals as goal

@@ -1,6 +1,6 @@
 use Rattle.std.proofs.Common.{◌≡◌, ℕ, subst}
 use Rattle.std.specs.Prelude.{IfSome}
-use Rattle.stream_frames.specs.Reading.{Reading, stopped}
+use Rattle.stream_grammar.specs.Reading.{Reading, stopped}
 use Rattle.stream_frames.proofs.plain.PlainReading.fault_after.Goals as goal
 
 pub returns-clause-some : goal.returns-clause-some

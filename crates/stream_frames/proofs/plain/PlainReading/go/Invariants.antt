@@ -1,5 +1,5 @@
 use Rattle.std.proofs.Common.{◌≡◌, drop}
-use Rattle.stream_frames.specs.Reading.{went}
+use Rattle.stream_grammar.specs.Reading.{went}
 use Rattle.stream_frames.proofs.plain.PlainReading.go.Given as goal
 
 abbrev pub invariant-loop-byte : goal.invariant-loop-byte

@@ -1,6 +1,6 @@
 use Rattle.std.proofs.Common.{◌≡◌, [], IfOk, sym, subst}
 use Rattle.stream_lex.specs.Turns.{turn}
-use Rattle.stream_frames.specs.declared.FrameFault.{FrameFault}
+use Rattle.stream_grammar.specs.declared.FrameFault.{FrameFault}
 use Rattle.stream_frames.proofs.PlainLemmas.{fault_leads}
 use Rattle.stream_frames.proofs.plain_frames.PlainFrame.fault_from.Goals as goal
 

@@ -1,7 +1,7 @@
 use Rattle.std.proofs.Common.{◌≡◌, ℕ, ◌+◌, List, ◌∷◌, ◌++◌, drop, get_or, sym, ap, ◌∙◌, rules}
 use Rattle.std.proofs.lemmas.List.{drop_more}
 use Rattle.std.specs.Prelude.{true}
-use Rattle.stream_frames.specs.Reading.{Reading, reading_next, handed, is_ready, went}
+use Rattle.stream_grammar.specs.Reading.{Reading, reading_next, handed, is_ready, went}
 use Rattle.replay_script.specs.Deeds.{item_in, items_of, print_items}
 use Rattle.replay_script.specs.Stanzas.{limits}
 use Rattle.xmppd.proofs.StreamLemmas.{went_on, printed_on}

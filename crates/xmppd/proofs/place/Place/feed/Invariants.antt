@@ -1,5 +1,5 @@
 use Rattle.std.proofs.Common.{◌≡◌, ◌++◌, drop}
-use Rattle.stream_frames.specs.Reading.{handed, went}
+use Rattle.stream_grammar.specs.Reading.{handed, went}
 use Rattle.replay_script.specs.Deeds.{items_of, print_items}
 use Rattle.replay_script.specs.Stanzas.{limits}
 use Rattle.xmppd.proofs.place.Place.feed.Given as goal

@@ -1,6 +1,6 @@
 use Rattle.std.proofs.Common.{◌≡◌, sym, ap, ◌∙◌, rules}
 use Rattle.std.specs.Prelude.{None, Some, true}
-use Rattle.stream_frames.specs.Reading.{Reading, reading_next, handed, is_ready, waiting}
+use Rattle.stream_grammar.specs.Reading.{Reading, reading_next, handed, is_ready, waiting}
 use Rattle.replay_script.specs.Stanzas.{limits}
 use Rattle.xmppd.proofs.StreamLemmas.{fed_one, printed_one, printed_none}
 use Rattle.xmppd.proofs.place.Place.feed_byte.Goals as goal

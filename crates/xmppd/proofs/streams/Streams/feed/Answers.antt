@@ -1,6 +1,6 @@
 use Rattle.std.proofs.Common.{ap, ◌∙◌}
 use Rattle.std.specs.Prelude.{Some}
-use Rattle.stream_frames.specs.Reading.{Reading, handed, went}
+use Rattle.stream_grammar.specs.Reading.{Reading, handed, went}
 use Rattle.replay_script.specs.Stanzas.{limits}
 use Rattle.xmppd.specs.Streams.{framers_of}
 use Rattle.xmppd.proofs.StreamLemmas.{place_set}

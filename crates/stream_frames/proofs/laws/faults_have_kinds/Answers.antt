@@ -1,5 +1,0 @@
-use Rattle.stream_frames.proofs.Blaming.{fault-kind}
-use Rattle.stream_frames.proofs.laws.faults_have_kinds.Goals as goal
-
-pub returns : goal.returns
-returns c = λ r bytes b e h. fault-kind r bytes b e h

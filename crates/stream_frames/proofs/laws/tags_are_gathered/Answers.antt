@@ -1,5 +1,0 @@
-use Rattle.stream_frames.proofs.GatherLemmas.{tag-gathered}
-use Rattle.stream_frames.proofs.laws.tags_are_gathered.Goals as goal
-
-pub returns : goal.returns
-returns c = λ g t empty. tag-gathered g t empty

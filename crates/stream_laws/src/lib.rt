@@ -1,0 +1,5 @@
+//! What the definitions of XMPP streams (RFC 6120) say.
+#![tactic(auto)]
+
+pub mod laws;
+pub mod round_trip;
