@@ -1,5 +1,5 @@
 -- What an element holds: its first child of a name, and its own words.
-use Rattle.std.specs.Prelude.{ℕ, List, [], ◌∷◌, ◌++◌, Bool, Option, Some, None, ◌&&◌, bytes_eq, if◌then◌else◌}
+use Rattle.std.specs.Prelude.{ℕ, List, [], ◌∷◌, ◌++◌, Option, Some, None, ◌&&◌, bytes_eq, if◌then◌else◌}
 use Rattle.stanza_tree.specs.declared.node.Element.{Element}
 use Rattle.stanza_tree.specs.declared.node.Node.{Node}
 use Rattle.stanza_tree.specs.declared.node.Node.TheViews.{out-Node}

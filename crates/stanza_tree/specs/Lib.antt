@@ -5,3 +5,4 @@ pub mod Entries
 pub mod Faults
 pub mod Spelling
 pub mod Stamps
+pub mod Texts

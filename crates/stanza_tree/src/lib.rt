@@ -15,7 +15,7 @@ mod tests;
 pub mod text;
 
 pub use frame::{Entry, append, append_value, append_words, frame_length, push_frame};
-pub use measure::length;
+pub use measure::{is_longer, length};
 pub use node::{Attr, Element, Name, Node};
 pub use several::Several;
 pub use spell::write;

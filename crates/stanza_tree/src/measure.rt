@@ -1,5 +1,5 @@
 //! Measures the canonical spelling of an element, without memory.
-ghost use Rattle.std.specs.Prelude.{◌≡◌, ◌^◌, ◌-◌, ℕ, List, min, length as list_length};
+ghost use Rattle.std.specs.Prelude.{◌≡◌, ◌<◌, ◌^◌, ◌-◌, ℕ, List, min, nat_lt, length as list_length};
 ghost use Rattle.std.specs.Fmt.{decimal};
 ghost use Rattle.stanza_tree.specs.Spelling.{words_text, value_text, assigned, declaration, declarations, prefixed, unprefixed, attributes, named, opened, closed, text_under, texts_under, text};
 
@@ -130,7 +130,9 @@ fn opened_length(parent: &[u8], name: &Name, attrs: &[Attr]) -> u64
 
 #[tactic(auto, unfolding(crate::specs::Spelling::closed))]
 pub(crate) fn closed_length(local: &[u8], content: u64) -> u64
-    ensures { (bytes : List ℕ) → content ≡ min (list_length bytes) (2 ^ 64 - 1) → result ≡ min (list_length (closed local.now bytes)) (2 ^ 64 - 1) }
+    ensures whole { (bytes : List ℕ) → content ≡ min (list_length bytes) (2 ^ 64 - 1) → result ≡ min (list_length (closed local.now bytes)) (2 ^ 64 - 1) }
+    ensures counted { (bytes : List ℕ) (most : ℕ) → most < 2 ^ 64 → min content most ≡ min (list_length bytes) most
+        → min result most ≡ min (list_length (closed local.now bytes)) most }
 {
     if content == 0 {
         2
@@ -139,13 +141,17 @@ pub(crate) fn closed_length(local: &[u8], content: u64) -> u64
     }
 }
 
-fn element_length(element: &Element, parent: &[u8]) -> u64
-    ensures { result ≡ min (list_length (text_under parent.now element.now)) (2 ^ 64 - 1) }
+/// The number of bytes of an element's spelling, as far as `most`: it stops once the children have so many.
+fn element_length(element: &Element, parent: &[u8], most: u64) -> u64
+    ensures { min result most ≡ min (list_length (text_under parent.now element.now)) most }
 {
     let mut content = 0u64;
     for node in element.children.slice() {
+        if content >= most {
+            return most;
+        }
         let more = match node {
-            Node::Child(child) => element_length(child, element.name.space.bytes()),
+            Node::Child(child) => element_length(child, element.name.space.bytes(), most),
             Node::Words(words) => words_length(words.bytes()),
         };
         content = content.saturating_add(more);
@@ -162,7 +168,7 @@ pub(crate) fn nodes_length(nodes: &[Node], parent: &[u8]) -> u64
     let mut sum = 0u64;
     for node in nodes {
         let more = match node {
-            Node::Child(child) => element_length(child, parent),
+            Node::Child(child) => element_length(child, parent, u64::MAX),
             Node::Words(words) => words_length(words.bytes()),
         };
         sum = sum.saturating_add(more);
@@ -174,5 +180,13 @@ pub(crate) fn nodes_length(nodes: &[Node], parent: &[u8]) -> u64
 pub fn length(element: &Element) -> u64
     ensures { result ≡ min (list_length (text element.now)) (2 ^ 64 - 1) }
 {
-    element_length(element, CLIENT_SPACE)
+    element_length(element, CLIENT_SPACE, u64::MAX)
+}
+
+/// Whether the canonical spelling of a top element has more bytes than `most`. Stops once it is known: costs `most` and the
+/// largest of the tags and words in the tree.
+pub fn is_longer(element: &Element, most: u64) -> bool
+    ensures { result ≡ nat_lt most (min (list_length (text element.now)) (2 ^ 64 - 1)) }
+{
+    element_length(element, CLIENT_SPACE, most.saturating_add(1)) > most
 }

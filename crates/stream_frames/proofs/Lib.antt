@@ -7,3 +7,4 @@ pub mod LookupLemmas
 pub mod ExpandedLemmas
 pub mod BuildLemmas
 pub mod PlainLemmas
+mod FillLemmas

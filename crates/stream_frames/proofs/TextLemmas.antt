@@ -2,7 +2,7 @@
 use Rattle.std.proofs.Common.{◌≡◌, ℕ, List, [], ◌∷◌, ◌++◌, refl, Bool, true, false, ◌≤◌, length, arith}
 use Rattle.stream_lex.specs.declared.Token.{Token}
 use Rattle.stream_grammar.specs.Telling.{is_few, are_words}
-use Rattle.std.proofs.lemmas.Str.{IsUtf8-from_is_utf8}
+use Rattle.std.proofs.lemmas.Str.{IsUtf8-from_is_utf8, is_utf8-from_IsUtf8}
 use Rattle.std.specs.Prelude.{Option}
 use Rattle.std.specs.Str.{IsUtf8, is_utf8}
 use Rattle.stanza_tree.specs.declared.text.TextFault.TheVariants.{NotUtf8}
@@ -19,6 +19,9 @@ not_utf8 bs never = by (is_utf8 bs) refl
 
 pub not_text : (bs : List ℕ) (n : ℕ) → IsTextFault bs (NotUtf8 n) → is_utf8 bs ≡ false
 not_text bs n f = not_utf8 bs f.0
+
+pub nothing_text : is_utf8 [] ≡ true
+nothing_text = is_utf8-from_IsUtf8 [] ([], (refl, refl))
 
 pub layer_more : (given : Option (List ℕ)) (ls : List (List Binding)) (l : List Binding) (prefix : List ℕ) → last_layer given (ls ++ l ∷ []) prefix ≡ last_space (last_layer given ls prefix) l prefix
 layer_more given [] l prefix = refl

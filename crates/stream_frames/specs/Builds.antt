@@ -7,7 +7,14 @@ use Rattle.stream_frames.specs.declared.built.Parent.{Parent}
 use Rattle.stream_frames.specs.declared.built.Ready.{Ready}
 use Rattle.stream_frames.specs.declared.built.Ready.TheVariants as ready
 use Rattle.stream_grammar.specs.declared.item.Item.TheVariants as item
-use Rattle.stream_grammar.specs.Gathering.{Gathered, gather}
+use Rattle.std.specs.Str.{is_utf8}
+use Rattle.stanza_tree.specs.declared.node.Element.{Element}
+use Rattle.stream_grammar.specs.declared.namespaces.Binding.{Binding}
+use Rattle.stream_frames.specs.declared.tags.Resolved.{Resolved}
+use Rattle.stream_grammar.specs.Namespaces.{local_of}
+use Rattle.stream_grammar.specs.Resolving.{are_text_attrs}
+use Rattle.stream_frames.specs.Filled.{attrs_in, element_in}
+use Rattle.stream_grammar.specs.Gathering.{Gathered, nothing_gathered, gather}
 use Rattle.stream_grammar.specs.Building.{Opened, Building, settled_words, ended_in, closed_in, build_all}
 use Rattle.stream_grammar.specs.Telling.{are_words}
 use Rattle.stream_lex.specs.declared.Token.TheVariants as token
@@ -34,6 +41,12 @@ abbrev pub HasChildRoom : ℕ → Option OpenElement → Type 0
 HasChildRoom n None = Unit {0}
 HasChildRoom n (Some x) = vec_len x.children + n ≤ vec_capacity x.children
 
+-- what a tag was found to need fits what the builder has gathered of it
+abbrev pub IsOfTag : Builder → Resolved → Type 0
+IsOfTag b r =
+    (r.room.items ≡ []) × (vec_len r.room + length b.attributes.items ≤ vec_capacity r.room)
+    × (is_utf8 (local_of b.name.items) ≡ true) × (are_text_attrs (attrs_in r.spaces.items b.attributes.items) ≡ true)
+
 -- there is the room that it takes
 abbrev pub IsReady : Builder → List Token → Ready → Type 0
 IsReady b ts (ready.NameByte x) = vec_len b.name < vec_capacity b.name
@@ -41,11 +54,19 @@ IsReady b ts (ready.AttributeByte x) = vec_len b.attribute < vec_capacity b.attr
 IsReady b ts (ready.ValueChar c) = string_len b.value + 4 ≤ string_capacity b.value
 IsReady b ts ready.ValueEnd = vec_len b.attributes < vec_capacity b.attributes
 IsReady b ts ready.Words = (string_len b.words + 4 * length ts ≤ string_capacity b.words) × (are_words ts ≡ true)
-IsReady b ts (ready.Header e t own) = vec_len b.layers < vec_capacity b.layers
-IsReady b ts (ready.Begins x own) = (vec_len b.layers < vec_capacity b.layers) × (vec_len b.others < vec_capacity b.others) × HasChildRoom 2 b.innermost
-IsReady b ts (ready.Hollow e) = HasChildRoom 2 b.innermost
+IsReady b ts (ready.Header r t own) = (vec_len b.layers < vec_capacity b.layers) × IsOfTag b r
+IsReady b ts (ready.Begins r own) = (vec_len b.layers < vec_capacity b.layers) × (vec_len b.others < vec_capacity b.others) × HasChildRoom 2 b.innermost × IsOfTag b r
+IsReady b ts (ready.Hollow r) = HasChildRoom 2 b.innermost × IsOfTag b r
 IsReady b ts ready.Closes = HasChildRoom 1 b.innermost
 IsReady b ts r = Unit {0}
+
+-- the element of the tag
+abbrev pub resolved_in : Resolved → Gathered → Element
+resolved_in r g = element_in r.space r.spaces.items g.name g.attributes
+
+-- an element is open, and its bindings count
+abbrev pub begun_in : Element → List Binding → Building → Building
+begun_in e own b = record b { layers = b.layers ++ own ∷ []; opened = record { name = e.name; attrs = e.attrs; children = e.children } ∷ settled_words b.words b.opened; words = [] }
 
 -- what it does
 abbrev pub applied : Ready → List Token → Building → Building
@@ -57,7 +78,7 @@ applied (ready.AttributeByte x) ts b = record b { tag = gather b.tag (token.Attr
 applied (ready.ValueChar c) ts b = record b { tag = gather b.tag (token.Value c) }
 applied ready.ValueEnd ts b = record b { tag = gather b.tag token.ValueEnds }
 applied ready.Words ts b = build_all b ts
-applied (ready.Header e t own) ts b = record b { layers = b.layers ++ own ∷ []; item = Some (item.Header e t) }
-applied (ready.Begins x own) ts b = record b { layers = b.layers ++ own ∷ []; opened = open_element x ∷ settled_words b.words b.opened; words = [] }
-applied (ready.Hollow e) ts b = ended_in e b.words b.opened b
-applied ready.Closes ts b = closed_in b.opened b
+applied (ready.Header r t own) ts b = record b { tag = nothing_gathered; layers = b.layers ++ own ∷ []; item = Some (item.Header (resolved_in r b.tag) t) }
+applied (ready.Begins r own) ts b = begun_in (resolved_in r b.tag) own (record b { tag = nothing_gathered })
+applied (ready.Hollow r) ts b = ended_in (resolved_in r b.tag) b.words b.opened (record b { tag = nothing_gathered })
+applied ready.Closes ts b = closed_in b.opened (record b { tag = nothing_gathered })

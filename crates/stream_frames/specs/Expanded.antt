@@ -1,14 +1,13 @@
 -- The expanded names of a tag's attributes (Namespaces in XML 1.0, 2.1).
 use Rattle.std.specs.Prelude.{ℕ, List, [], ◌∷◌, Bool, true, false, ◌&&◌, ◌||◌, bytes_eq, if◌then◌else◌, Option, Some, None}
-use Rattle.std.specs.Option.{option_copied}
-use Rattle.stanza_tree.specs.declared.node.Attr.{Attr}
 use Rattle.stream_grammar.specs.declared.namespaces.Binding.{Binding}
 use Rattle.stream_grammar.specs.declared.namespaces.Written.{Written}
 use Rattle.stream_grammar.specs.declared.namespaces.NameFault.{NameFault}
 use Rattle.stream_grammar.specs.declared.namespaces.NameFault.TheVariants as fault
 use Rattle.stream_frames.specs.declared.expanded.Expanded.{Expanded}
-use Rattle.stream_grammar.specs.Namespaces.{local_of, is_declaration, attribute_space, is_unbound, same_space, is_bound_to, xml_space, has_forbidden}
-use Rattle.stream_grammar.specs.Resolving.{or_none}
+use Rattle.stream_frames.specs.Spaces.{bound_space}
+use Rattle.stream_grammar.specs.Resolving.{or_none, is_text_name}
+use Rattle.stream_grammar.specs.Namespaces.{is_declaration, local_of, attribute_space, is_unbound, same_space, is_bound_to, xml_space, has_forbidden}
 
 -- a namespace, unless the prefix is not bound, and a local part; and the attribute as it stands in the tag
 pub record FullName : Type 0 where
@@ -17,11 +16,21 @@ pub record FullName : Type 0 where
   pub written : Written
 
 abbrev pub full_name : Expanded → FullName
-full_name e = record { space = option_copied e.space; local = e.local.now; written = e.written.now }
+full_name e = record { space = bound_space e.space; local = e.local.now; written = e.written.now }
 
 -- that of an attribute
 abbrev pub expanded : List (List Binding) → Written → FullName
 expanded bindings a = record { space = attribute_space bindings a.name; local = local_of a.name; written = a }
+
+-- the namespaces of those that are no declarations, a namespace that is not bound counting as none
+abbrev pub spaces_of : List FullName → List (List ℕ)
+spaces_of [] = []
+spaces_of (n ∷ ns) = if is_declaration n.written.name then spaces_of ns else or_none n.space ∷ spaces_of ns
+
+-- their names are texts
+abbrev pub are_texts : List FullName → Bool
+are_texts [] = true
+are_texts (n ∷ ns) = if is_declaration n.written.name then are_texts ns else is_text_name (record { space = or_none n.space; local = n.local }) && are_texts ns
 
 -- one of them is in no namespace that is bound
 abbrev pub has_unbound_name : List FullName → Bool
@@ -46,11 +55,3 @@ fault_of_names space names attributes =
     if is_unbound space || has_unbound_name names then Some fault.BadPrefix
     else if is_bound_to space xml_space || (has_forbidden attributes || has_repeat names) then Some fault.NotWellFormed
     else None
-
--- the attributes of these names, without declarations
-abbrev pub attr_of : FullName → Attr
-attr_of n = record { name = record { space = or_none n.space; local = n.local }; value = n.written.value }
-
-abbrev pub attrs_of : List FullName → List Attr
-attrs_of [] = []
-attrs_of (n ∷ ns) = if is_declaration n.written.name then attrs_of ns else attr_of n ∷ attrs_of ns

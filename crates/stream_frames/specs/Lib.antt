@@ -6,3 +6,5 @@ pub mod TagFaults
 pub mod Builds
 pub mod Turned
 pub mod Fed
+pub mod Spaces
+pub mod Filled

@@ -1,7 +1,8 @@
 //! Elements, made while the tokens of a stream come.
 
 ghost use Rattle.std.specs.Prelude.{◌≡◌, ℕ, ◌<◌, ◌≤◌, ◌+◌, ◌*◌, List, [], ◌∷◌, ◌++◌, length, true, false, None, Some, IfOk, IfErr, OnOk, OnErr, vec_len, vec_capacity, string_bytes, string_len, string_capacity};
-ghost use Rattle.std.specs.Option.{option_copied, is_some};
+ghost use Rattle.std.specs.Option.{is_some};
+ghost use Rattle.stream_frames.specs.Spaces.{bound_space};
 ghost use Rattle.std.specs.Str.{is_utf8};
 ghost use Rattle.stream_grammar.specs.Namespaces.{own, space_of};
 ghost use Rattle.stream_grammar.specs.Resolving.{or_none, is_text_tag};
@@ -9,18 +10,19 @@ ghost use Rattle.stream_frames.specs.TagFaults.{IsRefused, IsTagFault, IsStartFa
 ghost use Rattle.stream_grammar.specs.Elements.{inside_of, element_with, with_words, fault_of_tag};
 ghost use Rattle.stream_lex.specs.declared.Token.TheVariants as token;
 ghost use Rattle.stream_grammar.specs.Building.{Building, is_all_text, tag_judged, told_judged, nothing_built, build, build_all, last_closed, settled_words, closed_in, ended_in, with_child};
-ghost use Rattle.stream_grammar.specs.Gathering.{gather};
+ghost use Rattle.stream_grammar.specs.Gathering.{nothing_gathered, gather};
 ghost use Rattle.stream_grammar.specs.Telling.{is_few, are_words};
-ghost use Rattle.stream_frames.specs.declared.built.Ready.TheVariants as ready;
-ghost use Rattle.stream_frames.specs.Builds.{opened, tag_of, building, HasChildRoom, IsReady, applied, open_element, open_parent};
+ghost use Rattle.stream_frames.specs.Builds.{opened, tag_of, building, HasChildRoom, IsOfTag, IsReady, resolved_in, begun_in, applied, open_element, open_parent};
 
 use crate::built::{Builder, OpenElement, Parent, Ready};
-use crate::namespaces::{bound_before, last_bound, last_in_layers, own_bindings};
-use crate::tags::{TagFault, resolve, space_or_none, text};
-use stanza_tree::{Attr, Element, Name, NoMemory, Node, Several, Text};
+use crate::namespaces::{
+    Binding, Space, Written, bound_before, last_bound, last_in_layers, own_bindings, share_declared,
+};
+use crate::tags::{Resolved, TagFault, element, resolve, space_text};
+use stanza_tree::{Element, NoMemory, Node, Several, Text};
 use std::alloc::Global;
 use std::mem;
-use stream_grammar::{Binding, Item, Written};
+use stream_grammar::Item;
 use stream_lex::Token;
 
 fn one_byte(alloc: Global, byte: u8) -> Result<Vec<u8>, NoMemory>
@@ -33,11 +35,11 @@ fn one_byte(alloc: Global, byte: u8) -> Result<Vec<u8>, NoMemory>
 
 /// The default namespace inside a tag that declares these bindings.
 #[tactic(auto, using(crate::proofs::TextLemmas::layer_more, crate::proofs::LookupLemmas::last_known))]
-fn default_bound<'a>(layers: &'a [Several<Binding>], own: &'a [Binding]) -> Option<&'a [u8]>
-    ensures { option_copied result ≡ space_of (layers.now ++ own.now ∷ []) [] }
+fn default_bound<'a>(layers: &'a [Several<Binding>], own: &'a [Binding]) -> Option<Space<'a>>
+    ensures { bound_space result ≡ space_of (layers.now ++ own.now ∷ []) [] }
 {
     match last_bound(own, b"") {
-        Some(space) => Some(space),
+        Some(space) => Some(Space::Bound(space)),
         None => last_in_layers(bound_before(b""), layers, b""),
     }
 }
@@ -52,7 +54,7 @@ fn default_space(
     ensures utf8 { OnOk result (is_utf8 (or_none (space_of (layers.now ++ own.now ∷ []) [])) ≡ true) }
     ensures err { IfErr result (IsRefused (is_utf8 (or_none (space_of (layers.now ++ own.now ∷ []) [])))) }
 {
-    text(alloc, space_or_none(default_bound(layers, own)))
+    space_text(alloc, default_bound(layers, own))
 }
 
 /// Words become a child, unless there are none.
@@ -131,17 +133,20 @@ impl Builder {
         }
     }
 
-    /// The element of the tag that was begun last, and the bindings that it declares. Leaves room for these.
-    fn tag_element(&mut self) -> Result<(Element, Several<Binding>), TagFault>
+    /// What the tag that was begun last needs to become an element, and the bindings that it declares. Leaves room for these.
+    #[tactic(auto, using(crate::proofs::FillLemmas::text_left, crate::proofs::FillLemmas::texts_left))]
+    fn resolved_tag(&mut self) -> Result<(Resolved, Several<Binding>), TagFault>
         ensures kept { building self.new ≡ building self.old }
         ensures parts { (self.new.innermost ≡ self.old.innermost) × (self.new.others ≡ self.old.others) }
-        ensures element { IfOk result (λ p. p.0 ≡ element_with (inside_of (building self.old).layers (tag_of self.old)) (tag_of self.old) []) }
+        ensures element { IfOk result (λ p. resolved_in p.0 (tag_of self.old) ≡ element_with (inside_of (building self.old).layers (tag_of self.old)) (tag_of self.old) []) }
+        ensures fits { IfOk result (λ p. IsOfTag self.new p.0) }
         ensures own { IfOk result (λ p. p.1 ≡ own self.old.attributes.items) }
         ensures room { OnOk result (vec_len self.new.layers < vec_capacity self.new.layers) }
         ensures ok { OnOk result (fault_of_tag (building self.old).layers (tag_of self.old) ≡ None) }
         ensures utf8 { OnOk result (is_text_tag (inside_of (building self.old).layers (tag_of self.old)) self.old.name.items self.old.attributes.items ≡ true) }
         ensures fault { IfErr result (IsTagFault (inside_of (building self.old).layers (tag_of self.old)) self.old.name.items self.old.attributes.items) }
     {
+        share_declared(self.alloc, &mut self.attributes)?;
         let own = own_bindings(self.alloc, self.attributes.as_slice())?;
         self.layers.reserve(1)?;
         self.layers.push_reserved(own);
@@ -152,7 +157,7 @@ impl Builder {
             self.attributes.as_slice(),
         );
         match (made, self.layers.pop()) {
-            (Ok(element), Some(own)) => Ok((element, own)),
+            (Ok(resolved), Some(own)) => Ok((resolved, own)),
             (Err(fault), _) => Err(fault),
             (Ok(_), None) => unreachable!(),
         }
@@ -167,29 +172,16 @@ impl Builder {
         ensures utf8 { OnOk result (is_all_text (building self.old) false ≡ true) }
         ensures fault { IfErr result (IsStartFault (building self.old) false) }
     {
-        let (element, own) = self.tag_element()?;
+        let (resolved, own) = self.resolved_tag()?;
         if self.layers.is_empty() {
             let space = default_space(self.alloc, self.layers.as_slice(), own.slice())?;
-            return Ok(Ready::Header(element, space, own));
+            return Ok(Ready::Header(resolved, space, own));
         }
         if let Some(innermost) = &mut self.innermost {
             innermost.children.reserve(2)?;
         }
         self.others.reserve(1)?;
-        let Element {
-            name,
-            attrs,
-            children,
-        } = element;
-        let children = children.into_vec();
-        Ok(Ready::Begins(
-            OpenElement {
-                name,
-                attrs,
-                children,
-            },
-            own,
-        ))
+        Ok(Ready::Begins(resolved, own))
     }
 
     /// What the empty-element tag that was begun last will do.
@@ -201,11 +193,11 @@ impl Builder {
         ensures utf8 { OnOk result (is_all_text (building self.old) true ≡ true) }
         ensures fault { IfErr result (IsStartFault (building self.old) true) }
     {
-        let (element, _) = self.tag_element()?;
+        let (resolved, _) = self.resolved_tag()?;
         if let Some(innermost) = &mut self.innermost {
             innermost.children.reserve(2)?;
         }
-        Ok(Ready::Hollow(element))
+        Ok(Ready::Hollow(resolved))
     }
 
     /// What a token will do.
@@ -321,16 +313,60 @@ impl Builder {
         }
     }
 
+    /// The element of the tag that was begun last, of which then nothing is left.
+    fn take_element(&mut self, resolved: Resolved) -> Element
+        requires { IsOfTag self.old resolved }
+        ensures element { result ≡ resolved_in resolved (tag_of self.old) }
+        ensures emptied { building self.new ≡ record (building self.old) { tag = nothing_gathered } }
+        ensures parts { (self.new.innermost ≡ self.old.innermost) × (self.new.others ≡ self.old.others) × (self.new.layers ≡ self.old.layers) }
+    {
+        let name = mem::replace(&mut self.name, Vec::new(self.alloc));
+        let attributes = mem::replace(&mut self.attributes, Vec::new(self.alloc));
+        self.empty_tag();
+        element(self.alloc, resolved, name, attributes)
+    }
+
+    /// Nothing is left of the tag that was begun last.
+    fn empty_tag(&mut self)
+        ensures emptied { building self.new ≡ record (building self.old) { tag = nothing_gathered } }
+        ensures parts { (self.new.innermost ≡ self.old.innermost) × (self.new.others ≡ self.old.others) × (self.new.layers ≡ self.old.layers) }
+    {
+        self.name = Vec::new(self.alloc);
+        self.attributes = Vec::new(self.alloc);
+        self.attribute = Vec::new(self.alloc);
+        self.value = String::new(self.alloc);
+    }
+
+    /// Between top elements no room is kept for what is open.
+    fn release_room(&mut self)
+        ensures { building self.new ≡ building self.old }
+    {
+        if self.innermost.is_none() {
+            self.others = Vec::new(self.alloc);
+            self.layers.shrink_to(4);
+        }
+    }
+
     /// Begins an element in the innermost one.
-    fn begin(&mut self, element: OpenElement, own: Several<Binding>)
+    fn begin(&mut self, element: Element, own: Several<Binding>)
         requires layers { vec_len self.old.layers < vec_capacity self.old.layers }
         requires others { vec_len self.old.others < vec_capacity self.old.others }
         requires children { HasChildRoom 2 self.old.innermost }
-        ensures { building self.new ≡ applied (ready.Begins element own) [] (building self.old) }
+        ensures { building self.new ≡ begun_in element own (building self.old) }
     {
         self.layers.push_reserved(own);
         let words = self.take_words();
-        if let Some(outside) = self.innermost.replace(element) {
+        let Element {
+            name,
+            attrs,
+            children,
+        } = element;
+        let open = OpenElement {
+            name,
+            attrs,
+            children: children.into_vec(),
+        };
+        if let Some(outside) = self.innermost.replace(open) {
             let OpenElement {
                 name,
                 attrs,
@@ -386,20 +422,32 @@ impl Builder {
                 let value = mem::replace(&mut self.value, String::new(self.alloc));
                 self.attributes.push_reserved(Written {
                     name: Several::of(name),
-                    value: Several::of(value.into_bytes()),
+                    value: Text::of_string(value),
                 });
             }
             Ready::Words => self.add_words(told),
-            Ready::Header(root, default_space, own) => {
+            Ready::Header(resolved, default_space, own) => {
+                let root = self.take_element(resolved);
                 self.layers.push_reserved(own);
                 self.item = Some(Item::Header {
                     root,
                     default_space,
                 });
             }
-            Ready::Begins(element, own) => self.begin(element, own),
-            Ready::Hollow(element) => self.add_hollow(element),
-            Ready::Closes => self.close(),
+            Ready::Begins(resolved, own) => {
+                let element = self.take_element(resolved);
+                self.begin(element, own);
+            }
+            Ready::Hollow(resolved) => {
+                let element = self.take_element(resolved);
+                self.add_hollow(element);
+                self.release_room();
+            }
+            Ready::Closes => {
+                self.empty_tag();
+                self.close();
+                self.release_room();
+            }
         }
     }
 

@@ -2,7 +2,8 @@
 
 ghost use Rattle.std.specs.Prelude.{◌≡◌, ◌<◌, None, vec_len, vec_capacity};
 
-use stanza_tree::{Attr, Element, Name, Node, Several, Text};
+use crate::tags::Resolved;
+use stanza_tree::{Attr, Name, Node, Several, Text};
 use std::alloc::Global;
 use stream_grammar::{Binding, Item, Written};
 
@@ -50,8 +51,8 @@ pub(crate) enum Ready {
     ValueChar(char),
     ValueEnd,
     Words,
-    Header(Element, Text, Several<Binding>),
-    Begins(OpenElement, Several<Binding>),
-    Hollow(Element),
+    Header(Resolved, Text, Several<Binding>),
+    Begins(Resolved, Several<Binding>),
+    Hollow(Resolved),
     Closes,
 }

@@ -1,11 +1,11 @@
 //! The expanded names of a tag's attributes (Namespaces in XML 1.0, 2.1).
 
 ghost use Rattle.std.specs.Prelude.{◌≡◌, map, IfOk};
-ghost use Rattle.std.specs.Option.{option_copied};
+ghost use Rattle.stream_frames.specs.Spaces.{bound_space};
 ghost use Rattle.stream_grammar.specs.Namespaces.{same_space};
 ghost use Rattle.stream_frames.specs.Expanded.{full_name, expanded, has_unbound_name, is_same, is_among, has_repeat};
 
-use crate::namespaces::{attribute_bound, local};
+use crate::namespaces::{Space, attribute_bound, local};
 use stanza_tree::{NoMemory, Several};
 use std::alloc::Global;
 use stream_grammar::{Binding, Written};
@@ -14,7 +14,7 @@ use stream_grammar::{Binding, Written};
 /// its tag.
 #[derive(Clone, Copy)]
 pub(crate) struct Expanded<'a> {
-    pub space: Option<&'a [u8]>,
+    pub space: Option<Space<'a>>,
     pub local: &'a [u8],
     pub written: &'a Written,
 }
@@ -57,11 +57,11 @@ pub(crate) fn any_unbound(names: &[Expanded<'_>]) -> bool
     false
 }
 
-fn are_one_space(one: Option<&[u8]>, other: Option<&[u8]>) -> bool
-    ensures { result ≡ same_space (option_copied one.entry) (option_copied other.entry) }
+fn are_one_space(one: Option<Space<'_>>, other: Option<Space<'_>>) -> bool
+    ensures { result ≡ same_space (bound_space one.entry) (bound_space other.entry) }
 {
     match (one, other) {
-        (Some(a), Some(b)) => b == a,
+        (Some(a), Some(b)) => b.bytes() == a.bytes(),
         _ => false,
     }
 }

@@ -32,5 +32,5 @@ pub use framer::{Framer, Short};
 pub use namespaces::own_bindings;
 pub use scan::syntax_fault;
 pub use stream_grammar::{Binding, FrameFault, Item, Limits, NameFault, Rules, Written};
-pub use tags::{TagFault, resolve};
+pub use tags::{Resolved, TagFault, element, resolve};
 pub use tracker::Tracker;

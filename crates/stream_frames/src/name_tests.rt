@@ -1,11 +1,11 @@
 //! Names of tags with the namespaces that are declared, from Namespaces in XML 1.0.
 
-use crate::{TagFault, own_bindings, resolve};
-use stanza_tree::{Element, Several};
+use stream_grammar::NameFault::{BadPrefix, NotWellFormed};
+use crate::{TagFault, element, own_bindings, resolve};
+use stanza_tree::{Element, Several, Text};
 use std::alloc::Global;
 use std::process::Abort;
 use std::test::Fail;
-use stream_grammar::NameFault::{BadPrefix, NotWellFormed};
 use stream_grammar::{Binding, NameFault, Written};
 
 fn several(alloc: Global, bytes: &[u8]) -> Result<Several<u8>, Fail> {
@@ -19,7 +19,7 @@ fn layer(alloc: Global, cases: &[(&[u8], &[u8])]) -> Result<Several<Binding>, Fa
     for (prefix, space) in cases {
         all.push(Binding {
             prefix: several(alloc, prefix)?,
-            space: several(alloc, space)?,
+            space: Text::of(alloc, space)?,
         })?;
     }
     Ok(Several::of(all))
@@ -31,7 +31,7 @@ fn written(alloc: Global, attributes: &[(&[u8], &[u8])]) -> Result<Vec<Written>,
     for (name, value) in attributes {
         all.push(Written {
             name: several(alloc, name)?,
-            value: several(alloc, value)?,
+            value: Text::of(alloc, value)?,
         })?;
     }
     Ok(all)
@@ -140,7 +140,10 @@ fn declarations(rt: HostRuntime) -> Result<(), Fail> {
 fn resolved(alloc: Global, name: &[u8], attributes: &[(&[u8], &[u8])]) -> Result<Element, Fail> {
     let attributes = written(alloc, attributes)?;
     let bound = bindings(alloc, attributes.as_slice())?;
-    Ok(resolve(alloc, bound.as_slice(), name, attributes.as_slice())?)
+    let resolved = resolve(alloc, bound.as_slice(), name, attributes.as_slice())?;
+    let mut copied = Vec::new(alloc);
+    copied.extend_from_slice(name)?;
+    Ok(element(alloc, resolved, copied, attributes))
 }
 
 /// The element is named so, and its attributes are in these namespaces, in this order.
@@ -170,7 +173,7 @@ fn names_get_their_namespaces(rt: HostRuntime) -> Result<(), Fail> {
 
 #[test]
 fn a_tag_may_be_no_text(rt: HostRuntime) -> Result<(), Fail> {
-    let fault = fault_of(rt.alloc(), b"e", &[(b"a", b"\xff")])?;
+    let fault = fault_of(rt.alloc(), b"e", &[(b"a\xff", b"1")])?;
     assert!(&rt; fault == Some(TagFault::NotUtf8));
     Ok(())
 }

@@ -82,11 +82,14 @@ impl Names {
         Ok(())
     }
 
-    /// Takes the innermost name away, where there is one.
+    /// Takes the innermost name away, where there is one. Keeps no room for names where none is left but one.
     pub(crate) fn pop(&mut self)
         ensures { self.new ≡ outer self.old }
     {
         self.innermost = self.others.pop();
+        if self.others.is_empty() {
+            self.others = Vec::new(self.alloc);
+        }
     }
 
     /// How many names there are.

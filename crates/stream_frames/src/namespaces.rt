@@ -1,12 +1,13 @@
 //! The names on a tag, with the namespaces that are declared (Namespaces in XML 1.0).
 
-ghost use Rattle.std.specs.Prelude.{◌≡◌, None, map, IfOk};
+ghost use Rattle.std.specs.Prelude.{◌≡◌, None, map, IfOk, vec_len, vec_capacity};
 ghost use Rattle.std.specs.Option.{option_copied};
 ghost use Rattle.stream_frames.specs.Expanded.{full_name, fault_of_names};
+ghost use Rattle.stream_frames.specs.Spaces.{space_bytes, bound_space};
 ghost use Rattle.stream_grammar.specs.Namespaces.{colon_at, has_prefix, prefix_of, local_of, is_declaration, declared_prefix, may_undo, may_declare, last_space, last_layer, space_of, attribute_space, is_forbidden, has_forbidden, own, space_before};
 
 use crate::expanded::{Expanded, any_repeat, any_unbound};
-use stanza_tree::{NoMemory, Several};
+use stanza_tree::{NoMemory, Several, Text};
 use std::alloc::Global;
 use stream_grammar::{Binding, NameFault, Written};
 
@@ -14,8 +15,26 @@ const XML_SPACE: &[u8] = b"http://www.w3.org/XML/1998/namespace";
 
 const XMLNS_SPACE: &[u8] = b"http://www.w3.org/2000/xmlns/";
 
+/// What a prefix is bound to: before any tag, or by one.
+#[derive(Clone, Copy)]
+pub(crate) enum Space<'a> {
+    Fixed(&'static [u8]),
+    Bound(&'a Text),
+}
+
+impl<'a> Space<'a> {
+    pub(crate) fn bytes(self) -> &'a [u8]
+        ensures { result.now ≡ space_bytes self.entry }
+    {
+        match self {
+            Space::Fixed(bytes) => bytes,
+            Space::Bound(text) => text.bytes(),
+        }
+    }
+}
+
 /// The place of the colon, or the number of all bytes.
-fn colon_place(name: &[u8]) -> usize
+pub(crate) fn colon_place(name: &[u8]) -> usize
     ensures { result ≡ colon_at name.now }
 {
     for (i, byte) in name.iter().enumerate() {
@@ -84,13 +103,13 @@ fn may_be_declared(prefix: &[u8], space: &[u8]) -> bool
 }
 
 /// What the last of these bindings of the prefix binds it to.
-pub(crate) fn last_bound<'a>(bindings: &'a [Binding], prefix: &[u8]) -> Option<&'a [u8]>
+pub(crate) fn last_bound<'a>(bindings: &'a [Binding], prefix: &[u8]) -> Option<&'a Text>
     ensures { option_copied result ≡ last_space None bindings.entry.now prefix.now }
 {
     for i in (0..bindings.len()).rev() {
         let binding = &bindings[i];
         if binding.prefix.slice() == prefix {
-            return Some(binding.space.slice());
+            return Some(&binding.space);
         }
     }
     None
@@ -99,36 +118,36 @@ pub(crate) fn last_bound<'a>(bindings: &'a [Binding], prefix: &[u8]) -> Option<&
 /// The same through the bindings of each element, which come outermost first, or else what was given. The innermost are
 /// looked at first.
 pub(crate) fn last_in_layers<'a>(
-    given: Option<&'a [u8]>,
+    given: Option<Space<'a>>,
     layers: &'a [Several<Binding>],
     prefix: &[u8],
-) -> Option<&'a [u8]>
-    ensures { option_copied result ≡ last_layer (option_copied given.entry) layers.now prefix.now }
+) -> Option<Space<'a>>
+    ensures { bound_space result ≡ last_layer (bound_space given.entry) layers.now prefix.now }
 {
     for i in (0..layers.len()).rev() {
         if let Some(space) = last_bound(layers[i].slice(), prefix) {
-            return Some(space);
+            return Some(Space::Bound(space));
         }
     }
     given
 }
 
 /// What the prefix is bound to before any tag: the default namespace to nothing, and `xml`.
-pub(crate) fn bound_before(prefix: &[u8]) -> Option<&'static [u8]>
-    ensures { option_copied result ≡ space_before prefix.now }
+pub(crate) fn bound_before(prefix: &[u8]) -> Option<Space<'static>>
+    ensures { bound_space result ≡ space_before prefix.now }
 {
     if prefix == b"".as_slice() {
-        Some(&[])
+        Some(Space::Fixed(&[]))
     } else if prefix == b"xml".as_slice() {
-        Some(XML_SPACE)
+        Some(Space::Fixed(XML_SPACE))
     } else {
         None
     }
 }
 
 /// What the prefix stands for.
-pub(crate) fn bound<'a>(bindings: &'a [Several<Binding>], prefix: &[u8]) -> Option<&'a [u8]>
-    ensures { option_copied result ≡ space_of bindings.now prefix.now }
+pub(crate) fn bound<'a>(bindings: &'a [Several<Binding>], prefix: &[u8]) -> Option<Space<'a>>
+    ensures { bound_space result ≡ space_of bindings.now prefix.now }
 {
     if prefix == b"xmlns".as_slice() {
         None
@@ -138,15 +157,18 @@ pub(crate) fn bound<'a>(bindings: &'a [Several<Binding>], prefix: &[u8]) -> Opti
 }
 
 /// The namespace of an attribute of that name.
-pub(crate) fn attribute_bound<'a>(bindings: &'a [Several<Binding>], name: &[u8]) -> Option<&'a [u8]>
-    ensures { option_copied result ≡ attribute_space bindings.now name.now }
+pub(crate) fn attribute_bound<'a>(
+    bindings: &'a [Several<Binding>],
+    name: &[u8],
+) -> Option<Space<'a>>
+    ensures { bound_space result ≡ attribute_space bindings.now name.now }
 {
     if declares(name) {
-        Some(XMLNS_SPACE)
+        Some(Space::Fixed(XMLNS_SPACE))
     } else if has_a_prefix(name) {
         bound(bindings, prefix(name))
     } else {
-        Some(&[])
+        Some(Space::Fixed(&[]))
     }
 }
 
@@ -154,7 +176,7 @@ fn is_forbidden_here(attribute: &Written) -> bool
     ensures { result ≡ is_forbidden attribute.now }
 {
     let name = attribute.name.slice();
-    declares(name) && !may_be_declared(declared(name), attribute.value.slice())
+    declares(name) && !may_be_declared(declared(name), attribute.value.bytes())
 }
 
 fn any_forbidden(attributes: &[Written]) -> bool
@@ -171,17 +193,17 @@ fn any_forbidden(attributes: &[Written]) -> bool
 /// The fault of a tag by the namespace of its element and the expanded names of its attributes. Each two names are
 /// compared, so the time grows with the attributes times the bytes of their names and namespaces.
 pub(crate) fn name_fault(
-    space: Option<&[u8]>,
+    space: Option<Space<'_>>,
     names: &[Expanded<'_>],
     attributes: &[Written],
 ) -> Option<NameFault>
-    ensures { result ≡ fault_of_names (option_copied space.entry) (map full_name names.now) attributes.now }
+    ensures { result ≡ fault_of_names (bound_space space.entry) (map full_name names.now) attributes.now }
 {
     if space.is_none() || any_unbound(names) {
         return Some(NameFault::BadPrefix);
     }
     let is_xml = match space {
-        Some(space) => space == XML_SPACE,
+        Some(space) => space.bytes() == XML_SPACE,
         None => false,
     };
     if is_xml || any_forbidden(attributes) || any_repeat(names) {
@@ -190,20 +212,15 @@ pub(crate) fn name_fault(
     None
 }
 
-fn copied(alloc: Global, bytes: &[u8]) -> Result<Several<u8>, NoMemory>
-    ensures { IfOk result (λ s. s ≡ bytes.now) }
-{
-    let mut copy = Vec::new(alloc);
-    copy.extend_from_slice(bytes)?;
-    Ok(Several::of(copy))
-}
-
-fn bind(alloc: Global, prefix: &[u8], space: &[u8]) -> Result<Binding, NoMemory>
+fn bind(alloc: Global, prefix: &[u8], space: &Text) -> Result<Binding, NoMemory>
     ensures { IfOk result (λ b. b ≡ record { prefix = prefix.now; space = space.now }) }
 {
-    let prefix = copied(alloc, prefix)?;
-    let space = copied(alloc, space)?;
-    Ok(Binding { prefix, space })
+    let mut copied = Vec::new(alloc);
+    copied.extend_from_slice(prefix)?;
+    Ok(Binding {
+        prefix: Several::of(copied),
+        space: space.copy(alloc)?,
+    })
 }
 
 /// The prefix that a declaration of that name declares; empty for the default namespace.
@@ -211,6 +228,21 @@ fn declared(name: &[u8]) -> &[u8]
     ensures { result.now ≡ declared_prefix name.now }
 {
     if has_a_prefix(name) { local(name) } else { &[] }
+}
+
+/// From now on what a tag declares shares its bytes with the bindings, and so with the names that are in it.
+pub(crate) fn share_declared(alloc: Global, attributes: &mut Vec<Written>) -> Result<(), NoMemory>
+    ensures items { attributes.new.items ≡ attributes.old.items }
+    ensures len { vec_len attributes.new ≡ vec_len attributes.old }
+    ensures capacity { vec_capacity attributes.new ≡ vec_capacity attributes.old }
+{
+    for i in 0..attributes.len() {
+        let attribute = &mut attributes[i];
+        if declares(attribute.name.slice()) {
+            attribute.value.share(alloc)?;
+        }
+    }
+    Ok(())
 }
 
 /// The bindings that a tag with these attributes declares, in their order.
@@ -221,7 +253,7 @@ pub fn own_bindings(alloc: Global, attributes: &[Written]) -> Result<Several<Bin
     for attribute in attributes {
         let name = attribute.name.slice();
         if declares(name) {
-            bindings.push(bind(alloc, declared(name), attribute.value.slice())?)?;
+            bindings.push(bind(alloc, declared(name), &attribute.value)?)?;
         }
     }
     Ok(Several::of(bindings))

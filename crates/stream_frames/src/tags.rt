@@ -1,18 +1,20 @@
 //! A tag becomes an element without children: its names get their namespaces (Namespaces in XML 1.0).
 
-ghost use Rattle.std.specs.Prelude.{◌≡◌, [], ◌∷◌, ◌++◌, true, ◌&&◌, None, map, IfOk, IfErr, OnOk};
-ghost use Rattle.std.specs.Option.{option_copied};
+ghost use Rattle.std.specs.Prelude.{◌≡◌, ◌+◌, ◌≤◌, [], ◌∷◌, ◌++◌, length, true, None, map, IfOk, IfErr, OnOk, vec_len, vec_capacity};
 ghost use Rattle.std.specs.Str.{is_utf8};
-ghost use Rattle.stream_grammar.specs.Namespaces.{space_of, tag_fault};
-ghost use Rattle.stream_frames.specs.Expanded.{full_name, attr_of, attrs_of};
-ghost use Rattle.stream_grammar.specs.Resolving.{or_none, name_on, attrs_on, is_text_attr, are_text_attrs, is_text_tag};
+ghost use Rattle.stream_grammar.specs.Namespaces.{local_of, tag_fault};
+ghost use Rattle.stream_frames.specs.Expanded.{full_name, spaces_of, are_texts};
+ghost use Rattle.stream_frames.specs.Filled.{spaces_on, attr_in, attrs_in, element_in};
+ghost use Rattle.stream_grammar.specs.Resolving.{or_none, name_on, attrs_on, is_text_name, are_text_attrs, is_text_tag};
 ghost use Rattle.stream_frames.specs.TagFaults.{IsRefused, IsTagFault};
+ghost use Rattle.stream_frames.specs.Spaces.{bound_space};
 
 use crate::expanded::{Expanded, expanded_names};
-use crate::namespaces::{bound, declares, local, name_fault, prefix};
+use crate::namespaces::{
+    Binding, NameFault, Space, Written, bound, colon_place, declares, local, name_fault, prefix,
+};
 use stanza_tree::{Attr, Element, Name, Several, Text, TextFault};
 use std::alloc::{AllocError, Global};
-use stream_grammar::{Binding, NameFault, Written};
 
 /// Why a tag did not become an element.
 #[derive(Clone, Copy, Debug, PartialEq, Eq)]
@@ -47,73 +49,101 @@ pub(crate) fn text(alloc: Global, bytes: &[u8]) -> Result<Text, TagFault>
     }
 }
 
-fn full_name(alloc: Global, space: &[u8], local: &[u8]) -> Result<Name, TagFault>
-    ensures ok { IfOk result (λ n. n ≡ record { space = space.now; local = local.now }) }
-    ensures utf8 { OnOk result ((is_utf8 space.now && is_utf8 local.now) ≡ true) }
-    ensures err { IfErr result (IsRefused (is_utf8 space.now && is_utf8 local.now)) }
+/// Whether the bytes are UTF-8 (RFC 3629).
+fn is_text(bytes: &[u8]) -> bool
+    ensures { result ≡ is_utf8 bytes.now }
 {
-    let space = text(alloc, space)?;
-    let local = text(alloc, local)?;
-    Ok(Name { space, local })
-}
-
-/// A namespace, or none.
-pub(crate) fn space_or_none(space: Option<&[u8]>) -> &[u8]
-    ensures { result.now ≡ or_none (option_copied space.entry) }
-{
-    match space {
-        Some(space) => space,
-        None => &[],
+    match std::str::from_utf8(bytes) {
+        Ok(_) => true,
+        Err(_) => false,
     }
 }
 
-fn full_attr(alloc: Global, name: &Expanded<'_>) -> Result<Attr, TagFault>
-    ensures ok { IfOk result (λ a. a ≡ attr_of (full_name name.now)) }
-    ensures utf8 { OnOk result (is_text_attr (attr_of (full_name name.now)) ≡ true) }
-    ensures err { IfErr result (IsRefused (is_text_attr (attr_of (full_name name.now)))) }
+/// Another text of the same bytes; no memory is taken where they are shared.
+fn copied(alloc: Global, text: &Text) -> Result<Text, TagFault>
+    ensures ok { IfOk result (λ t. t ≡ text.now) }
+    ensures utf8 { OnOk result (is_utf8 text.now ≡ true) }
+    ensures err { IfErr result (IsRefused (is_utf8 text.now)) }
 {
-    let full = full_name(alloc, space_or_none(name.space), name.local)?;
-    let value = text(alloc, name.written.value.slice())?;
-    Ok(Attr { name: full, value })
+    Ok(text.copy(alloc)?)
 }
 
-fn add(attrs: &mut Vec<Attr>, attr: Attr) -> Result<(), AllocError>
-    ensures { OnOk result (attrs.new.items ≡ attrs.old.items ++ attr ∷ []) }
+/// A namespace as a text, or none. One that a tag declared shares its bytes with the binding.
+pub(crate) fn space_text(alloc: Global, space: Option<Space<'_>>) -> Result<Text, TagFault>
+    ensures ok { IfOk result (λ t. t ≡ or_none (bound_space space.entry)) }
+    ensures utf8 { OnOk result (is_utf8 (or_none (bound_space space.entry)) ≡ true) }
+    ensures err { IfErr result (IsRefused (is_utf8 (or_none (bound_space space.entry)))) }
 {
-    attrs.push(attr)?;
+    match space {
+        Some(Space::Fixed(bytes)) => text(alloc, bytes),
+        Some(Space::Bound(text)) => copied(alloc, text),
+        None => Ok(Text::empty(alloc)),
+    }
+}
+
+/// The namespace of a name, where its local part is a text too.
+fn name_space(alloc: Global, space: Option<Space<'_>>, local: &[u8]) -> Result<Text, TagFault>
+    ensures ok { IfOk result (λ t. t ≡ or_none (bound_space space.entry)) }
+    ensures utf8 { OnOk result (is_text_name (record { space = or_none (bound_space space.entry); local = local.now }) ≡ true) }
+    ensures err { IfErr result (IsRefused (is_text_name (record { space = or_none (bound_space space.entry); local = local.now }))) }
+{
+    let space = space_text(alloc, space)?;
+    if is_text(local) {
+        Ok(space)
+    } else {
+        Err(TagFault::NotUtf8)
+    }
+}
+
+fn add(spaces: &mut Vec<Text>, space: Text) -> Result<(), AllocError>
+    ensures { OnOk result (spaces.new.items ≡ spaces.old.items ++ space ∷ []) }
+{
+    spaces.push(space)?;
     Ok(())
 }
 
-fn full_attrs(alloc: Global, names: &[Expanded<'_>]) -> Result<Several<Attr>, TagFault>
-    ensures ok { IfOk result (λ s. s ≡ attrs_of (map full_name names.now)) }
-    ensures utf8 { OnOk result (are_text_attrs (attrs_of (map full_name names.now)) ≡ true) }
-    ensures err { IfErr result (IsRefused (are_text_attrs (attrs_of (map full_name names.now)))) }
+/// The namespaces of the attributes that are no declarations.
+fn attribute_spaces(alloc: Global, names: &[Expanded<'_>]) -> Result<Vec<Text>, TagFault>
+    ensures ok { IfOk result (λ v. v.items ≡ spaces_of (map full_name names.now)) }
+    ensures utf8 { OnOk result (are_texts (map full_name names.now) ≡ true) }
+    ensures err { IfErr result (IsRefused (are_texts (map full_name names.now))) }
 {
-    let mut attrs = Vec::new(alloc);
+    let mut spaces = Vec::new(alloc);
     for name in names {
         if !declares(name.written.name.slice()) {
-            match full_attr(alloc, name) {
-                Ok(attr) => add(&mut attrs, attr)?,
+            match name_space(alloc, name.space, name.local) {
+                Ok(space) => add(&mut spaces, space)?,
                 Err(fault) => return Err(fault),
             }
         }
     }
-    Ok(Several::of(attrs))
+    Ok(spaces)
 }
 
-/// The element that a tag begins, without children. The bindings are those of each element round it, outermost first,
-/// and then its own. The prefix of each name is looked up once, so the time grows with the attributes times the bindings;
-/// and with the attributes times the bytes of their names and namespaces, since each two names are compared.
-#[tactic(auto, using(crate::proofs::ExpandedLemmas::fault_by_names, crate::proofs::ExpandedLemmas::attrs_by_names))]
+/// What a tag needs to become an element, besides its names and values: the namespaces that these names are in, and room for
+/// its attributes.
+#[derive(Drop)]
+pub struct Resolved {
+    pub space: Text,
+    pub spaces: Vec<Text>,
+    pub room: Vec<Attr>,
+}
+
+/// What a tag with this name and these attributes needs to become an element, or why it can't. The bindings are those of each
+/// element round it, outermost first, and then its own. The prefix of each name is looked up once, so the time grows with the
+/// attributes times the bindings; and with the attributes times the bytes of their names and namespaces, since each two names
+/// are compared.
+#[tactic(auto, using(crate::proofs::ExpandedLemmas::fault_by_names, crate::proofs::ExpandedLemmas::spaces_by_names, crate::proofs::ExpandedLemmas::texts_by_names, crate::proofs::FillLemmas::attrs_filled))]
 pub fn resolve(
     alloc: Global,
     layers: &[Several<Binding>],
     name: &[u8],
     attributes: &[Written],
-) -> Result<Element, TagFault>
-    ensures name { IfOk result (λ e. e.name ≡ name_on layers.now name.now) }
-    ensures attrs { IfOk result (λ e. e.attrs ≡ attrs_on layers.now attributes.now) }
-    ensures bare { IfOk result (λ e. e.children ≡ []) }
+) -> Result<Resolved, TagFault>
+    ensures element { IfOk result (λ r. element_in r.space r.spaces.items name.now attributes.now
+        ≡ record { name = name_on layers.now name.now; attrs = attrs_on layers.now attributes.now; children = [] }) }
+    ensures spaces { IfOk result (λ r. r.spaces.items ≡ spaces_on layers.now attributes.now) }
+    ensures room { IfOk result (λ r. (r.room.items ≡ []) × (vec_len r.room + length attributes.now ≤ vec_capacity r.room)) }
     ensures ok { OnOk result (tag_fault layers.now name.now attributes.now ≡ None) }
     ensures utf8 { OnOk result (is_text_tag layers.now name.now attributes.now ≡ true) }
     ensures fault { IfErr result (IsTagFault layers.now name.now attributes.now) }
@@ -123,11 +153,95 @@ pub fn resolve(
     if let Some(fault) = name_fault(space, names.as_slice(), attributes) {
         return Err(TagFault::Names(fault));
     }
-    let full = full_name(alloc, space_or_none(space), local(name))?;
-    let attrs = full_attrs(alloc, names.as_slice())?;
-    Ok(Element {
-        name: full,
-        attrs,
-        children: Several::of(Vec::new(alloc)),
+    let space = name_space(alloc, space, local(name))?;
+    let spaces = attribute_spaces(alloc, names.as_slice())?;
+    let room = Vec::with_capacity(alloc, attributes.len())?;
+    Ok(Resolved {
+        space,
+        spaces,
+        room,
     })
+}
+
+/// The local part of a name, in the name's own bytes. Takes no memory.
+fn local_part(mut name: Vec<u8>) -> Vec<u8>
+    ensures { result.items ≡ local_of name.items }
+{
+    let place = colon_place(name.as_slice());
+    if place < name.len() {
+        let local = name.len() - (place + 1);
+        name.rotate_left(place + 1);
+        name.truncate(local);
+    }
+    name
+}
+
+fn local_text(name: Vec<u8>) -> Text
+    requires { is_utf8 (local_of name.items) ≡ true }
+    ensures { result ≡ local_of name.items }
+{
+    Text::of_vec(local_part(name))
+}
+
+fn full_attr(space: Text, attribute: Written) -> Attr
+    requires { is_utf8 (local_of attribute.name) ≡ true }
+    ensures { result ≡ attr_in space attribute }
+{
+    let Written { name, value } = attribute;
+    let local = local_text(name.into_vec());
+    Attr {
+        name: Name { space, local },
+        value,
+    }
+}
+
+fn full_attrs(
+    alloc: Global,
+    spaces: Vec<Text>,
+    mut room: Vec<Attr>,
+    attributes: Vec<Written>,
+) -> Several<Attr>
+    requires none { room.items ≡ [] }
+    requires room { vec_len room + length attributes.items ≤ vec_capacity room }
+    requires text { are_text_attrs (attrs_in spaces.items attributes.items) ≡ true }
+    ensures { result ≡ attrs_in spaces.items attributes.items }
+{
+    let mut spaces = spaces.into_iter();
+    for attribute in attributes {
+        if !declares(attribute.name.slice()) {
+            let space = match spaces.next() {
+                Some(space) => space,
+                None => Text::empty(alloc),
+            };
+            room.push_reserved(full_attr(space, attribute));
+        }
+    }
+    Several::of(room)
+}
+
+/// The element that a tag begins, without children. Its names and values become the element's: takes no memory, and costs the
+/// bytes of its names.
+pub fn element(
+    alloc: Global,
+    resolved: Resolved,
+    name: Vec<u8>,
+    attributes: Vec<Written>,
+) -> Element
+    requires none { resolved.room.items ≡ [] }
+    requires room { vec_len resolved.room + length attributes.items ≤ vec_capacity resolved.room }
+    requires text { is_utf8 (local_of name.items) ≡ true }
+    requires texts { are_text_attrs (attrs_in resolved.spaces.items attributes.items) ≡ true }
+    ensures { result ≡ element_in resolved.space resolved.spaces.items name.items attributes.items }
+{
+    let Resolved {
+        space,
+        spaces,
+        room,
+    } = resolved;
+    let local = local_text(name);
+    Element {
+        name: Name { space, local },
+        attrs: full_attrs(alloc, spaces, room, attributes),
+        children: Several::of(Vec::new(alloc)),
+    }
 }

@@ -141,6 +141,10 @@ fn make(
     ensures err { OnErr result ((standing.new ≡ standing.old) × (open.new ≡ open.old) × (raw name.new ≡ raw name.old)) }
 {
     match made {
+        Move::To(Place::Inside) => {
+            *name = OpenName::beginning(alloc, 0);
+            *standing = standing_of(Place::Inside, open);
+        }
         Move::To(place) => *standing = standing_of(place, open),
         Move::Roots(byte) => {
             *open = Names::new(alloc);

@@ -63,12 +63,12 @@ settled_words words (x ∷ xs) = with_last words x ∷ xs
 
 -- the start tag of the stream: its header
 abbrev pub headed : List (List Binding) → Building → Building
-headed layers b = record b { layers = layers; item = Some (item.Header (element_with layers b.tag []) (or_none (space_of layers []))) }
+headed layers b = record b { tag = nothing_gathered; layers = layers; item = Some (item.Header (element_with layers b.tag []) (or_none (space_of layers []))) }
 
 -- another start tag
 abbrev pub begun : List (List Binding) → Building → Building
 begun layers b =
-    record b { layers = layers; opened = record { name = name_on layers b.tag.name; attrs = attrs_on layers b.tag.attributes; children = [] } ∷ settled_words b.words b.opened; words = [] }
+    record b { tag = nothing_gathered; layers = layers; opened = record { name = name_on layers b.tag.name; attrs = attrs_on layers b.tag.attributes; children = [] } ∷ settled_words b.words b.opened; words = [] }
 
 -- an element came to its end, and these are open round it
 abbrev pub ended_in : Element → List ℕ → List Opened → Building → Building
@@ -84,11 +84,11 @@ abbrev pub worded_in : List Opened → ℕ → Building → Building
 worded_in [] c b = b
 worded_in (x ∷ xs) c b = record b { words = b.words ++ encode_utf8 c }
 
--- what a token does
+-- what a token does; at its end nothing of a tag is left but what became of it
 abbrev pub build : Building → Token → Building
 build b (token.TagEnds false) = if length b.layers == 0 then headed (inside_of b.layers b.tag) b else begun (inside_of b.layers b.tag) b
-build b (token.TagEnds true) = ended_in (element_with (inside_of b.layers b.tag) b.tag []) b.words b.opened b
-build b token.CloseEnds = closed_in b.opened b
+build b (token.TagEnds true) = ended_in (element_with (inside_of b.layers b.tag) b.tag []) b.words b.opened (record b { tag = nothing_gathered })
+build b token.CloseEnds = closed_in b.opened (record b { tag = nothing_gathered })
 build b (token.Word c) = worded_in b.opened c b
 build b t = record b { tag = gather b.tag t }
 

@@ -23,16 +23,13 @@ abbrev pub attrs_on : List (List Binding) → List Written → List Attr
 attrs_on layers [] = []
 attrs_on layers (a ∷ more) = if is_declaration a.name then attrs_on layers more else attr_on layers a ∷ attrs_on layers more
 
--- names and values are texts
+-- names and namespaces are texts
 abbrev pub is_text_name : Name → Bool
 is_text_name n = is_utf8 n.space && is_utf8 n.local
 
-abbrev pub is_text_attr : Attr → Bool
-is_text_attr a = is_text_name a.name && is_utf8 a.value
-
 abbrev pub are_text_attrs : List Attr → Bool
 are_text_attrs [] = true
-are_text_attrs (a ∷ more) = is_text_attr a && are_text_attrs more
+are_text_attrs (a ∷ more) = is_text_name a.name && are_text_attrs more
 
 abbrev pub is_text_tag : List (List Binding) → List ℕ → List Written → Bool
 is_text_tag layers name attributes = is_text_name (name_on layers name) && are_text_attrs (attrs_on layers attributes)

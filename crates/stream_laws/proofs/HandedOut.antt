@@ -17,7 +17,7 @@ use Rattle.stream_grammar.specs.Streams.{IsShortest, IsStream}
 use Rattle.stream_grammar.specs.Nesting.{start}
 use Rattle.stream_grammar.specs.Framing.{Frame, frame_next, frame_after, first_frame, is_broken}
 use Rattle.stream_grammar.specs.Items.{head_tokens, ends_so, HasCome, told_at, tokens_told}
-use Rattle.stream_grammar.specs.Gathering.{whole_tag}
+use Rattle.stream_grammar.specs.Gathering.{nothing_gathered, whole_tag}
 use Rattle.stream_grammar.specs.Elements.{inside_of, outside_all, header_of, default_of, tops_of, IsNamed}
 use Rattle.stream_grammar.specs.Building.{Opened, Building, nothing_built, ended_in, closed_in, build, build_all}
 use Rattle.stream_grammar.specs.Parts.{IsItem}
@@ -52,8 +52,8 @@ close-same (o ∷ p ∷ os) b h = absurd (no-more _ os h)
 
 item-same : (b : Building) (t : Token) → ends_tag t ≡ true → (build b t).opened ≡ [] → (build (clear b) t).item ≡ (build b t).item
 item-same b (token.TagEnds false) h o = if-same (length b.layers == 0) _ _ _ _ o refl (λ k. no-more _ _ k)
-item-same b (token.TagEnds true) h o = hollow-same _ b.words b.opened b o
-item-same b token.CloseEnds h o = close-same b.opened b o
+item-same b (token.TagEnds true) h o = hollow-same _ b.words b.opened (record b { tag = nothing_gathered }) o
+item-same b token.CloseEnds h o = close-same b.opened (record b { tag = nothing_gathered }) o
 item-same b t h o = absurd (let bad : false ≡ true = h in cc)
 
 -- What is built of the item's tokens.

@@ -6,6 +6,7 @@ use Rattle.stream_lex.specs.declared.Token.{Token}
 use Rattle.stream_lex.specs.declared.Token.TheVariants as token
 use Rattle.stream_lex.specs.declared.stages.State.{State}
 use Rattle.stanza_tree.specs.declared.node.Element.{Element}
+use Rattle.stream_grammar.specs.Gathering.{nothing_gathered}
 use Rattle.stream_grammar.specs.declared.FrameFault.{FrameFault}
 use Rattle.stream_grammar.specs.declared.item.Limits.{Limits}
 use Rattle.stream_grammar.specs.declared.rules.Rules.{Rules}
@@ -42,8 +43,8 @@ clear-word (x ∷ xs) c b = refl
 
 pub clear-one : (b : Building) (t : Token) → clear (build (clear b) t) ≡ clear (build b t)
 clear-one b (token.TagEnds false) = if-clear (length b.layers == 0) _ _ _ _ refl refl
-clear-one b (token.TagEnds true) = clear-hollow _ b.words b.opened b
-clear-one b token.CloseEnds = clear-close b.opened b
+clear-one b (token.TagEnds true) = clear-hollow _ b.words b.opened (record b { tag = nothing_gathered })
+clear-one b token.CloseEnds = clear-close b.opened (record b { tag = nothing_gathered })
 clear-one b (token.Word c) = clear-word b.opened c b
 clear-one b t = refl
 

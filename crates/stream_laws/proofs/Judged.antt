@@ -18,7 +18,7 @@ use Rattle.stream_grammar.specs.Items.{head_tokens, told_at, tokens_told}
 use Rattle.stream_grammar.specs.Telling.{are_words, is_few}
 use Rattle.stream_grammar.specs.Namespaces.{own}
 use Rattle.stream_grammar.specs.Resolving.{name_on, attrs_on}
-use Rattle.stream_grammar.specs.Gathering.{Gathered, whole_tag}
+use Rattle.stream_grammar.specs.Gathering.{Gathered, nothing_gathered, whole_tag}
 use Rattle.stream_grammar.specs.Elements.{inside_of, outside_all, header_of, default_of, fault_of_tag, AreNamed, IsNamed}
 use Rattle.stream_grammar.specs.Building.{Opened, Building, nothing_built, settled_words, build, build_all, named_fault, tag_judged, told_judged}
 use Rattle.stream_grammar.specs.Reading.{Reading, reads, stopped, first_reading, concluded, byte_judged, or_else, is_stopped, went, rules_of, extent_after, told_number}
@@ -156,10 +156,10 @@ element-named t h f inner later g layers os words i deep j =
     let into : List (List Binding) = inside_of layers (whole_tag t) in
     let new : Opened = record { name = name_on into (whole_tag t).name; attrs = attrs_on into (whole_tag t).attributes; children = [] } in
     let one : fault_of_tag layers (whole_tag t) ≡ None = tag-judged b t false (judged-front (tag_tokens t false) (content_tokens h ++ (end_tokens t.name ++ content_tokens f)) b j) in
-    let begun : build_all b (tag_tokens t false) ≡ made (whole_tag t) into (new ∷ settled_words words os) [] i = tag-made b t false ∙ start-if (length layers == 0) _ (made (whole_tag t) into (new ∷ settled_words words os) [] i) deep in
+    let begun : build_all b (tag_tokens t false) ≡ made nothing_gathered into (new ∷ settled_words words os) [] i = tag-made b t false ∙ start-if (length layers == 0) _ (made nothing_gathered into (new ∷ settled_words words os) [] i) deep in
     let rest : AreJudged (build_all b (tag_tokens t false)) (content_tokens h ++ (end_tokens t.name ++ content_tokens f)) = judged-back (tag_tokens t false) (content_tokens h ++ (end_tokens t.name ++ content_tokens f)) b j in
     let within : AreNamed into h =
-    on-named h inner (build_all b (tag_tokens t false)) into (not-empty layers (own (whole_tag t).attributes)) (whole_tag t, new ∷ settled_words words os, [], i, begun)
+    on-named h inner (build_all b (tag_tokens t false)) into (not-empty layers (own (whole_tag t).attributes)) (nothing_gathered, new ∷ settled_words words os, [], i, begun)
     (judged-front (content_tokens h) (end_tokens t.name ++ content_tokens f) (build_all b (tag_tokens t false)) rest) in
     let whole : List Token = tag_tokens t false ++ (content_tokens h ++ end_tokens t.name) in
     let after : AreJudged (build_all b whole) (content_tokens f) = judged-back whole (content_tokens f) b (subst (AreJudged b) (regroup (tag_tokens t false) (content_tokens h) (end_tokens t.name) (content_tokens f)) j) in
@@ -192,6 +192,6 @@ head-named d root f j =
     subst (λ (b : Building). AreJudged b (tag_tokens root false ++ content_tokens f)) (declared-made d) (judged-back (declaration_tokens d) (tag_tokens root false ++ content_tokens f) nothing_built j) in
     let layers : List (List Binding) = inside_of outside_all (whole_tag root) in (
       tag-judged nothing_built root false (judged-front (tag_tokens root false) (content_tokens f) nothing_built k),
-      content-named f (whole_tag root) layers [] [] (Some (item.Header (header_of root) (default_of root))) (not-empty [] (own (whole_tag root).attributes))
+      content-named f nothing_gathered layers [] [] (Some (item.Header (header_of root) (default_of root))) (not-empty [] (own (whole_tag root).attributes))
           (subst (λ (b : Building). AreJudged b (content_tokens f)) (tag-made nothing_built root false) (judged-back (tag_tokens root false) (content_tokens f) nothing_built k)),
     )

@@ -15,7 +15,7 @@ use Rattle.stream_grammar.specs.Trees.{RawName, RawAttribute, RawTag, Content, n
 use Rattle.stream_grammar.specs.Items.{head_tokens}
 use Rattle.stream_grammar.specs.Namespaces.{own}
 use Rattle.stream_grammar.specs.Resolving.{name_on, attrs_on}
-use Rattle.stream_grammar.specs.Gathering.{Gathered, gather, gather_all, whole_tag}
+use Rattle.stream_grammar.specs.Gathering.{Gathered, nothing_gathered, gather, gather_all, whole_tag}
 use Rattle.stream_grammar.specs.Elements.{inside_of, element_with, with_words, nodes_on, elements_on, outside_all, header_of, default_of}
 use Rattle.stream_grammar.specs.Building.{Opened, Building, nothing_built, with_child, with_last, last_closed, settled_words, build, build_all}
 use Rattle.stream_laws.proofs.GatherLemmas.{more-gathered, tag-gathered}
@@ -185,12 +185,12 @@ element-made t g rule g0 layers os words i deep =
     let inner : List (List Binding) = inside_of layers (whole_tag t) in
     let new : Opened = record { name = name_on inner (whole_tag t).name; attrs = attrs_on inner (whole_tag t).attributes; children = [] } in
     let rest : List Opened = settled_words words os in
-    let (g1, mid) = rule (whole_tag t) inner new rest [] i (not-empty layers (own (whole_tag t).attributes)) in
+    let (g1, mid) = rule nothing_gathered inner new rest [] i (not-empty layers (own (whole_tag t).attributes)) in
     let (g2, last) = end-made (made g1 inner (with-children new (done_on inner [] g) ∷ rest) (left_on [] g) i) t.name in (
       g2,
       build-more (made g0 layers os words i) (tag_tokens t false) (content_tokens g ++ end_tokens t.name)
-          ∙ (ap (λ (b : Building). build_all b (content_tokens g ++ end_tokens t.name)) (tag-made (made g0 layers os words i) t false ∙ start-if (length layers == 0) _ (made (whole_tag t) inner (new ∷ rest) [] i) deep)
-          ∙ (build-more (made (whole_tag t) inner (new ∷ rest) [] i) (content_tokens g) (end_tokens t.name)
+          ∙ (ap (λ (b : Building). build_all b (content_tokens g ++ end_tokens t.name)) (tag-made (made g0 layers os words i) t false ∙ start-if (length layers == 0) _ (made nothing_gathered inner (new ∷ rest) [] i) deep)
+          ∙ (build-more (made nothing_gathered inner (new ∷ rest) [] i) (content_tokens g) (end_tokens t.name)
           ∙ (ap (λ (b : Building). build_all b (end_tokens t.name)) mid ∙ last))),
     )
 
@@ -211,13 +211,13 @@ new-element layers t = record { name = name_on (inside_of layers (whole_tag t)) 
 -- the end tag of an element in an open element
 closes : (t : RawTag) (h : Content) (layers : List (List Binding)) (x : Opened) (xs : List Opened) (words : List ℕ) (i : Option Item) (g : Gathered)
     → build (made g (inside_of layers (whole_tag t)) (with-children (new-element layers t) (done_on (inside_of layers (whole_tag t)) [] h) ∷ (with_last words x ∷ xs)) (left_on [] h) i) token.CloseEnds
-    ≡ made g layers (record x { children = x.children ++ with_words words (roll-Node (Child (whole_on layers t h)) ∷ []) } ∷ xs) [] i
+    ≡ made nothing_gathered layers (record x { children = x.children ++ with_words words (roll-Node (Child (whole_on layers t h)) ∷ []) } ∷ xs) [] i
 closes t h layers x xs words i g =
     let y : Opened = with-children (new-element layers t) (done_on (inside_of layers (whole_tag t)) [] h) in
     let n : Node = roll-Node (Child (whole_on layers t h)) in
-    ap (λ (ls : List (List Binding)). made g ls (with_child [] (last_closed (left_on [] h) y) (with_last words x) ∷ xs) [] i) (but_last_layer layers (own (whole_tag t).attributes))
-    ∙ (ap (λ (e : Element). made g layers (with_child [] e (with_last words x) ∷ xs) [] i) (closed-whole layers t h)
-    ∙ ap (λ (ns : List Node). made g layers (record x { children = ns } ∷ xs) [] i) (append_assoc x.children (with_words words []) (n ∷ []) ∙ child-then x words n))
+    ap (λ (ls : List (List Binding)). made nothing_gathered ls (with_child [] (last_closed (left_on [] h) y) (with_last words x) ∷ xs) [] i) (but_last_layer layers (own (whole_tag t).attributes))
+    ∙ (ap (λ (e : Element). made nothing_gathered layers (with_child [] e (with_last words x) ∷ xs) [] i) (closed-whole layers t h)
+    ∙ ap (λ (ns : List Node). made nothing_gathered layers (record x { children = ns } ∷ xs) [] i) (append_assoc x.children (with_words words []) (n ∷ []) ∙ child-then x words n))
 
 pub content-made : (f : Content) → Content-made f
 content-made nothing g layers x xs words i deep = (g, ap (λ (l : List Node). made g layers (record x { children = l } ∷ xs) words i) (sym (append-nil x.children)))
@@ -226,7 +226,7 @@ content-made (element t h f) g layers x xs words i deep =
     let n : Node = roll-Node (Child (whole_on layers t h)) in
     let y : Opened = record x { children = x.children ++ with_words words (n ∷ []) } in
     let (g1, one) = element-made t h (content-made h) g layers (x ∷ xs) words i deep in
-    let (g2, more) = content-made f g1 layers y xs [] i deep in (
+    let (g2, more) = content-made f nothing_gathered layers y xs [] i deep in (
       g2,
       ap (build_all (made g layers (x ∷ xs) words i)) (regroup (tag_tokens t false) (content_tokens h) (end_tokens t.name) (content_tokens f))
           ∙ (build-more (made g layers (x ∷ xs) words i) (tag_tokens t false ++ (content_tokens h ++ end_tokens t.name)) (content_tokens f)
@@ -236,7 +236,7 @@ content-made (element t h f) g layers x xs words i deep =
 content-made (hollow t f) g layers x xs words i deep =
     let n : Node = roll-Node (Child (element_of layers t [])) in
     let y : Opened = record x { children = x.children ++ with_words words (n ∷ []) } in
-    let (g2, more) = content-made f (whole_tag t) layers y xs [] i deep in (
+    let (g2, more) = content-made f nothing_gathered layers y xs [] i deep in (
       g2,
       build-more (made g layers (x ∷ xs) words i) (tag_tokens t true) (content_tokens f)
           ∙ (ap (λ (b : Building). build_all b (content_tokens f)) (tag-made (made g layers (x ∷ xs) words i) t true)
@@ -253,11 +253,11 @@ last_item (e ∷ es) i = last_item es (Some (item.Top e))
 -- the end tag of a top element
 closes-top : (t : RawTag) (h : Content) (layers : List (List Binding)) (i : Option Item) (g : Gathered)
     → build (made g (inside_of layers (whole_tag t)) (with-children (new-element layers t) (done_on (inside_of layers (whole_tag t)) [] h) ∷ []) (left_on [] h) i) token.CloseEnds
-    ≡ made g layers [] [] (Some (item.Top (whole_on layers t h)))
+    ≡ made nothing_gathered layers [] [] (Some (item.Top (whole_on layers t h)))
 closes-top t h layers i g =
     let y : Opened = with-children (new-element layers t) (done_on (inside_of layers (whole_tag t)) [] h) in
-    ap (λ (ls : List (List Binding)). made g ls [] [] (Some (item.Top (last_closed (left_on [] h) y)))) (but_last_layer layers (own (whole_tag t).attributes))
-    ∙ ap (λ (e : Element). made g layers [] [] (Some (item.Top e))) (closed-whole layers t h)
+    ap (λ (ls : List (List Binding)). made nothing_gathered ls [] [] (Some (item.Top (last_closed (left_on [] h) y)))) (but_last_layer layers (own (whole_tag t).attributes))
+    ∙ ap (λ (e : Element). made nothing_gathered layers [] [] (Some (item.Top e))) (closed-whole layers t h)
 
 abbrev pub IsBetween : Building → List (List Binding) → Option Item → Type 0
 IsBetween b layers i = (g : Gathered) × (words : List ℕ) × (b ≡ made g layers [] words i)
@@ -268,7 +268,7 @@ tops-made nothing g layers words i deep = (g, words, refl)
 tops-made (word c f) g layers words i deep = tops-made f g layers words i deep
 tops-made (element t h f) g layers words i deep =
     let (g1, one) = element-made t h (content-made h) g layers [] words i deep in
-    let (g2, w2, more) = tops-made f g1 layers [] (Some (item.Top (whole_on layers t h))) deep in (
+    let (g2, w2, more) = tops-made f nothing_gathered layers [] (Some (item.Top (whole_on layers t h))) deep in (
       g2,
       w2,
       ap (build_all (made g layers [] words i)) (regroup (tag_tokens t false) (content_tokens h) (end_tokens t.name) (content_tokens f))
@@ -276,7 +276,7 @@ tops-made (element t h f) g layers words i deep =
           ∙ (ap (λ (b : Building). build_all b (content_tokens f)) (one ∙ closes-top t h layers i g1) ∙ more)),
     )
 tops-made (hollow t f) g layers words i deep =
-    let (g2, w2, more) = tops-made f (whole_tag t) layers [] (Some (item.Top (element_of layers t []))) deep in (
+    let (g2, w2, more) = tops-made f nothing_gathered layers [] (Some (item.Top (element_of layers t []))) deep in (
       g2,
       w2,
       build-more (made g layers [] words i) (tag_tokens t true) (content_tokens f) ∙ (ap (λ (b : Building). build_all b (content_tokens f)) (tag-made (made g layers [] words i) t true) ∙ more),
@@ -292,7 +292,7 @@ pub head-made : (d : Bool) (root : RawTag) (f : Content)
     → IsBetween (build_all nothing_built (head_tokens d root f)) (inside_of outside_all (whole_tag root)) (last_item (elements_on (inside_of outside_all (whole_tag root)) f) (Some (item.Header (header_of root) (default_of root))))
 head-made d root f =
     let layers : List (List Binding) = inside_of outside_all (whole_tag root) in
-    let (g, words, is) = tops-made f (whole_tag root) layers [] (Some (item.Header (header_of root) (default_of root))) (not-empty [] (own (whole_tag root).attributes)) in (
+    let (g, words, is) = tops-made f nothing_gathered layers [] (Some (item.Header (header_of root) (default_of root))) (not-empty [] (own (whole_tag root).attributes)) in (
       g,
       words,
       build-more nothing_built (declaration_tokens d) (tag_tokens root false ++ content_tokens f)

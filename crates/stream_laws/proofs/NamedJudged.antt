@@ -10,7 +10,7 @@ use Rattle.stream_grammar.specs.Trees.{RawName, RawTag, Content, nothing, word, 
 use Rattle.stream_grammar.specs.Items.{head_tokens}
 use Rattle.stream_grammar.specs.Namespaces.{own}
 use Rattle.stream_grammar.specs.Resolving.{name_on, attrs_on}
-use Rattle.stream_grammar.specs.Gathering.{Gathered, whole_tag}
+use Rattle.stream_grammar.specs.Gathering.{Gathered, nothing_gathered, whole_tag}
 use Rattle.stream_grammar.specs.Elements.{inside_of, outside_all, header_of, default_of, fault_of_tag, AreNamed, IsNamed}
 use Rattle.stream_grammar.specs.Building.{Opened, Building, nothing_built, settled_words, build, build_all}
 use Rattle.stream_laws.proofs.Ending.{regroup-stream}
@@ -46,9 +46,9 @@ element-judged t h f inner later g layers os words i deep (one, (within, after))
     let b : Building = made g layers os words i in
     let into : List (List Binding) = inside_of layers (whole_tag t) in
     let new : Opened = record { name = name_on into (whole_tag t).name; attrs = attrs_on into (whole_tag t).attributes; children = [] } in
-    let begun : build_all b (tag_tokens t false) ≡ made (whole_tag t) into (new ∷ settled_words words os) [] i = tag-made b t false ∙ start-if (length layers == 0) _ (made (whole_tag t) into (new ∷ settled_words words os) [] i) deep in
+    let begun : build_all b (tag_tokens t false) ≡ made nothing_gathered into (new ∷ settled_words words os) [] i = tag-made b t false ∙ start-if (length layers == 0) _ (made nothing_gathered into (new ∷ settled_words words os) [] i) deep in
     let mid : AreJudged (build_all b (tag_tokens t false)) (content_tokens h) =
-    on-judged h inner (build_all b (tag_tokens t false)) into (not-empty layers (own (whole_tag t).attributes)) (whole_tag t, new ∷ settled_words words os, [], i, begun) within in
+    on-judged h inner (build_all b (tag_tokens t false)) into (not-empty layers (own (whole_tag t).attributes)) (nothing_gathered, new ∷ settled_words words os, [], i, begun) within in
     let whole : List Token = tag_tokens t false ++ (content_tokens h ++ end_tokens t.name) in
     let same : content_tokens (element t h nothing) ≡ whole = ap (λ (l : List Token). tag_tokens t false ++ (content_tokens h ++ l)) (append-nil (end_tokens t.name)) in
     let last : AreJudged (build_all b whole) (content_tokens f) = on-judged f later (build_all b whole) layers deep (subst (λ (l : List Token). IsOn (build_all b l) layers) same (leaves-on (element t h nothing) g layers os words i deep)) after in
@@ -82,7 +82,7 @@ head-judged d root f (one, more) =
     let layers : List (List Binding) = inside_of outside_all (whole_tag root) in
     let content : AreJudged (build_all nothing_built (tag_tokens root false)) (content_tokens f) =
     subst (λ (b : Building). AreJudged b (content_tokens f)) (sym (tag-made nothing_built root false))
-    (content-judged f (whole_tag root) layers [] [] (Some (item.Header (header_of root) (default_of root))) (not-empty [] (own (whole_tag root).attributes)) more) in
+    (content-judged f nothing_gathered layers [] [] (Some (item.Header (header_of root) (default_of root))) (not-empty [] (own (whole_tag root).attributes)) more) in
     judged-more (declaration_tokens d) (tag_tokens root false ++ content_tokens f) nothing_built (declared-judged d)
     (subst (λ (b : Building). AreJudged b (tag_tokens root false ++ content_tokens f)) (sym (declared-made d)) (judged-more (tag_tokens root false) (content_tokens f) nothing_built (named-tag nothing_built root false one) content))
 

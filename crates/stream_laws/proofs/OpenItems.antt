@@ -6,6 +6,7 @@ use Rattle.stream_lex.specs.declared.stages.State.{State}
 use Rattle.stream_lex.specs.Turns.{Outcome, leads, fails, turn}
 use Rattle.stream_lex.specs.Reading.{Reads}
 use Rattle.stream_lex.proofs.Lists.{false-true}
+use Rattle.stream_grammar.specs.Gathering.{nothing_gathered}
 use Rattle.stream_grammar.specs.declared.rules.Rules.{Rules}
 use Rattle.stream_grammar.specs.Trees.{RawName, RawTag, Content, nothing}
 use Rattle.stream_grammar.specs.Streams.{IsShortest, Begins}
@@ -245,7 +246,7 @@ before-open r (in_tag st n i) t b h w l c = refl
 before-open r (naming_attribute st n i) t b h w l c = refl
 before-open r (in_value st n i) t b h w l c = refl
 before-open r (closing (x ∷ st) m) t b h w l c = refl
-before-open r (closing [] []) token.CloseEnds b h w (p, q) c = absurd (c (closes-stream b.opened b q))
+before-open r (closing [] []) token.CloseEnds b h w (p, q) c = absurd (c (closes-stream b.opened (record b { tag = nothing_gathered }) q))
 before-open r (closing [] []) t b h w l c = absurd (w refl)
 before-open r (closing [] (y ∷ m)) token.CloseEnds b h w l c = absurd (w refl)
 before-open r (closing [] (y ∷ m)) (token.TagEnds x) b h w l c = absurd (w refl)

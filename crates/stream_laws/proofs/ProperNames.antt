@@ -14,7 +14,7 @@ use Rattle.stream_lex.proofs.Lists.{false-true}
 use Rattle.stream_grammar.specs.declared.namespaces.Binding.{Binding}
 use Rattle.stream_grammar.specs.Trees.{RawTag}
 use Rattle.stream_grammar.specs.Namespaces.{space_of}
-use Rattle.stream_grammar.specs.Resolving.{or_none, name_on, attrs_on, is_text_name, is_text_attr, are_text_attrs, is_text_tag}
+use Rattle.stream_grammar.specs.Resolving.{or_none, name_on, attrs_on, is_text_name, are_text_attrs, is_text_tag}
 use Rattle.stream_grammar.specs.Gathering.{Gathered, written, whole_tag}
 use Rattle.stream_grammar.specs.Elements.{inside_of, fault_of_tag}
 use Rattle.stream_grammar.specs.Building.{Building, is_header, is_all_text}
@@ -89,12 +89,12 @@ ncname-text s (c, cs, e, first, more) = is_utf8-from_IsUtf8 s (c ∷ cs, (both-t
 name-text : (n : Name) → IsElementName n → is_text_name n ≡ true
 name-text n (local, space, x, y) = both-true (is_utf8 n.space) (is_utf8 n.local) (xml-text n.space space) (ncname-text n.local local)
 
-attr-text : (a : Attr) → IsAttribute a → is_text_attr a ≡ true
-attr-text a (local, space, value, x, y) = both-true (is_text_name a.name) (is_utf8 a.value) (both-true (is_utf8 a.name.space) (is_utf8 a.name.local) (xml-text a.name.space space) (ncname-text a.name.local local)) (xml-text a.value value)
+attr-text : (a : Attr) → IsAttribute a → is_text_name a.name ≡ true
+attr-text a (local, space, value, x, y) = both-true (is_utf8 a.name.space) (is_utf8 a.name.local) (xml-text a.name.space space) (ncname-text a.name.local local)
 
 attrs-text : (xs : List Attr) → AllByRecursion IsAttribute xs → are_text_attrs xs ≡ true
 attrs-text [] h = refl
-attrs-text (a ∷ xs) (one, more) = both-true (is_text_attr a) (are_text_attrs xs) (attr-text a one) (attrs-text xs more)
+attrs-text (a ∷ xs) (one, more) = both-true (is_text_name a.name) (are_text_attrs xs) (attr-text a one) (attrs-text xs more)
 
 default-text : (layers : List (List Binding)) → AreFair layers → is_utf8 (or_none (space_of layers [])) ≡ true
 default-text layers fair = by (space_of layers []) (space-fair layers [] fair)

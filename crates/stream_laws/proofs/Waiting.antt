@@ -14,7 +14,7 @@ use Rattle.stream_grammar.specs.Trees.{RawTag, Content, nothing, word, element, 
 use Rattle.stream_grammar.specs.Nesting.{Nest, nest, nest_all, start, declared, inside, naming, in_tag, naming_attribute, in_value, closing, lost}
 use Rattle.stream_grammar.specs.Framing.{Frame, open_at, ended, broken, placed, settled, frame_next, frame_after, first_frame, is_broken, has_ended}
 use Rattle.stream_grammar.specs.Items.{is_between_tops, told_at, tokens_told, head_tokens, ends_so, HasCome}
-use Rattle.stream_grammar.specs.Gathering.{whole_tag}
+use Rattle.stream_grammar.specs.Gathering.{nothing_gathered, whole_tag}
 use Rattle.stream_grammar.specs.Elements.{inside_of, element_with, elements_on, outside_all, header_of, default_of, IsNamed}
 use Rattle.stream_grammar.specs.Building.{Opened, Building, nothing_built, ended_in, closed_in, worded_in, build, build_all}
 use Rattle.stream_grammar.specs.declared.FrameFault.{FrameFault}
@@ -59,8 +59,8 @@ word-item (o ∷ os) c b x h = absurd (none-some x h)
 
 item-set : (b : Building) (t : Token) (x : Item) → (build (clear b) t).item ≡ Some x → (build b t).item ≡ Some x
 item-set b (token.TagEnds false) x h = if-item (length b.layers == 0) _ _ _ _ x refl refl h
-item-set b (token.TagEnds true) x h = hollow-item _ b.words b.opened b x h
-item-set b token.CloseEnds x h = close-item b.opened b x h
+item-set b (token.TagEnds true) x h = hollow-item _ b.words b.opened (record b { tag = nothing_gathered }) x h
+item-set b token.CloseEnds x h = close-item b.opened (record b { tag = nothing_gathered }) x h
 item-set b (token.Word c) x h = word-item b.opened c b x h
 item-set b t x h = absurd (none-some x h)
 
@@ -147,19 +147,19 @@ hollow-waits : (r : Rules) (bytes : List ℕ) (byte : ℕ) (st to : State) (n : 
     → AreJudged nothing_built (told_all r first_frame bytes ++ token.TagEnds true ∷ []) → IsItem r (bytes ++ byte ∷ []) x
 hollow-waits r bytes byte st to n b x [] o told whole levels c e j =
     top-waits r bytes byte (token.TagEnds true) b x c e refl (come-by r bytes byte st to n (token.TagEnds true) told (tag-words st to byte true) (hollow-frame r to n b levels o whole)) j
-hollow-waits r bytes byte st to n b x (y ∷ ys) o told whole levels c e j = absurd (none-some x (ap (λ (os : List Opened). (ended_in (element_with (inside_of b.layers b.tag) b.tag []) b.words os (clear b)).item) (sym o) ∙ e))
+hollow-waits r bytes byte st to n b x (y ∷ ys) o told whole levels c e j = absurd (none-some x (ap (λ (os : List Opened). (ended_in (element_with (inside_of b.layers b.tag) b.tag []) b.words os (record (clear b) { tag = nothing_gathered })).item) (sym o) ∙ e))
 
 close-waits : (r : Rules) (bytes : List ℕ) (byte : ℕ) (st to : State) (n : Nest) (b : Building) (x : Item) (os : List Opened) → b.opened ≡ os → Told r bytes byte st to n token.CloseEnds → is_broken (placed r to (nest r n token.CloseEnds)) ≡ false → Levels n b
     → clear b ≡ clear (build_all nothing_built (told_all r first_frame bytes)) → (build (clear b) token.CloseEnds).item ≡ Some x
     → AreJudged nothing_built (told_all r first_frame bytes ++ token.CloseEnds ∷ []) → IsItem r (bytes ++ byte ∷ []) x
 close-waits r bytes byte st to n b x [] o told whole levels c e j =
-    let is : item.CloseTag ≡ x = some-same _ x (ap (λ (os : List Opened). (closed_in os (clear b)).item) (sym o) ∙ e) in
+    let is : item.CloseTag ≡ x = some-same _ x (ap (λ (os : List Opened). (closed_in os (record (clear b) { tag = nothing_gathered })).item) (sym o) ∙ e) in
     let (at_it, told_so) = told in
     let end : nest r n token.CloseEnds ≡ inside [] = placed-ended r to (nest r n token.CloseEnds) (end-frame r to n b levels o whole) in
     subst (IsItem r (bytes ++ byte ∷ [])) is (end-waits r bytes byte (end-come r bytes byte st to n at_it told_so (close-words st to byte told_so) end) j)
 close-waits r bytes byte st to n b x (y ∷ []) o told whole levels c e j =
     top-waits r bytes byte token.CloseEnds b x c e refl (come-by r bytes byte st to n token.CloseEnds told (close-words st to byte) (close-frame r to n b y levels o whole)) j
-close-waits r bytes byte st to n b x (y ∷ z ∷ ys) o told whole levels c e j = absurd (none-some x (ap (λ (os : List Opened). (closed_in os (clear b)).item) (sym o) ∙ e))
+close-waits r bytes byte st to n b x (y ∷ z ∷ ys) o told whole levels c e j = absurd (none-some x (ap (λ (os : List Opened). (closed_in os (record (clear b) { tag = nothing_gathered })).item) (sym o) ∙ e))
 
 word-none : (os : List Opened) (c : ℕ) (b : Building) → (worded_in os c (clear b)).item ≡ None
 word-none [] c b = refl

@@ -1,6 +1,6 @@
 -- words after UTF-8 are UTF-8
-use Rattle.std.proofs.Common.{◌≡◌, ◌++◌, ◌∙◌, ap, sym, subst}
-use Rattle.std.specs.Prelude.{ℕ, List, IsUtf8}
+use Rattle.std.proofs.Common.{sym, subst}
+use Rattle.std.specs.Prelude.{IsUtf8}
 use Rattle.std.proofs.lemmas.Str.{IsUtf8-append}
 use Rattle.stanza_tree.proofs.children.push_words_of.Goals as goal
 

@@ -7,5 +7,5 @@ use Rattle.stanza_tree.proofs.stamp.sent_length.Goals as goal
 pub returns : goal.returns
 returns c =
     let e = ap length (text-sent c.args.from.now c.args.element.now) in
-    let content = c.closed_length.ensures (texts_under c.args.element.now.name.space c.args.element.now.children) in
+    let content = c.closed_length.ensures.whole (texts_under c.args.element.now.name.space c.args.element.now.children) in
     grind (arith, common_steps, e, content)

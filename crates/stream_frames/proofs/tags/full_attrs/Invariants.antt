@@ -1,10 +1,12 @@
-use Rattle.std.proofs.Common.{◌≡◌, ◌++◌, map, drop}
-use Rattle.stream_frames.specs.Expanded.{full_name, attrs_of}
+use Rattle.std.proofs.Common.{◌≡◌, ◌≤◌, ◌+◌, ◌++◌, length, true, vec_len, vec_capacity}
+use Rattle.std.specs.Vec.Iter.{into_iter_items}
+use Rattle.stream_frames.specs.Filled.{attrs_in}
 use Rattle.stream_grammar.specs.Resolving.{are_text_attrs}
 use Rattle.stream_frames.proofs.tags.full_attrs.Given as goal
 
-abbrev pub invariant-loop-name : goal.invariant-loop-name
-invariant-loop-name l = record {
-  built : l.attrs.items ++ attrs_of (map full_name (drop l.name-index l.names)) ≡ attrs_of (map full_name l.names);
-  text : are_text_attrs (attrs_of (map full_name l.names)) ≡ are_text_attrs (attrs_of (map full_name (drop l.name-index l.names)));
+abbrev pub invariant-loop-attribute : goal.invariant-loop-attribute
+invariant-loop-attribute l = record {
+  built : l.room.items ++ attrs_in (into_iter_items l.spaces) (into_iter_items l.attribute-iterator) ≡ attrs_in l.fn.spaces.items l.fn.attributes.items;
+  room : vec_len l.room + length (into_iter_items l.attribute-iterator) ≤ vec_capacity l.room;
+  text : are_text_attrs (attrs_in (into_iter_items l.spaces) (into_iter_items l.attribute-iterator)) ≡ true;
 }

@@ -1,0 +1,11 @@
+-- what holds its bytes holds UTF-8
+use Rattle.std.proofs.Common.{subst}
+use Rattle.std.specs.Prelude.{IsUtf8}
+use Rattle.stanza_tree.proofs.HeldLemmas.{IsUtf8-bytes_of}
+use Rattle.stanza_tree.proofs.text.Text.copy.Goals as goal
+
+pub returns-clause-utf8 : goal.returns-clause-utf8
+returns-clause-utf8 c = subst IsUtf8 c.self.view_is (IsUtf8-bytes_of c.self.inside.held)
+
+pub returns-in_err-copy-clause-utf8 : goal.returns-in_err-copy-clause-utf8
+returns-in_err-copy-clause-utf8 c = subst IsUtf8 c.self.view_is (IsUtf8-bytes_of c.self.inside.held)
