@@ -16,13 +16,13 @@ ghost use Rattle.stream_frames.specs.Builds.{opened, tag_of, building, HasChildR
 
 use crate::built::{Builder, OpenElement, Parent, Ready};
 use crate::namespaces::{
-    Binding, Space, Written, bound_before, last_bound, last_in_layers, own_bindings, share_declared,
+    Space, bound_before, last_bound, last_in_layers, own_bindings, share_declared,
 };
 use crate::tags::{Resolved, TagFault, element, resolve, space_text};
 use stanza_tree::{Element, NoMemory, Node, Several, Text};
 use std::alloc::Global;
 use std::mem;
-use stream_grammar::Item;
+use stream_grammar::{Binding, Item, Written};
 use stream_lex::Token;
 
 fn one_byte(alloc: Global, byte: u8) -> Result<Vec<u8>, NoMemory>

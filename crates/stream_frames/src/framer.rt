@@ -16,7 +16,7 @@ use crate::tracker::Tracker;
 use stanza_tree::{NoMemory, is_longer};
 use std::alloc::Global;
 use std::marker::Model;
-use stream_grammar::{FrameFault, Item, Limits, NameFault, Rules};
+use stream_grammar::{FrameFault, Item, Limits, NameFault};
 use stream_lex::Token;
 
 /// What the tokens of a byte will do, or the fault by its names of a tag that they end.
@@ -121,18 +121,6 @@ impl Model for Framer {
     ghost view = { λ f. record { limits = f.limits; reading = reading_of f.fault f.tracker.frame (building f.builder) f.extent f.offset } };
 
     ghost invariant = { λ f. (f.tracker.rules ≡ rules_of f.limits) × (f.extent ≤ 2 ^ 32) };
-}
-
-impl Limits {
-    fn rules(self) -> Rules
-        ensures { result ≡ rules_of self }
-    {
-        Rules {
-            depth: self.depth as u64,
-            attributes: self.attrs as u64,
-            loose: false,
-        }
-    }
 }
 
 impl Framer {

@@ -1,11 +1,11 @@
 //! Names of tags with the namespaces that are declared, from Namespaces in XML 1.0.
 
-use stream_grammar::NameFault::{BadPrefix, NotWellFormed};
 use crate::{TagFault, element, own_bindings, resolve};
 use stanza_tree::{Element, Several, Text};
 use std::alloc::Global;
 use std::process::Abort;
 use std::test::Fail;
+use stream_grammar::NameFault::{BadPrefix, NotWellFormed};
 use stream_grammar::{Binding, NameFault, Written};
 
 fn several(alloc: Global, bytes: &[u8]) -> Result<Several<u8>, Fail> {

@@ -10,11 +10,10 @@ ghost use Rattle.stream_frames.specs.TagFaults.{IsRefused, IsTagFault};
 ghost use Rattle.stream_frames.specs.Spaces.{bound_space};
 
 use crate::expanded::{Expanded, expanded_names};
-use crate::namespaces::{
-    Binding, NameFault, Space, Written, bound, colon_place, declares, local, name_fault, prefix,
-};
+use crate::namespaces::{Space, bound, colon_place, declares, local, name_fault, prefix};
 use stanza_tree::{Attr, Element, Name, Several, Text, TextFault};
 use std::alloc::{AllocError, Global};
+use stream_grammar::{Binding, NameFault, Written};
 
 /// Why a tag did not become an element.
 #[derive(Clone, Copy, Debug, PartialEq, Eq)]

@@ -1,4 +1,4 @@
-use Rattle.std.proofs.Common.{◌≡◌, ◌∙◌, ap}
+use Rattle.std.proofs.Common.{◌∙◌, ap}
 use Rattle.std.specs.Str.{is_utf8}
 use Rattle.stream_grammar.specs.Resolving.{or_none}
 use Rattle.stream_frames.specs.Spaces.{bound_space}
