@@ -62,10 +62,13 @@ impl Held {
         ensures { bytes_of result.0 ≡ bytes_of self }
     {
         match self {
-            Held::Own(text) => match Arc::new(alloc, text) {
-                Ok(block) => (Held::Shared(block), Ok(())),
-                Err(failed) => (Held::Own(failed.value), Err(NoMemory)),
-            },
+            Held::Own(mut text) => {
+                text.shrink_to_fit();
+                match Arc::new(alloc, text) {
+                    Ok(block) => (Held::Shared(block), Ok(())),
+                    Err(failed) => (Held::Own(failed.value), Err(NoMemory)),
+                }
+            }
             Held::Shared(text) => (Held::Shared(text), Ok(())),
         }
     }

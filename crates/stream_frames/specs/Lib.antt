@@ -8,3 +8,4 @@ pub mod Turned
 pub mod Fed
 pub mod Spaces
 pub mod Filled
+pub mod Works

@@ -3,6 +3,7 @@
 ghost use Rattle.std.specs.Prelude.{◌≡◌, ℕ, ◌<◌, ◌≤◌, ◌+◌, ◌*◌, List, [], ◌∷◌, ◌++◌, length, true, false, None, Some, IfOk, IfErr, OnOk, OnErr, vec_len, vec_capacity, string_bytes, string_len, string_capacity};
 ghost use Rattle.std.specs.Option.{is_some};
 ghost use Rattle.stream_frames.specs.Spaces.{bound_space};
+ghost use Rattle.stream_frames.specs.Works.{idle_on};
 ghost use Rattle.std.specs.Str.{is_utf8};
 ghost use Rattle.stream_grammar.specs.Namespaces.{own, space_of};
 ghost use Rattle.stream_grammar.specs.Resolving.{or_none, is_text_tag};
@@ -115,9 +116,9 @@ impl Builder {
         mem::replace(&mut self.words, String::new(self.alloc))
     }
 
-    /// Nothing of a stream yet. Takes no memory.
-    pub(crate) fn new(alloc: Global) -> Builder
-        ensures { building result ≡ nothing_built }
+    /// Nothing but the bindings of what is open. Takes no memory.
+    pub(crate) fn on(alloc: Global, layers: Vec<Several<Binding>>) -> Builder
+        ensures { building result ≡ idle_on layers.items }
     {
         Builder {
             alloc,
@@ -125,12 +126,44 @@ impl Builder {
             attributes: Vec::new(alloc),
             attribute: Vec::new(alloc),
             value: String::new(alloc),
-            layers: Vec::new(alloc),
+            layers,
             innermost: None,
             others: Vec::new(alloc),
             words: String::new(alloc),
             item: None,
         }
+    }
+
+    /// Whether there is nothing but bindings.
+    pub(crate) fn is_idle(&self) -> bool
+        ensures { result ≡ true → building self.now ≡ idle_on self.now.layers.items }
+    {
+        self.name.is_empty()
+            && self.attributes.is_empty()
+            && self.attribute.is_empty()
+            && self.value.is_empty()
+            && self.innermost.is_none()
+            && self.words.is_empty()
+            && self.item.is_none()
+    }
+
+    /// The bindings of what is open.
+    pub(crate) fn into_layers(self) -> Vec<Several<Binding>>
+        ensures { result ≡ self.layers }
+    {
+        let Builder {
+            alloc: _,
+            name: _,
+            attributes: _,
+            attribute: _,
+            value: _,
+            layers,
+            innermost: _,
+            others: _,
+            words: _,
+            item: _,
+        } = self;
+        layers
     }
 
     /// What the tag that was begun last needs to become an element, and the bindings that it declares. Leaves room for these.
@@ -337,16 +370,6 @@ impl Builder {
         self.value = String::new(self.alloc);
     }
 
-    /// Between top elements no room is kept for what is open.
-    fn release_room(&mut self)
-        ensures { building self.new ≡ building self.old }
-    {
-        if self.innermost.is_none() {
-            self.others = Vec::new(self.alloc);
-            self.layers.shrink_to(4);
-        }
-    }
-
     /// Begins an element in the innermost one.
     fn begin(&mut self, element: Element, own: Several<Binding>)
         requires layers { vec_len self.old.layers < vec_capacity self.old.layers }
@@ -441,12 +464,10 @@ impl Builder {
             Ready::Hollow(resolved) => {
                 let element = self.take_element(resolved);
                 self.add_hollow(element);
-                self.release_room();
             }
             Ready::Closes => {
                 self.empty_tag();
                 self.close();
-                self.release_room();
             }
         }
     }

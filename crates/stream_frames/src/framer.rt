@@ -9,10 +9,12 @@ ghost use Rattle.stream_grammar.specs.Items.{told_at, in_item};
 ghost use Rattle.stream_grammar.specs.Telling.{is_few};
 ghost use Rattle.stream_grammar.specs.Building.{build_all};
 ghost use Rattle.stream_frames.specs.Builds.{building};
+ghost use Rattle.stream_frames.specs.Works.{work_of};
 
 use crate::built::{Builder, Ready};
 use crate::tags::TagFault;
 use crate::tracker::Tracker;
+use crate::work::Work;
 use stanza_tree::{NoMemory, is_longer};
 use std::alloc::Global;
 use std::marker::Model;
@@ -85,6 +87,28 @@ fn advance(
     Ok(None)
 }
 
+/// The same with what is being made of a stream.
+fn advance_work(
+    limits: Limits,
+    tracker: &mut Tracker,
+    work: &mut Work,
+    extent: u64,
+    byte: u8,
+) -> Result<Option<FrameFault>, NoMemory>
+    requires { tracker.old.rules ≡ rules_of limits }
+    ensures rules { tracker.new.rules ≡ tracker.old.rules }
+    ensures fault { IfOk result (λ f. f ≡ byte_judged limits tracker.old.frame (work_of work.old) extent byte) }
+    ensures reads { IfOk result (λ f. f ≡ None → (tracker.new.frame ≡ frame_next (rules_of limits) tracker.old.frame byte) × (work_of work.new ≡ build_all (work_of work.old) (told_at tracker.old.frame byte))) }
+    ensures extent { IfOk result (λ f. f ≡ None → in_item tracker.new.frame ≡ true → extent < limits.bytes) }
+    ensures err { OnErr result ((tracker.new ≡ tracker.old) × (work_of work.new ≡ work_of work.old)) }
+{
+    work.open()?;
+    match &mut work.builder {
+        Some(builder) => advance(limits, tracker, builder, extent, byte),
+        None => unreachable!(),
+    }
+}
+
 /// There was no memory to read on. The first `taken` bytes of the piece were read, and the framer is as after these.
 #[derive(Clone, Copy, Debug, PartialEq, Eq)]
 pub struct Short {
@@ -100,7 +124,7 @@ pub struct Framer {
     alloc: Global,
     limits: Limits,
     tracker: Tracker,
-    builder: Builder,
+    work: Work,
     extent: u64,
     offset: u64,
     fault: Option<FrameFault>,
@@ -108,7 +132,7 @@ pub struct Framer {
 
 impl Model for Framer {
     ghost use Rattle.std.specs.Prelude.{◌≡◌, ◌≤◌, ◌^◌};
-    ghost use Rattle.stream_frames.specs.Builds.{building};
+    ghost use Rattle.stream_frames.specs.Works.{work_of};
     ghost use Rattle.stream_grammar.specs.Reading.{rules_of};
     ghost use Rattle.stream_frames.specs.Fed.{Fed, reading_of};
     ghost use Rattle.std.specs.Coded.{codes};
@@ -118,7 +142,7 @@ impl Model for Framer {
 
     ghost coded = { Prim.hlevel (codes, node.the_row.coded) };
 
-    ghost view = { λ f. record { limits = f.limits; reading = reading_of f.fault f.tracker.frame (building f.builder) f.extent f.offset } };
+    ghost view = { λ f. record { limits = f.limits; reading = reading_of f.fault f.tracker.frame (work_of f.work) f.extent f.offset } };
 
     ghost invariant = { λ f. (f.tracker.rules ≡ rules_of f.limits) × (f.extent ≤ 2 ^ 32) };
 }
@@ -132,7 +156,7 @@ impl Framer {
             alloc,
             limits,
             tracker: Tracker::new(alloc, limits.rules()),
-            builder: Builder::new(alloc),
+            work: Work::new(alloc),
             extent: 0,
             offset: 0,
             fault: None,
@@ -145,10 +169,10 @@ impl Framer {
         ensures ok { OnOk result (self.new ≡ record self.old { reading = reading_next self.old.limits self.old.reading byte }) }
         ensures err { OnErr result (self.new ≡ self.old) }
     {
-        let fault = advance(
+        let fault = advance_work(
             self.limits,
             &mut self.tracker,
-            &mut self.builder,
+            &mut self.work,
             self.extent,
             byte,
         )?;
@@ -156,7 +180,7 @@ impl Framer {
         if fault.is_some() {
             self.fault = fault;
             self.tracker = Tracker::new(self.alloc, self.limits.rules());
-            self.builder = Builder::new(self.alloc);
+            self.work = Work::new(self.alloc);
         } else if self.tracker.is_in_item() {
             self.extent += 1;
         } else {
@@ -169,14 +193,12 @@ impl Framer {
     fn is_done(&self) -> bool
         ensures { result ≡ is_done self.now.reading }
     {
-        self.fault.is_some() || self.builder.item.is_some()
+        self.fault.is_some() || self.work.has_item()
     }
 
-    /// Reads a piece up to the byte that ends an item or has a fault, and else to its end: how many bytes were taken. After a
-    /// fault every piece is taken whole. Costs the piece's length; at the end of an item its size too, and at the end of a tag the
-    /// square of its attributes.
+    /// Reads a piece as `feed` does.
     #[tactic(auto, using(stream_grammar::proofs::FeedLemmas::stays, stream_grammar::proofs::FeedLemmas::after_one, stream_grammar::proofs::FeedLemmas::rest_going))]
-    pub fn feed(&mut self, piece: &[u8]) -> Result<usize, Short>
+    fn read(&mut self, piece: &[u8]) -> Result<usize, Short>
         requires { is_ready self.old.reading ≡ true }
         ensures limits { self.new.limits ≡ self.old.limits }
         ensures taken { IfOk result (λ n. n ≡ taken self.old.limits self.old.reading piece.now) }
@@ -198,6 +220,22 @@ impl Framer {
         Ok(piece.len())
     }
 
+    /// Reads a piece up to the byte that ends an item or has a fault, and else to its end: how many bytes were taken. After a
+    /// fault every piece is taken whole. Costs the piece's length; at the end of an item its size too, and at the end of a tag the
+    /// square of its attributes.
+    pub fn feed(&mut self, piece: &[u8]) -> Result<usize, Short>
+        requires { is_ready self.old.reading ≡ true }
+        ensures limits { self.new.limits ≡ self.old.limits }
+        ensures taken { IfOk result (λ n. n ≡ taken self.old.limits self.old.reading piece.now) }
+        ensures read { IfOk result (λ n. self.new.reading ≡ reading_after self.old.limits self.old.reading (take n piece.now)) }
+        ensures short { IfErr result (λ s. s.taken < taken self.old.limits self.old.reading piece.now) }
+        ensures kept { IfErr result (λ s. self.new.reading ≡ reading_after self.old.limits self.old.reading (take s.taken piece.now)) }
+    {
+        let taken = self.read(piece);
+        self.work.release();
+        taken
+    }
+
     /// The item that waits. A fault is answered at every call.
     pub fn next(&mut self) -> Option<Item>
         ensures item { result ≡ waiting self.old.reading }
@@ -205,7 +243,11 @@ impl Framer {
     {
         match self.fault {
             Some(fault) => Some(Item::Broken(fault, self.offset)),
-            None => self.builder.item.take(),
+            None => {
+                let item = self.work.take_item();
+                self.work.release();
+                item
+            }
         }
     }
 
@@ -214,7 +256,7 @@ impl Framer {
         ensures { self.new ≡ record self.old { reading = first_reading } }
     {
         self.tracker = Tracker::new(self.alloc, self.limits.rules());
-        self.builder = Builder::new(self.alloc);
+        self.work = Work::new(self.alloc);
         self.extent = 0;
         self.offset = 0;
         self.fault = None;

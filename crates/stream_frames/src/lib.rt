@@ -27,6 +27,7 @@ mod tags;
 #[cfg(test)]
 mod tests;
 mod tracker;
+mod work;
 
 pub use framer::{Framer, Short};
 pub use namespaces::own_bindings;

@@ -256,5 +256,6 @@ pub fn own_bindings(alloc: Global, attributes: &[Written]) -> Result<Several<Bin
             bindings.push(bind(alloc, declared(name), &attribute.value)?)?;
         }
     }
+    bindings.shrink_to_fit();
     Ok(Several::of(bindings))
 }

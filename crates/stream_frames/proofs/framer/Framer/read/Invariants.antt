@@ -1,6 +1,6 @@
 use Rattle.std.proofs.Common.{◌≡◌, ◌+◌, take, drop, false}
 use Rattle.stream_grammar.specs.Reading.{reading_after, taken_reading, is_done}
-use Rattle.stream_frames.proofs.framer.Framer.feed.Given as goal
+use Rattle.stream_frames.proofs.framer.Framer.read.Given as goal
 
 abbrev pub invariant-loop-i : goal.invariant-loop-i
 invariant-loop-i l = record {
