@@ -115,6 +115,26 @@ fn texts_are_copied(rt: HostRuntime) -> Result<(), Fail> {
     Ok(())
 }
 
+#[test]
+fn texts_share_their_bytes(rt: HostRuntime) -> Result<(), Fail> {
+    let mut text = Text::of(rt.alloc(), "é".as_bytes())?;
+    text.share(rt.alloc())?;
+    text.share(rt.alloc())?;
+    let copy = text.copy(rt.alloc())?;
+    drop(text);
+    assert!(&rt; copy.bytes() == "é".as_bytes());
+    Ok(())
+}
+
+// Values of this type may go to other threads.
+fn may_cross_threads<T: Send + Sync>(_value: &T) {}
+
+#[test]
+fn elements_may_cross_threads(rt: HostRuntime) -> Result<(), Fail> {
+    may_cross_threads(&Element::new(rt.alloc(), b"jabber:client", b"message")?);
+    Ok(())
+}
+
 fn set(element: &mut Element, alloc: Global, local: &[u8], value: &[u8]) -> Result<(), Fail> {
     let local = Text::of(alloc, local)?;
     let value = Text::of(alloc, value)?;
@@ -194,6 +214,15 @@ const DECLARED: &[u8] =
     b"<top xmlns='urn:example:&apos;' xmlns:n0='urn:example:a' xmlns:n1='urn:example:b' n0:k='1' xml:lang='en' k='2' n1:k='3'>x<body xmlns='jabber:client'/></top>";
 
 // A namespace that is not the parent's is declared, and so is one of an attribute, but for that of `xml`.
+#[test]
+fn lengths_are_compared(rt: HostRuntime) -> Result<(), Fail> {
+    let words = said(rt.alloc(), b"jabber:client", b"body", b"Hi")?;
+    assert!(&rt; is_longer(&words, 14) && !is_longer(&words, 15));
+    let child = nested(rt.alloc(), b"jabber:client", b"message", b"body")?;
+    assert!(&rt; is_longer(&child, 25) && !is_longer(&child, 26));
+    Ok(())
+}
+
 #[test]
 fn namespaces_are_declared(rt: HostRuntime) -> Result<(), Fail> {
     let mut top = Element::new(rt.alloc(), b"urn:example:'", b"top")?;

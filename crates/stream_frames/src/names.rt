@@ -74,12 +74,20 @@ impl Names {
         ensures ok { OnOk result (self.new ≡ raw name.old ∷ self.old) }
         ensures err { OnErr result ((self.new ≡ self.old) × (raw name.new ≡ raw name.old)) }
     {
-        self.others.reserve(1)?;
-        let taken = mem::replace(name, OpenName::beginning(self.alloc, 0));
-        if let Some(before) = self.innermost.replace(taken) {
-            self.others.push_reserved(before);
+        let Some(before) = self.innermost.take() else {
+            self.innermost = Some(mem::replace(name, OpenName::beginning(self.alloc, 0)));
+            return Ok(());
+        };
+        match self.others.push(before) {
+            Ok(()) => {
+                self.innermost = Some(mem::replace(name, OpenName::beginning(self.alloc, 0)));
+                Ok(())
+            }
+            Err(failed) => {
+                self.innermost = Some(failed.value);
+                Err(NoMemory)
+            }
         }
-        Ok(())
     }
 
     /// Takes the innermost name away, where there is one. Keeps no room for names where none is left but one.

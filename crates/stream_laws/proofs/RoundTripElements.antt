@@ -12,7 +12,7 @@ use Rattle.stanza_tree.specs.declared.node.Node.TheFolds.{fold-Node, fold-Elemen
 use Rattle.stanza_tree.specs.declared.node.Node.TheOpen.{Node-F, Child, Words}
 use Rattle.stanza_tree.specs.declared.node.Node.TheViews.{out-Node, out-Element, roll-Node, roll-out-Node}
 use Rattle.stanza_tree.specs.Spelling.{Spelled, prefix, escaped_in_words, words_text, node_text, element_text, text_under, texts_under, needs_prefix, closed, opened}
-use Rattle.stanza_tree.proofs.SpellingLemmas.{text_under-parts}
+use Rattle.stanza_tree.proofs.SpellingLemmas.{text_under-parts, texts-child, texts-words}
 use Rattle.stream_lex.specs.declared.Token.{Token}
 use Rattle.stream_lex.specs.declared.Token.TheVariants as token
 use Rattle.stream_lex.proofs.Lists.{false-true}
@@ -120,14 +120,6 @@ worded-levels [] f = refl
 worded-levels (c ∷ cs) f = worded-levels cs f
 
 -- Nodes.
-
-texts-child : (parent : List ℕ) (n : Node) (ns : List Node) (c : Element) → out-Node n ≡ Child c → texts_under parent (n ∷ ns) ≡ text_under parent c ++ texts_under parent ns
-texts-child parent n ns c e =
-    ap (λ (s : Spelled). s parent ++ texts_under parent ns) (fold_out-Node Spelled Spelled node_text element_text n ∙ ap (λ x. node_text (map-Node Node Element Spelled Spelled (fold-Node Spelled Spelled node_text element_text) (fold-Element Spelled Spelled node_text element_text) x)) e)
-
-texts-words : (parent : List ℕ) (n : Node) (ns : List Node) (w : List ℕ) → out-Node n ≡ Words w → texts_under parent (n ∷ ns) ≡ words_text w ++ texts_under parent ns
-texts-words parent n ns w e =
-    ap (λ (s : Spelled). s parent ++ texts_under parent ns) (fold_out-Node Spelled Spelled node_text element_text n ∙ ap (λ x. node_text (map-Node Node Element Spelled Spelled (fold-Node Spelled Spelled node_text element_text) (fold-Element Spelled Spelled node_text element_text) x)) e)
 
 depths-node : (n : Node) (ns : List Node) (x : Node-F Node Element) → out-Node n ≡ x → depth_of_all (n ∷ ns) ≡ max (node_depth (map-Node Node Element ℕ ℕ (fold-Node ℕ ℕ node_depth element_depth) (fold-Element ℕ ℕ node_depth element_depth) x)) (depth_of_all ns)
 depths-node n ns x e =
