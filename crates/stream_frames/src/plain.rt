@@ -130,7 +130,7 @@ impl PlainReading {
         PlainReading {
             fault: None,
             frame: PlainFrame::new(alloc, Standing::Open(Place::Start)),
-            builder: Builder::new(alloc),
+            builder: Builder::on(alloc, Vec::new(alloc)),
             extent: 0,
             count: 0,
         }
