@@ -54,9 +54,9 @@ IsReady b ts (ready.AttributeByte x) = vec_len b.attribute < vec_capacity b.attr
 IsReady b ts (ready.ValueChar c) = string_len b.value + 4 ≤ string_capacity b.value
 IsReady b ts ready.ValueEnd = vec_len b.attributes < vec_capacity b.attributes
 IsReady b ts ready.Words = (string_len b.words + 4 * length ts ≤ string_capacity b.words) × (are_words ts ≡ true)
-IsReady b ts (ready.Header r t own) = (vec_len b.layers < vec_capacity b.layers) × IsOfTag b r
-IsReady b ts (ready.Begins r own) = (vec_len b.layers < vec_capacity b.layers) × (vec_len b.others < vec_capacity b.others) × HasChildRoom 2 b.innermost × IsOfTag b r
-IsReady b ts (ready.Hollow r) = HasChildRoom 2 b.innermost × IsOfTag b r
+IsReady b ts (ready.Header h) = (vec_len b.layers < vec_capacity b.layers) × IsOfTag b h.value.resolved
+IsReady b ts (ready.Begins h) = (vec_len b.layers < vec_capacity b.layers) × (vec_len b.others < vec_capacity b.others) × HasChildRoom 2 b.innermost × IsOfTag b h.value.resolved
+IsReady b ts (ready.Hollow r) = HasChildRoom 2 b.innermost × IsOfTag b r.value
 IsReady b ts ready.Closes = HasChildRoom 1 b.innermost
 IsReady b ts r = Unit {0}
 
@@ -78,7 +78,7 @@ applied (ready.AttributeByte x) ts b = record b { tag = gather b.tag (token.Attr
 applied (ready.ValueChar c) ts b = record b { tag = gather b.tag (token.Value c) }
 applied ready.ValueEnd ts b = record b { tag = gather b.tag token.ValueEnds }
 applied ready.Words ts b = build_all b ts
-applied (ready.Header r t own) ts b = record b { tag = nothing_gathered; layers = b.layers ++ own ∷ []; item = Some (item.Header (resolved_in r b.tag) t) }
-applied (ready.Begins r own) ts b = begun_in (resolved_in r b.tag) own (record b { tag = nothing_gathered })
-applied (ready.Hollow r) ts b = ended_in (resolved_in r b.tag) b.words b.opened (record b { tag = nothing_gathered })
+applied (ready.Header h) ts b = record b { tag = nothing_gathered; layers = b.layers ++ h.value.own ∷ []; item = Some (item.Header (resolved_in h.value.resolved b.tag) h.value.default_space) }
+applied (ready.Begins h) ts b = begun_in (resolved_in h.value.resolved b.tag) h.value.own (record b { tag = nothing_gathered })
+applied (ready.Hollow r) ts b = ended_in (resolved_in r.value b.tag) b.words b.opened (record b { tag = nothing_gathered })
 applied ready.Closes ts b = closed_in b.opened (record b { tag = nothing_gathered })

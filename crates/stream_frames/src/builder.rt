@@ -13,9 +13,10 @@ ghost use Rattle.stream_lex.specs.declared.Token.TheVariants as token;
 ghost use Rattle.stream_grammar.specs.Building.{Building, is_all_text, tag_judged, told_judged, nothing_built, build, build_all, last_closed, settled_words, closed_in, ended_in, with_child};
 ghost use Rattle.stream_grammar.specs.Gathering.{nothing_gathered, gather};
 ghost use Rattle.stream_grammar.specs.Telling.{is_few, are_words};
+ghost use Rattle.stream_frames.specs.declared.built.Ready.TheVariants as ready;
 ghost use Rattle.stream_frames.specs.Builds.{opened, tag_of, building, HasChildRoom, IsOfTag, IsReady, resolved_in, begun_in, applied, open_element, open_parent};
 
-use crate::built::{Builder, OpenElement, Parent, Ready};
+use crate::built::{Beginning, Builder, Heading, OpenElement, Parent, Ready};
 use crate::namespaces::{
     Space, bound_before, last_bound, last_in_layers, own_bindings, share_declared,
 };
@@ -32,6 +33,12 @@ fn one_byte(alloc: Global, byte: u8) -> Result<Vec<u8>, NoMemory>
     let mut bytes = Vec::new(alloc);
     bytes.push(byte)?;
     Ok(bytes)
+}
+
+fn boxed<T: Drop>(alloc: Global, value: T) -> Result<Box<T>, NoMemory>
+    ensures { IfOk result (λ b. b.value ≡ value) }
+{
+    Ok(Box::new(alloc, value)?)
 }
 
 /// The default namespace inside a tag that declares these bindings.
@@ -207,14 +214,19 @@ impl Builder {
     {
         let (resolved, own) = self.resolved_tag()?;
         if self.layers.is_empty() {
-            let space = default_space(self.alloc, self.layers.as_slice(), own.slice())?;
-            return Ok(Ready::Header(resolved, space, own));
+            let default_space = default_space(self.alloc, self.layers.as_slice(), own.slice())?;
+            let heading = Heading {
+                resolved,
+                own,
+                default_space,
+            };
+            return Ok(Ready::Header(boxed(self.alloc, heading)?));
         }
         if let Some(innermost) = &mut self.innermost {
             innermost.children.reserve(2)?;
         }
         self.others.reserve(1)?;
-        Ok(Ready::Begins(resolved, own))
+        Ok(Ready::Begins(boxed(self.alloc, Beginning { resolved, own })?))
     }
 
     /// What the empty-element tag that was begun last will do.
@@ -230,7 +242,7 @@ impl Builder {
         if let Some(innermost) = &mut self.innermost {
             innermost.children.reserve(2)?;
         }
-        Ok(Ready::Hollow(resolved))
+        Ok(Ready::Hollow(boxed(self.alloc, resolved)?))
     }
 
     /// What a token will do.
@@ -420,55 +432,105 @@ impl Builder {
         }
     }
 
-    /// Does what was prepared. Takes no memory.
+    /// Begins a tag of this name.
+    fn open_tag(&mut self, name: Vec<u8>)
+        ensures { building self.new ≡ record (building self.old) { tag = record { name = name.items; attributes = []; attribute = []; value = [] } } }
+    {
+        self.empty_tag();
+        self.name = name;
+    }
+
+    /// Begins an attribute of this name.
+    fn open_attribute(&mut self, name: Vec<u8>)
+        ensures { building self.new ≡ record (building self.old) { tag = record (tag_of self.old) { attribute = name.items; value = [] } } }
+    {
+        self.attribute = name;
+        self.value = String::new(self.alloc);
+    }
+
+    /// Ends the attribute that is being read.
+    fn end_value(&mut self)
+        requires { vec_len self.old.attributes < vec_capacity self.old.attributes }
+        ensures { building self.new ≡ record (building self.old) { tag = gather (tag_of self.old) token.ValueEnds } }
+    {
+        let name = mem::replace(&mut self.attribute, Vec::new(self.alloc));
+        let value = mem::replace(&mut self.value, String::new(self.alloc));
+        self.attributes.push_reserved(Written {
+            name: Several::of(name),
+            value: Text::of_string(value),
+        });
+    }
+
+    /// Ends the start tag of the stream, which then is the header that waits.
+    fn end_header(&mut self, heading: Box<Heading>)
+        requires room { vec_len self.old.layers < vec_capacity self.old.layers }
+        requires tag { IsOfTag self.old heading.value.resolved }
+        ensures { building self.new ≡ applied (ready.Header heading) [] (building self.old) }
+    {
+        let Heading {
+            resolved,
+            own,
+            default_space,
+        } = Box::into_inner(heading);
+        let root = self.take_element(resolved);
+        self.layers.push_reserved(own);
+        self.item = Some(Item::Header {
+            root,
+            default_space,
+        });
+    }
+
+    /// Ends another start tag, whose element is then open.
+    fn end_start(&mut self, beginning: Box<Beginning>)
+        requires layers { vec_len self.old.layers < vec_capacity self.old.layers }
+        requires others { vec_len self.old.others < vec_capacity self.old.others }
+        requires children { HasChildRoom 2 self.old.innermost }
+        requires tag { IsOfTag self.old beginning.value.resolved }
+        ensures { building self.new ≡ applied (ready.Begins beginning) [] (building self.old) }
+    {
+        let Beginning { resolved, own } = Box::into_inner(beginning);
+        let element = self.take_element(resolved);
+        self.begin(element, own);
+    }
+
+    /// Ends an empty-element tag.
+    fn end_hollow(&mut self, resolved: Box<Resolved>)
+        requires children { HasChildRoom 2 self.old.innermost }
+        requires tag { IsOfTag self.old resolved.value }
+        ensures { building self.new ≡ applied (ready.Hollow resolved) [] (building self.old) }
+    {
+        let element = self.take_element(Box::into_inner(resolved));
+        self.add_hollow(element);
+    }
+
+    /// Ends an end tag.
+    fn end_element(&mut self)
+        requires { HasChildRoom 1 self.old.innermost }
+        ensures { building self.new ≡ applied ready.Closes [] (building self.old) }
+    {
+        self.empty_tag();
+        self.close();
+    }
+
+    /// Does what was prepared. Takes no memory. Each case is a function of its own: what a function has of locals is made at
+    /// each call.
     pub(crate) fn apply(&mut self, ready: Ready, told: &[Token])
         requires { IsReady self.old told.now ready }
         ensures { building self.new ≡ applied ready told.now (building self.old) }
     {
         match ready {
             Ready::Nothing => {}
-            Ready::Tag(name) => {
-                self.name = name;
-                self.attributes = Vec::new(self.alloc);
-                self.attribute = Vec::new(self.alloc);
-                self.value = String::new(self.alloc);
-            }
+            Ready::Tag(name) => self.open_tag(name),
             Ready::NameByte(byte) => self.name.push_reserved(byte),
-            Ready::Attribute(name) => {
-                self.attribute = name;
-                self.value = String::new(self.alloc);
-            }
+            Ready::Attribute(name) => self.open_attribute(name),
             Ready::AttributeByte(byte) => self.attribute.push_reserved(byte),
             Ready::ValueChar(c) => self.add_value(c),
-            Ready::ValueEnd => {
-                let name = mem::replace(&mut self.attribute, Vec::new(self.alloc));
-                let value = mem::replace(&mut self.value, String::new(self.alloc));
-                self.attributes.push_reserved(Written {
-                    name: Several::of(name),
-                    value: Text::of_string(value),
-                });
-            }
+            Ready::ValueEnd => self.end_value(),
             Ready::Words => self.add_words(told),
-            Ready::Header(resolved, default_space, own) => {
-                let root = self.take_element(resolved);
-                self.layers.push_reserved(own);
-                self.item = Some(Item::Header {
-                    root,
-                    default_space,
-                });
-            }
-            Ready::Begins(resolved, own) => {
-                let element = self.take_element(resolved);
-                self.begin(element, own);
-            }
-            Ready::Hollow(resolved) => {
-                let element = self.take_element(resolved);
-                self.add_hollow(element);
-            }
-            Ready::Closes => {
-                self.empty_tag();
-                self.close();
-            }
+            Ready::Header(heading) => self.end_header(heading),
+            Ready::Begins(beginning) => self.end_start(beginning),
+            Ready::Hollow(resolved) => self.end_hollow(resolved),
+            Ready::Closes => self.end_element(),
         }
     }
 

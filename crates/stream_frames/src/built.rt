@@ -40,7 +40,22 @@ pub(crate) struct Builder {
     pub(crate) ghost alone: { innermost ≡ None → vec_len others ≡ 0 },
 }
 
-/// What a byte's tokens will do, with the memory for it taken.
+/// What makes a start tag the header of a stream, besides its names and values.
+#[derive(Drop)]
+pub(crate) struct Heading {
+    pub(crate) resolved: Resolved,
+    pub(crate) own: Several<Binding>,
+    pub(crate) default_space: Text,
+}
+
+/// What makes a start tag an open element, besides its names and values.
+#[derive(Drop)]
+pub(crate) struct Beginning {
+    pub(crate) resolved: Resolved,
+    pub(crate) own: Several<Binding>,
+}
+
+/// What a byte's tokens will do, with the memory for it taken. It is made for each byte, so what is large stands in a block.
 #[derive(Drop)]
 pub(crate) enum Ready {
     Nothing,
@@ -51,8 +66,8 @@ pub(crate) enum Ready {
     ValueChar(char),
     ValueEnd,
     Words,
-    Header(Resolved, Text, Several<Binding>),
-    Begins(Resolved, Several<Binding>),
-    Hollow(Resolved),
+    Header(Box<Heading>),
+    Begins(Box<Beginning>),
+    Hollow(Box<Resolved>),
     Closes,
 }
