@@ -1,0 +1,2 @@
+mod AddressTexts
+mod Counts

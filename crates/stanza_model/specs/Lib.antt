@@ -1,0 +1,6 @@
+pub mod Conditions
+pub mod Errors
+pub mod Forms
+pub mod Kinds
+pub mod Nonzas
+pub mod Stanzas

@@ -1,0 +1,22 @@
+//! Stanzas and nonzas as values (RFC 6120, 8; XEP-0198; XEP-0004).
+#![tactic(auto)]
+
+pub mod condition;
+pub mod error;
+pub mod form;
+#[cfg(test)]
+mod form_tests;
+pub mod kinds;
+pub mod nonza;
+#[cfg(test)]
+mod nonza_tests;
+pub mod stanza;
+#[cfg(test)]
+mod tests;
+
+pub use condition::Condition;
+pub use error::error_reply;
+pub use form::{DataForm, Field, FormFault};
+pub use kinds::{IqForm, Kind, MessageForm, PresenceForm};
+pub use nonza::Nonza;
+pub use stanza::{Stanza, StanzaFault};
