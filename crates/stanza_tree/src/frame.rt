@@ -5,7 +5,7 @@ ghost use Rattle.stanza_tree.specs.declared.frame.Entry.{Entry};
 ghost use Rattle.stanza_tree.specs.Entries.{name_end, frame};
 
 use crate::measure::value_length;
-use crate::spell::{value_escape, words_escape};
+use crate::spell::{is_plain_in_value, is_plain_in_words, value_escape, words_escape};
 use crate::text::Text;
 
 /// Why an entry is in a queue. A stay is one presence of a session in a room, and a room's order is the list of what it
@@ -46,9 +46,16 @@ pub fn append_value(bytes: &[u8], out: &mut Vec<u8>)
     ensures bytes { out.new.items ≡ out.old.items ++ value_text bytes.now }
     ensures capacity { vec_capacity out.old ≤ vec_capacity out.new }
 {
-    for byte in bytes {
+    let mut from = 0;
+    for (i, byte) in bytes.iter().enumerate() {
+        if is_plain_in_value(*byte) {
+            continue;
+        }
+        append(&bytes[from..i], out);
         append(value_escape(byte), out);
+        from = i + 1;
     }
+    append(&bytes[from..], out);
 }
 
 /// Appends bytes as they stand in words. There is room for it.
@@ -57,9 +64,16 @@ pub fn append_words(bytes: &[u8], out: &mut Vec<u8>)
     ensures bytes { out.new.items ≡ out.old.items ++ words_text bytes.now }
     ensures capacity { vec_capacity out.old ≤ vec_capacity out.new }
 {
-    for byte in bytes {
+    let mut from = 0;
+    for (i, byte) in bytes.iter().enumerate() {
+        if is_plain_in_words(*byte) {
+            continue;
+        }
+        append(&bytes[from..i], out);
         append(words_escape(byte), out);
+        from = i + 1;
     }
+    append(&bytes[from..], out);
 }
 
 /// The length of `<` and the name at the front of a text: up to the first space, `/` or `>`.
