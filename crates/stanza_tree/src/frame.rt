@@ -5,7 +5,10 @@ ghost use Rattle.stanza_tree.specs.declared.frame.Entry.{Entry};
 ghost use Rattle.stanza_tree.specs.Entries.{name_end, frame};
 
 use crate::measure::value_length;
-use crate::spell::{is_plain_in_value, is_plain_in_words, value_escape, words_escape};
+use crate::spell::{
+    are_plain_in_value, are_plain_in_words, is_plain_in_value, is_plain_in_words, value_escape,
+    words_escape,
+};
 use crate::text::Text;
 
 /// Why an entry is in a queue. A stay is one presence of a session in a room, and a room's order is the list of what it
@@ -46,6 +49,10 @@ pub fn append_value(bytes: &[u8], out: &mut Vec<u8>)
     ensures bytes { out.new.items ≡ out.old.items ++ value_text bytes.now }
     ensures capacity { vec_capacity out.old ≤ vec_capacity out.new }
 {
+    if are_plain_in_value(bytes) {
+        append(bytes, out);
+        return;
+    }
     let mut from = 0;
     for (i, byte) in bytes.iter().enumerate() {
         if is_plain_in_value(*byte) {
@@ -64,6 +71,10 @@ pub fn append_words(bytes: &[u8], out: &mut Vec<u8>)
     ensures bytes { out.new.items ≡ out.old.items ++ words_text bytes.now }
     ensures capacity { vec_capacity out.old ≤ vec_capacity out.new }
 {
+    if are_plain_in_words(bytes) {
+        append(bytes, out);
+        return;
+    }
     let mut from = 0;
     for (i, byte) in bytes.iter().enumerate() {
         if is_plain_in_words(*byte) {

@@ -5,39 +5,33 @@ ghost use Rattle.stanza_tree.specs.Spelling.{words_text, value_text, assigned, d
 
 use crate::node::{Attr, Element, Name, Node};
 use crate::spell::{
-    CLIENT_SPACE, is_foreign, is_plain_in_value, is_plain_in_words, value_escape, words_escape,
+    CLIENT_SPACE, are_plain_in_value, are_plain_in_words, is_foreign, value_escape, words_escape,
 };
 
 fn words_length(bytes: &[u8]) -> u64
     ensures { result ≡ min (list_length (words_text bytes.now)) (2 ^ 64 - 1) }
 {
-    let mut sum = 0u64;
-    let mut from = 0;
-    for (i, byte) in bytes.iter().enumerate() {
-        if is_plain_in_words(*byte) {
-            continue;
-        }
-        let escape = words_escape(byte).len();
-        sum = sum.saturating_add((i - from) as u64).saturating_add(escape as u64);
-        from = i + 1;
+    if are_plain_in_words(bytes) {
+        return bytes.len() as u64;
     }
-    sum.saturating_add((bytes.len() - from) as u64)
+    let mut sum = 0u64;
+    for byte in bytes {
+        sum = sum.saturating_add(words_escape(byte).len() as u64);
+    }
+    sum
 }
 
 pub(crate) fn value_length(bytes: &[u8]) -> u64
     ensures { result ≡ min (list_length (value_text bytes.now)) (2 ^ 64 - 1) }
 {
-    let mut sum = 0u64;
-    let mut from = 0;
-    for (i, byte) in bytes.iter().enumerate() {
-        if is_plain_in_value(*byte) {
-            continue;
-        }
-        let escape = value_escape(byte).len();
-        sum = sum.saturating_add((i - from) as u64).saturating_add(escape as u64);
-        from = i + 1;
+    if are_plain_in_value(bytes) {
+        return bytes.len() as u64;
     }
-    sum.saturating_add((bytes.len() - from) as u64)
+    let mut sum = 0u64;
+    for byte in bytes {
+        sum = sum.saturating_add(value_escape(byte).len() as u64);
+    }
+    sum
 }
 
 pub(crate) fn assigned_length(value: &[u8]) -> u64

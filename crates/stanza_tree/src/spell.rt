@@ -46,13 +46,28 @@ pub(crate) fn value_escape(byte: &u8) -> &[u8]
 pub(crate) fn is_plain_in_words(byte: u8) -> bool
     ensures { IsTrue result ↔ escaped_in_words byte ≡ byte ∷ [] }
 {
-    !matches!(byte, b'&' | b'<' | b'>' | b'\n' | b'\r')
+    // Without branches, so that a test of many bytes looks at several at a time.
+    (byte != b'&') & (byte != b'<') & (byte != b'>') & (byte != b'\n') & (byte != b'\r')
+}
+
+/// Whether all bytes stand for themselves in words.
+pub(crate) fn are_plain_in_words(bytes: &[u8]) -> bool
+    ensures { IsTrue result → words_text bytes.now ≡ bytes.now }
+{
+    let mut escapes = 0u8;
+    for byte in bytes {
+        escapes = escapes.max(!is_plain_in_words(*byte) as u8);
+    }
+    escapes == 0
 }
 
 fn push_words(bytes: &[u8], out: &mut Vec<u8>) -> Result<(), NoMemory>
     ensures ok { OnOk result (out.new.items ≡ out.old.items ++ words_text bytes.now) }
     ensures kept { Keeps out.old out.new }
 {
+    if are_plain_in_words(bytes) {
+        return out.extend_from_slice(bytes);
+    }
     let mut from = 0;
     for (i, byte) in bytes.iter().enumerate() {
         if is_plain_in_words(*byte) {
@@ -70,13 +85,27 @@ fn push_words(bytes: &[u8], out: &mut Vec<u8>) -> Result<(), NoMemory>
 pub(crate) fn is_plain_in_value(byte: u8) -> bool
     ensures { IsTrue result ↔ escaped_in_value byte ≡ byte ∷ [] }
 {
-    !matches!(byte, b'\'' | b'\t') && is_plain_in_words(byte)
+    (byte != b'\'') & (byte != b'\t') & is_plain_in_words(byte)
+}
+
+/// Whether all bytes stand for themselves in a value that is quoted by `'`.
+pub(crate) fn are_plain_in_value(bytes: &[u8]) -> bool
+    ensures { IsTrue result → value_text bytes.now ≡ bytes.now }
+{
+    let mut escapes = 0u8;
+    for byte in bytes {
+        escapes = escapes.max(!is_plain_in_value(*byte) as u8);
+    }
+    escapes == 0
 }
 
 fn push_value(bytes: &[u8], out: &mut Vec<u8>) -> Result<(), NoMemory>
     ensures ok { OnOk result (out.new.items ≡ out.old.items ++ value_text bytes.now) }
     ensures kept { Keeps out.old out.new }
 {
+    if are_plain_in_value(bytes) {
+        return out.extend_from_slice(bytes);
+    }
     let mut from = 0;
     for (i, byte) in bytes.iter().enumerate() {
         if is_plain_in_value(*byte) {
