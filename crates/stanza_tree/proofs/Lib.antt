@@ -7,3 +7,4 @@ mod HeldLemmas
 mod RunLemmas
 pub mod SpellingLemmas
 pub mod StampLemmas
+pub mod Utf8Lemmas

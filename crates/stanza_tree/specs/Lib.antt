@@ -7,3 +7,4 @@ pub mod Faults
 pub mod Spelling
 pub mod Stamps
 pub mod Texts
+pub mod Utf8
