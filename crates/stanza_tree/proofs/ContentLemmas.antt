@@ -56,3 +56,7 @@ element-whole parent e before after start end content local same some named_so o
 pub on_ok : {T E P Q : Type 0} (r : Result T E) → (P → Q) → OnOk r P → OnOk r Q
 on_ok (Ok x) f p = f p
 on_ok (Err e) f p = p
+
+pub on_always : {T E P : Type 0} (r : Result T E) → P → OnOk r P
+on_always (Ok x) p = p
+on_always (Err e) p = tt

@@ -1,8 +1,8 @@
 -- What UTF-8 is spelt as is UTF-8.
-use Rattle.std.proofs.Common.{◌≡◌, ◌∙◌, ℕ, zero, suc, ◌+◌, ◌<◌, ◌≤◌, ◌^◌, inl, inr, List, [], ◌∷◌, ◌++◌, length, Bool, true, false, not, ◌&&◌, nat_lt, codes, bytes_eq, if◌then◌else◌, ◌==◌, flat_map, slice_index, refl, sym, ap, subst, append-nil, arith}
+use Rattle.std.proofs.Common.{◌≡◌, ◌∙◌, ℕ, zero, suc, ◌+◌, ◌<◌, ◌≤◌, ◌^◌, inl, inr, List, [], ◌∷◌, ◌++◌, length, Bool, true, false, not, ◌&&◌, nat_lt, codes, bytes_eq, if◌then◌else◌, ◌==◌, flat_map, slice_index, drop, refl, sym, ap, subst, append-nil, arith}
 use Rattle.std.proofs.lemmas.Bool.{cases_lt, and_parts, and_from, ltb-true, cond-false, cond-true, le-ltb, lt-ltb}
 use Rattle.std.proofs.lemmas.Bool.Decides.{nat_tests}
-use Rattle.std.proofs.lemmas.Grind.{flat_map-append}
+use Rattle.std.proofs.lemmas.Grind.{common_steps, flat_map-append}
 use Rattle.std.proofs.lemmas.Str.{IsUtf8-append, IsUtf8-nil, IsUtf8-encode, IsUtf8-from_ascii, encode_ascii}
 use Rattle.std.proofs.lemmas.Fmt.{IsAscii-decimal}
 use Rattle.std.specs.Fmt.{decimal}
@@ -195,3 +195,12 @@ child-utf8 s n ns e here first rest = subst IsUtf8 (sym (texts-child s n ns e he
 
 pub words-utf8 : (s : List ℕ) (n : Node) (ns : List Node) (w : List ℕ) → out-Node n ≡ Words w → IsUtf8 w → IsUtf8 (texts_under s ns) → IsUtf8 (texts_under s (n ∷ ns))
 words-utf8 s n ns w here first rest = subst IsUtf8 (sym (texts-words s n ns w here)) (join (words_text w) (texts_under s ns) (words_text-utf8 w first) rest)
+
+pub end-utf8 : (s : List ℕ) (ns : List Node) (i : ℕ) → length ns ≤ i → IsUtf8 (texts_under s (drop i ns))
+end-utf8 s ns i over =
+    let e : drop i ns ≡ [] = grind (arith, common_steps) in
+    subst (λ (l : List Node). IsUtf8 (texts_under s l)) (sym e) IsUtf8-nil
+
+pub none-utf8 : (bs : List ℕ) → length bs ≡ 0 → IsUtf8 bs
+none-utf8 [] none = IsUtf8-nil
+none-utf8 (b ∷ bs) none = absurd (omega arith)

@@ -1,7 +1,8 @@
 //! Writes the canonical spelling of an element.
-ghost use Rattle.std.specs.Prelude.{◌≡◌, ◌++◌, ◌∷◌, [], ◌↔◌, ℕ, List, length, nat_lt, codes, IsTrue, OnOk, OnErr};
+ghost use Rattle.std.specs.Prelude.{◌≡◌, ◌++◌, ◌∷◌, [], ◌↔◌, ◌<◌, ◌^◌, ℕ, List, length, nat_lt, codes, IsTrue, OnOk, OnErr, IsUtf8};
 ghost use Rattle.stanza_tree.specs.Appending.{Keeps};
 ghost use Rattle.std.specs.Fmt.{decimal};
+ghost use Rattle.stanza_tree.specs.Utf8.{NameIsUtf8, AttrsAreUtf8};
 ghost use Rattle.stanza_tree.specs.Spelling.{escaped_in_words, escaped_in_value, words_text, value_text, assigned, needs_prefix, declaration, declarations, prefixed, unprefixed, attributes, named, opened, closed, text_under, texts_under, text};
 
 use crate::node::{Attr, Element, Name, Node};
@@ -237,6 +238,21 @@ fn push_opened(
     push_attributes(attrs, out)
 }
 
+/// Says of the texts of a start tag that they are UTF-8, as each text is. Nothing of it is left in the built program.
+pub(crate) fn know_utf8(name: &Name, attrs: &[Attr])
+    ensures name { NameIsUtf8 name.now }
+    ensures attrs { AttrsAreUtf8 attrs.now }
+    ensures few { length attrs.now < 2 ^ 64 }
+{
+    let _ = name.space.bytes();
+    let _ = name.local.bytes();
+    for attr in attrs {
+        let _ = attr.name.space.bytes();
+        let _ = attr.name.local.bytes();
+        let _ = attr.value.bytes();
+    }
+}
+
 /// Whether children spell anything: a child element does, and words that are not empty.
 fn has_content(nodes: &[Node]) -> bool
     ensures { (parent : List ℕ) → result ≡ nat_lt 0 (length (texts_under parent nodes.now)) }
@@ -263,8 +279,10 @@ fn push_end_tag(local: &[u8], out: &mut Vec<u8>) -> Result<(), NoMemory>
 #[tactic(auto, unfolding(crate::specs::Spelling::closed))]
 fn push_element(element: &Element, parent: &[u8], out: &mut Vec<u8>) -> Result<(), NoMemory>
     ensures ok { OnOk result (out.new.items ≡ out.old.items ++ text_under parent.now element.now) }
+    ensures utf8 { OnOk result (IsUtf8 (text_under parent.now element.now)) }
     ensures kept { Keeps out.old out.new }
 {
+    know_utf8(&element.name, element.attrs.slice());
     let space = element.name.space.bytes();
     push_opened(parent, &element.name, element.attrs.slice(), out)?;
     let children = element.children.slice();
@@ -283,6 +301,7 @@ fn push_element(element: &Element, parent: &[u8], out: &mut Vec<u8>) -> Result<(
 
 fn push_nodes(nodes: &[Node], parent: &[u8], out: &mut Vec<u8>) -> Result<(), NoMemory>
     ensures ok { OnOk result (out.new.items ≡ out.old.items ++ texts_under parent.now nodes.now) }
+    ensures utf8 { OnOk result (IsUtf8 (texts_under parent.now nodes.now)) }
     ensures kept { Keeps out.old out.new }
 {
     for node in nodes {
@@ -298,6 +317,7 @@ fn push_nodes(nodes: &[Node], parent: &[u8], out: &mut Vec<u8>) -> Result<(), No
 #[tactic(auto, unfolding(crate::specs::Spelling::closed))]
 pub(crate) fn push_content(name: &Name, children: &[Node], out: &mut Vec<u8>) -> Result<(), NoMemory>
     ensures ok { OnOk result (out.new.items ≡ out.old.items ++ closed name.now.local (texts_under name.now.space children.now)) }
+    ensures utf8 { OnOk result (IsUtf8 (texts_under name.now.space children.now)) }
     ensures kept { Keeps out.old out.new }
 {
     if !has_content(children) {
@@ -311,6 +331,7 @@ pub(crate) fn push_content(name: &Name, children: &[Node], out: &mut Vec<u8>) ->
 /// Appends the canonical spelling of a top element, whole or not at all. Costs its length.
 pub fn write(element: &Element, out: &mut Vec<u8>) -> Result<(), NoMemory>
     ensures ok { OnOk result (out.new.items ≡ out.old.items ++ text element.now) }
+    ensures utf8 { OnOk result (IsUtf8 (text element.now)) }
     ensures err { OnErr result (out.new.items ≡ out.old.items) }
 {
     let before = out.len();

@@ -1,5 +1,5 @@
 //! A stanza as the server hands it on: with the sender's address as its `from`, and without its `to` (RFC 6120, 8.1.2.1).
-ghost use Rattle.std.specs.Prelude.{◌≡◌, ◌++◌, ◌^◌, ◌-◌, false, min, length as list_length, OnOk, OnErr};
+ghost use Rattle.std.specs.Prelude.{◌≡◌, ◌++◌, ◌^◌, ◌-◌, false, min, length as list_length, OnOk, OnErr, IsUtf8};
 ghost use Rattle.stanza_tree.specs.Appending.{Keeps};
 ghost use Rattle.stanza_tree.specs.Attributes.{is_named};
 ghost use Rattle.stanza_tree.specs.Spelling.{assigned, text};
@@ -11,7 +11,7 @@ use crate::measure::{
 };
 use crate::node::{Attr, Element};
 use crate::spell::{
-    CLIENT_SPACE, is_foreign, push_assigned, push_content, push_declarations, push_name,
+    CLIENT_SPACE, is_foreign, know_utf8, push_assigned, push_content, push_declarations, push_name,
     push_prefixed, push_unprefixed,
 };
 use crate::text::NoMemory;
@@ -87,9 +87,12 @@ fn stamped_length(attrs: &[Attr], from: &[u8]) -> u64
 }
 
 fn push_sent(element: &Element, from: &[u8], out: &mut Vec<u8>) -> Result<(), NoMemory>
+    requires { IsUtf8 from.now }
     ensures ok { OnOk result (out.new.items ≡ out.old.items ++ text (sent_by from.now element.now)) }
+    ensures utf8 { OnOk result (IsUtf8 (text (sent_by from.now element.now))) }
     ensures kept { Keeps out.old out.new }
 {
+    know_utf8(&element.name, element.attrs.slice());
     push_name(CLIENT_SPACE, &element.name, out)?;
     push_declarations(element.attrs.slice(), out)?;
     push_stamped(element.attrs.slice(), from, out)?;
@@ -98,7 +101,9 @@ fn push_sent(element: &Element, from: &[u8], out: &mut Vec<u8>) -> Result<(), No
 
 /// Appends the spelling of a stanza sent from this address, without its `to`; whole or not at all. Costs its length.
 pub fn write_sent(element: &Element, from: &[u8], out: &mut Vec<u8>) -> Result<(), NoMemory>
+    requires { IsUtf8 from.now }
     ensures ok { OnOk result (out.new.items ≡ out.old.items ++ text (sent_by from.now element.now)) }
+    ensures utf8 { OnOk result (IsUtf8 (text (sent_by from.now element.now))) }
     ensures err { OnErr result (out.new.items ≡ out.old.items) }
 {
     let before = out.len();
