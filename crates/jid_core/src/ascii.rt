@@ -1,5 +1,5 @@
 //! Parts in ASCII, which need no look at Unicode's tables.
-ghost use Rattle.std.specs.Prelude.{◌≡◌, ◌<◌, length, IfOk, IsAscii, IsTrue, string_bytes};
+ghost use Rattle.std.specs.Prelude.{◌≡◌, ◌<◌, length, IfOk};
 ghost use Rattle.std.specs.List.{list_all};
 ghost use Rattle.std.specs.Str.{str_to_ascii_lowercase};
 ghost use Rattle.jid_core.specs.AsciiParts.{is_local_byte, is_resource_byte, is_label_byte, has_stray_hyphen, is_label, are_labels};
@@ -30,14 +30,6 @@ pub(crate) fn lowered(alloc: Global, bytes: &[u8]) -> Result<Vec<u8>, NoMemory>
     let mut copy = bytes.to_vec(alloc)?;
     copy.make_ascii_lowercase();
     Ok(copy)
-}
-
-/// The bytes as text.
-pub(crate) fn text_of(bytes: Vec<u8>) -> String
-    requires { IsAscii bytes.items }
-    ensures { string_bytes result ≡ bytes.items }
-{
-    String::from_utf8(bytes).unwrap()
 }
 
 fn has_stray_hyphen(label: &[u8]) -> bool

@@ -3,25 +3,25 @@ ghost use Rattle.std.specs.Prelude.{◌≡◌, Ok, IfOk, IfErr, IsTrue, IsUtf8};
 ghost use Rattle.jid_core.specs.Preparation.{is_local, is_resource, is_domain, local_of, resource_of, domain_of, IsCause};
 
 use crate::fault::{JidFault, NoMemory};
-use crate::prepare::{domain_text, local_text, resource_text};
+use crate::prepare::{prepared_domain, prepared_local, prepared_resource};
 use std::alloc::Global;
 use std::marker::Model;
 
 /// A prepared part of an address, seen as its bytes. Each is fit to be a resource.
 #[derive(Drop)]
 pub struct Part {
-    text: String,
+    bytes: Vec<u8>,
 }
 
 impl Model for Part {
-    ghost use Rattle.std.specs.Prelude.{List, ℕ, string_bytes, IsTrue};
+    ghost use Rattle.std.specs.Prelude.{List, ℕ, IsTrue};
     ghost use Rattle.jid_core.specs.Preparation.{is_resource};
 
     ghost Value = { List ℕ };
 
-    ghost view = { λ p. string_bytes p.text };
+    ghost view = { λ p. p.bytes.items };
 
-    ghost invariant = { λ p. IsTrue (is_resource (string_bytes p.text)) };
+    ghost invariant = { λ p. IsTrue (is_resource p.bytes.items) };
 }
 
 impl Part {
@@ -32,7 +32,7 @@ impl Part {
         ensures fault { IfErr result (IsCause (local_of bytes.now)) }
     {
         Ok(Part {
-            text: local_text(alloc, bytes)?,
+            bytes: prepared_local(alloc, bytes)?,
         })
     }
 
@@ -42,7 +42,7 @@ impl Part {
         ensures fault { IfErr result (IsCause (resource_of bytes.now)) }
     {
         Ok(Part {
-            text: resource_text(alloc, bytes)?,
+            bytes: prepared_resource(alloc, bytes)?,
         })
     }
 
@@ -53,7 +53,7 @@ impl Part {
         ensures fault { IfErr result (IsCause (domain_of bytes.now)) }
     {
         Ok(Part {
-            text: domain_text(alloc, bytes)?,
+            bytes: prepared_domain(alloc, bytes)?,
         })
     }
 
@@ -63,7 +63,7 @@ impl Part {
         ensures prepared { IsTrue (is_resource self.now) }
         ensures utf8 { IsUtf8 self.now }
     {
-        self.text.as_bytes()
+        self.bytes.as_slice()
     }
 
     /// Another part of the same bytes.
@@ -71,7 +71,7 @@ impl Part {
         ensures { IfOk result (λ p. p ≡ self.now) }
     {
         Ok(Part {
-            text: String::from_str(alloc, self.text.as_str())?,
+            bytes: self.bytes.as_slice().to_vec(alloc)?,
         })
     }
 }

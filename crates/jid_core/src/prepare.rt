@@ -3,7 +3,7 @@ ghost use Rattle.std.specs.Prelude.{◌≡◌, ◌<◌, Ok, length, string_bytes
 ghost use Rattle.idna.specs.Errors.{Gives};
 ghost use Rattle.jid_core.specs.Preparation.{local_of, resource_of, domain_of, in_nfc, unless_long, unless_none, without_final_dot, has_labels, ascii_form, in_labels, IsCause};
 
-use crate::ascii::{are_labels, is_plain_local, is_plain_resource, lowered, text_of};
+use crate::ascii::{are_labels, is_plain_local, is_plain_resource, lowered};
 use crate::fault::{JidFault, Which};
 use crate::refuse::fit_text;
 use idna::uts46::{DnsLength, Hyphens, Uts46};
@@ -14,19 +14,19 @@ use unicode_normalization::{is_nfc, to_nfc};
 /// The most bytes that a prepared part has (RFC 7622, 3.2 to 3.4).
 const MOST_BYTES: usize = 1023;
 
-fn unless_long(which: Which, text: String) -> Result<String, JidFault>
-    ensures ok { IfOk result (λ t. unless_long which (string_bytes text) ≡ Ok (string_bytes t)) }
-    ensures fault { IfErr result (IsCause (unless_long which (string_bytes text))) }
+fn unless_long(which: Which, part: Vec<u8>) -> Result<Vec<u8>, JidFault>
+    ensures ok { IfOk result (λ p. unless_long which part.items ≡ Ok p.items) }
+    ensures fault { IfErr result (IsCause (unless_long which part.items)) }
 {
-    if text.len() > MOST_BYTES {
+    if part.len() > MOST_BYTES {
         return Err(JidFault::Long(which));
     }
-    Ok(text)
+    Ok(part)
 }
 
 /// A local part (RFC 7622, 3.3): its letters of ASCII are lowered.
-pub(crate) fn local_text(alloc: Global, bytes: &[u8]) -> Result<String, JidFault>
-    ensures ok { IfOk result (λ t. local_of bytes.now ≡ Ok (string_bytes t)) }
+pub(crate) fn prepared_local(alloc: Global, bytes: &[u8]) -> Result<Vec<u8>, JidFault>
+    ensures ok { IfOk result (λ p. local_of bytes.now ≡ Ok p.items) }
     ensures fault { IfErr result (IsCause (local_of bytes.now)) }
 {
     if bytes.is_empty() {
@@ -35,12 +35,12 @@ pub(crate) fn local_text(alloc: Global, bytes: &[u8]) -> Result<String, JidFault
     if !is_plain_local(bytes) {
         return local_in_unicode(alloc, bytes);
     }
-    unless_long(Which::Local, text_of(lowered(alloc, bytes)?))
+    unless_long(Which::Local, lowered(alloc, bytes)?)
 }
 
-fn local_in_unicode(alloc: Global, bytes: &[u8]) -> Result<String, JidFault>
+fn local_in_unicode(alloc: Global, bytes: &[u8]) -> Result<Vec<u8>, JidFault>
     requires { 0 < length bytes.now }
-    ensures ok { IfOk result (λ t. local_of bytes.now ≡ Ok (string_bytes t)) }
+    ensures ok { IfOk result (λ p. local_of bytes.now ≡ Ok p.items) }
     ensures fault { IfErr result (IsCause (local_of bytes.now)) }
 {
     match fit_text(Which::Local, bytes) {
@@ -51,14 +51,14 @@ fn local_in_unicode(alloc: Global, bytes: &[u8]) -> Result<String, JidFault>
             if !is_nfc(alloc, text.as_str())? {
                 return Err(JidFault::Bad(Which::Local, 0));
             }
-            unless_long(Which::Local, text)
+            unless_long(Which::Local, text.into_bytes())
         }
     }
 }
 
 /// A resource (RFC 7622, 3.4): it is brought to Normalization Form C.
-pub(crate) fn resource_text(alloc: Global, bytes: &[u8]) -> Result<String, JidFault>
-    ensures ok { IfOk result (λ t. resource_of bytes.now ≡ Ok (string_bytes t)) }
+pub(crate) fn prepared_resource(alloc: Global, bytes: &[u8]) -> Result<Vec<u8>, JidFault>
+    ensures ok { IfOk result (λ p. resource_of bytes.now ≡ Ok p.items) }
     ensures fault { IfErr result (IsCause (resource_of bytes.now)) }
 {
     if bytes.is_empty() {
@@ -67,17 +67,17 @@ pub(crate) fn resource_text(alloc: Global, bytes: &[u8]) -> Result<String, JidFa
     if !is_plain_resource(bytes) {
         return resource_in_unicode(alloc, bytes);
     }
-    unless_long(Which::Resource, text_of(bytes.to_vec(alloc)?))
+    unless_long(Which::Resource, bytes.to_vec(alloc)?)
 }
 
-fn resource_in_unicode(alloc: Global, bytes: &[u8]) -> Result<String, JidFault>
+fn resource_in_unicode(alloc: Global, bytes: &[u8]) -> Result<Vec<u8>, JidFault>
     requires { 0 < length bytes.now }
-    ensures ok { IfOk result (λ t. resource_of bytes.now ≡ Ok (string_bytes t)) }
+    ensures ok { IfOk result (λ p. resource_of bytes.now ≡ Ok p.items) }
     ensures fault { IfErr result (IsCause (resource_of bytes.now)) }
 {
     match fit_text(Which::Resource, bytes) {
         Err(place) => Err(JidFault::Bad(Which::Resource, place)),
-        Ok(text) => unless_long(Which::Resource, to_nfc(alloc, text)?),
+        Ok(text) => unless_long(Which::Resource, to_nfc(alloc, text)?.into_bytes()),
     }
 }
 
@@ -95,8 +95,8 @@ fn without_final_dot(bytes: &[u8]) -> &[u8]
 }
 
 /// A domain (RFC 7622, 3.2): it loses one final dot, and ToASCII gives labels of 1 to 63 bytes.
-pub(crate) fn domain_text(alloc: Global, bytes: &[u8]) -> Result<String, JidFault>
-    ensures ok { IfOk result (λ t. domain_of bytes.now ≡ Ok (string_bytes t)) }
+pub(crate) fn prepared_domain(alloc: Global, bytes: &[u8]) -> Result<Vec<u8>, JidFault>
+    ensures ok { IfOk result (λ p. domain_of bytes.now ≡ Ok p.items) }
     ensures fault { IfErr result (IsCause (domain_of bytes.now)) }
 {
     if bytes.is_empty() {
@@ -107,11 +107,11 @@ pub(crate) fn domain_text(alloc: Global, bytes: &[u8]) -> Result<String, JidFaul
     if !are_labels(lower.as_slice()) {
         return name_in_unicode(alloc, name);
     }
-    unless_long(Which::Domain, text_of(lower))
+    unless_long(Which::Domain, lower)
 }
 
-fn name_in_unicode(alloc: Global, name: &[u8]) -> Result<String, JidFault>
-    ensures ok { IfOk result (λ t. unless_none (in_labels name.now) ≡ Ok (string_bytes t)) }
+fn name_in_unicode(alloc: Global, name: &[u8]) -> Result<Vec<u8>, JidFault>
+    ensures ok { IfOk result (λ p. unless_none (in_labels name.now) ≡ Ok p.items) }
     ensures fault { IfErr result (IsCause (unless_none (in_labels name.now))) }
 {
     match ascii_form(alloc, name) {
@@ -119,7 +119,7 @@ fn name_in_unicode(alloc: Global, name: &[u8]) -> Result<String, JidFault>
             if !has_labels(text.as_bytes()) {
                 return Err(JidFault::Bad(Which::Domain, 0));
             }
-            unless_long(Which::Domain, text)
+            unless_long(Which::Domain, text.into_bytes())
         }
         Err(Errors::Invalid) => Err(JidFault::Bad(Which::Domain, 0)),
         Err(Errors::OutOfMemory) => Err(JidFault::NoMemory),

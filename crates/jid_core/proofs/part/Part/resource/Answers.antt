@@ -2,4 +2,4 @@ use Rattle.jid_core.proofs.PreparationLemmas.{is_resource-resource_of}
 use Rattle.jid_core.proofs.part.Part.resource.Goals as goal
 
 pub invariant_of-result : goal.invariant_of-result
-invariant_of-result c = is_resource-resource_of c.args.bytes.now _ c.in_ok-resource_text.ensures.ok
+invariant_of-result c = is_resource-resource_of c.args.bytes.now _ c.in_ok-prepared_resource.ensures.ok

@@ -6,23 +6,18 @@ use Rattle.jid_core.specs.Preparation.{local_of, unless_long, IsCause}
 use Rattle.jid_core.specs.declared.fault.Which.TheVariants.{Local}
 use Rattle.jid_core.proofs.AsciiLemmas.{all-low, all-resource, IsAscii-lowered}
 use Rattle.jid_core.proofs.PreparationLemmas.{local_of-ascii}
-use Rattle.jid_core.proofs.prepare.local_text.Goals as goal
-
-pub text_of-requires : goal.text_of-requires
-text_of-requires c =
-    let plain : list_all is_local_byte c.args.bytes.now ≡ true = search rules in
-    subst IsAscii (sym c.in_ok-lowered.ensures) (IsAscii-lowered c.args.bytes.now (all-low c.args.bytes.now (all-resource c.args.bytes.now plain)))
+use Rattle.jid_core.proofs.prepare.prepared_local.Goals as goal
 
 pub returns-clause-ok : goal.returns-clause-ok
 returns-clause-ok c =
     let some : 0 < length c.args.bytes.now = search rules in
     let plain : list_all is_local_byte c.args.bytes.now ≡ true = search rules in
-    let same = ap (unless_long Local) (c.text_of.ensures ∙ c.in_ok-lowered.ensures) ∙ sym (local_of-ascii c.args.bytes.now some plain) in
-    subst (λ x. IfOk c.unless_long.result (λ t. x ≡ Ok (string_bytes t))) same c.unless_long.ensures.ok
+    let same = ap (unless_long Local) c.in_ok-lowered.ensures ∙ sym (local_of-ascii c.args.bytes.now some plain) in
+    subst (λ x. IfOk c.unless_long.result (λ p. x ≡ Ok p.items)) same c.unless_long.ensures.ok
 
 pub returns-clause-fault : goal.returns-clause-fault
 returns-clause-fault c =
     let some : 0 < length c.args.bytes.now = search rules in
     let plain : list_all is_local_byte c.args.bytes.now ≡ true = search rules in
-    let same = ap (unless_long Local) (c.text_of.ensures ∙ c.in_ok-lowered.ensures) ∙ sym (local_of-ascii c.args.bytes.now some plain) in
+    let same = ap (unless_long Local) c.in_ok-lowered.ensures ∙ sym (local_of-ascii c.args.bytes.now some plain) in
     subst (λ x. IfErr c.unless_long.result (IsCause x)) same c.unless_long.ensures.fault
