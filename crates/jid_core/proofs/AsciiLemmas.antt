@@ -1,7 +1,10 @@
 -- A part in ASCII is prepared as the short rules say.
-use Rattle.std.proofs.Common.{◌≡◌, ℕ, zero, suc, ◌+◌, ◌<◌, ◌≤◌, Bool, true, false, cond, not, ◌&&◌, ◌||◌, ◌==◌, List, [], ◌∷◌, map, length, get_or, chars, encode_utf8_all, Some, None, All, IsAscii, refl, sym, ap, ◌∙◌, arith}
+use Rattle.std.proofs.Common.{◌≡◌, ℕ, zero, suc, ◌+◌, ◌-◌, ◌<◌, ◌≤◌, Bool, true, false, cond, not, ◌&&◌, ◌||◌, ◌==◌, List, [], ◌∷◌, map, length, get_or, chars, encode_utf8_all, Some, None, All, IsAscii, refl, sym, ap, ◌∙◌, arith}
 use Rattle.std.proofs.lemmas.Bool.{cond-true, and_parts, and_from}
 use Rattle.std.proofs.lemmas.Bool.Decides.{nat_tests}
+use Rattle.std.proofs.Math.ListN.{get_or-map}
+use Rattle.std.proofs.lemmas.List.{length-map}
+use Rattle.std.proofs.lemmas.List.Elements.{All-map}
 use Rattle.std.proofs.lemmas.List.Folds.{list_all-map}
 use Rattle.std.proofs.lemmas.List.Splits.{length-slice_split}
 use Rattle.std.proofs.lemmas.List.Sums.{AllPass-from_list_all}
@@ -9,7 +12,7 @@ use Rattle.std.proofs.lemmas.Str.{IsUtf8-from_ascii, is_utf8-from_IsUtf8, chars-
 use Rattle.std.proofs.lemmas.Str.Ascii.{IsAscii-from_all, All-from_ascii, IsAscii-map, lowercase_ascii}
 use Rattle.std.specs.Char.{to_ascii_lowercase, is_ascii_uppercase}
 use Rattle.std.specs.Int.{is_in_range}
-use Rattle.std.specs.List.{list_all, slice_split, onto_first}
+use Rattle.std.specs.List.{list_all, slice_index, slice_split, onto_first}
 use Rattle.std.specs.Str.{str_to_ascii_lowercase, is_utf8}
 use Rattle.unicode_normalization.specs.Forms.{Nfc, nfc, is_nfc}
 use Rattle.unicode_normalization.proofs.FormsLemmas.{is_in_form_from, normalize-ascii}
@@ -94,44 +97,73 @@ labels-bytes (b ∷ bs) all =
 name-bytes : (bs : List ℕ) → are_labels bs ≡ true → list_all (λ b. (b == 46) || is_label_byte b) bs ≡ true
 name-bytes bs h = labels-bytes bs (weaker is_label (λ part. list_all is_label_byte part) label-bytes (labels_of bs) h)
 
-lowered-low : (b : ℕ) → ((to_ascii_lowercase b == 46) || is_label_byte (to_ascii_lowercase b)) ≡ true → b < 128
-lowered-low b h = grind (arith, nat_tests)
-
-given-low : (bs : List ℕ) → are_labels (str_to_ascii_lowercase bs) ≡ true → IsAscii bs
-given-low bs h =
-    let all = sym (list_all-map (λ b. (b == 46) || is_label_byte b) to_ascii_lowercase bs) ∙ name-bytes (str_to_ascii_lowercase bs) h in
-    IsAscii-from_all bs (λ k d lt. lowered-low (get_or bs k d) (AllPass-from_list_all (λ b. (to_ascii_lowercase b == 46) || is_label_byte (to_ascii_lowercase b)) bs all k d lt))
-
-valid-byte : (b : ℕ) → ((b == 46) || is_label_byte b) ≡ true → (b < 128) × (is_valid_char STD3 b ≡ true)
-valid-byte b h =
-    let low : b < 128 = grind (arith, nat_tests) in
-    let small : is_ascii_uppercase b ≡ false = grind (arith, nat_tests) in
-    let kept : may_be_denied b ≡ false = grind (arith, nat_tests) in
-    (low, rw (is_valid_char-ascii STD3 b low, small, denies-STD3 b, kept))
-
-label-placed : (part : List ℕ) → is_label part ≡ true → passes_hyphens Check part ≡ true
-unfolding passes_hyphens
-label-placed part h = grind (arith, nat_tests)
-
-label-size : (part : List ℕ) → is_label part ≡ true → is_in_range 1 63 (length part) ≡ true
-label-size part h = grind (arith, nat_tests)
-
-pub has_labels-ascii : (bs : List ℕ) → are_labels bs ≡ true → has_labels bs ≡ true
-has_labels-ascii bs h = weaker is_label (λ part. is_in_range 1 63 (length part)) label-size (labels_of bs) h
-
-IsPlain-labels : (bs : List ℕ) → are_labels bs ≡ true → IsPlain STD3 Check bs
-IsPlain-labels bs h =
-    record {
-      valid = λ k d lt. valid-byte (get_or bs k d) (AllPass-from_list_all (λ b. (b == 46) || is_label_byte b) bs (name-bytes bs h) k d lt);
-      placed = weaker is_label (passes_hyphens Check) label-placed (labels_of bs) h;
-    }
-
-pub ascii_form-ascii : (bs : List ℕ) → are_labels (str_to_ascii_lowercase bs) ≡ true → ascii_form bs ≡ Some (str_to_ascii_lowercase bs)
-ascii_form-ascii bs h =
-    sym (to_ascii-map-lowercase STD3 Check Ignore bs (given-low bs h)) ∙ to_ascii-plain STD3 Check (str_to_ascii_lowercase bs) (IsPlain-labels (str_to_ascii_lowercase bs) h)
-
 name-low : (b : ℕ) → ((b == 46) || is_label_byte b) ≡ true → b < 128
 name-low b h = grind (arith, nat_tests)
 
 pub IsAscii-labels : (bs : List ℕ) → are_labels bs ≡ true → IsAscii bs
 IsAscii-labels bs h = IsAscii-from_all bs (λ k d lt. name-low (get_or bs k d) (AllPass-from_list_all (λ b. (b == 46) || is_label_byte b) bs (name-bytes bs h) k d lt))
+
+-- lowered labels are labels of the lowered name
+onto-lowered : (dot : Bool) (b : ℕ) (parts : List (List ℕ)) → cond dot ([] ∷ map str_to_ascii_lowercase parts) (onto_first (to_ascii_lowercase b) (map str_to_ascii_lowercase parts)) ≡ map str_to_ascii_lowercase (cond dot ([] ∷ parts) (onto_first b parts))
+onto-lowered true b parts = refl
+onto-lowered false b [] = refl
+onto-lowered false b (part ∷ parts) = refl
+
+dot-lowered : (b : ℕ) → (to_ascii_lowercase b == 46) ≡ (b == 46)
+dot-lowered b = grind (arith, nat_tests)
+
+labels-lowered : (bs : List ℕ) → labels_of (str_to_ascii_lowercase bs) ≡ map str_to_ascii_lowercase (labels_of bs)
+labels-lowered [] = refl
+labels-lowered (b ∷ bs) =
+    ap (λ dot. cond dot ([] ∷ labels_of (str_to_ascii_lowercase bs)) (onto_first (to_ascii_lowercase b) (labels_of (str_to_ascii_lowercase bs)))) (dot-lowered b)
+    ∙ ap (λ parts. cond (b == 46) ([] ∷ parts) (onto_first (to_ascii_lowercase b) parts)) (labels-lowered bs)
+    ∙ onto-lowered (b == 46) b (labels_of bs)
+
+all-lowered : (test : List ℕ → Bool) → ((part : List ℕ) → is_label part ≡ true → test (str_to_ascii_lowercase part) ≡ true) → (bs : List ℕ) → are_labels bs ≡ true → list_all test (labels_of (str_to_ascii_lowercase bs)) ≡ true
+all-lowered test step bs h =
+    ap (list_all test) (labels-lowered bs) ∙ list_all-map test str_to_ascii_lowercase (labels_of bs)
+    ∙ weaker is_label (λ part. test (str_to_ascii_lowercase part)) step (labels_of bs) h
+
+valid-byte : (b : ℕ) → ((b == 46) || is_label_byte b) ≡ true → (to_ascii_lowercase b < 128) × (is_valid_char STD3 (to_ascii_lowercase b) ≡ true)
+valid-byte b h =
+    let low : to_ascii_lowercase b < 128 = grind (arith, nat_tests) in
+    let small : is_ascii_uppercase (to_ascii_lowercase b) ≡ false = grind (arith, nat_tests) in
+    let kept : may_be_denied (to_ascii_lowercase b) ≡ false = grind (arith, nat_tests) in
+    (low, rw (is_valid_char-ascii STD3 (to_ascii_lowercase b) low, small, denies-STD3 (to_ascii_lowercase b), kept))
+
+hyphen-lowered : (b : ℕ) → (to_ascii_lowercase b == 45) ≡ (b == 45)
+hyphen-lowered b = grind (arith, nat_tests)
+
+-- lowering moves no hyphen
+hyphen-at : (part : List ℕ) (i : ℕ) → (slice_index (str_to_ascii_lowercase part) i == 45) ≡ (slice_index part i == 45)
+hyphen-at part i = ap (λ b. b == 45) (get_or-map to_ascii_lowercase part i 0) ∙ hyphen-lowered (slice_index part i)
+
+label-placed : (part : List ℕ) → is_label part ≡ true → passes_hyphens Check (str_to_ascii_lowercase part) ≡ true
+unfolding passes_hyphens
+label-placed part h =
+    let zero = hyphen-at part 0 in
+    let two = hyphen-at part 2 in
+    let three = hyphen-at part 3 in
+    let last = ap (λ n. slice_index (str_to_ascii_lowercase part) (n - 1) == 45) (length-map part to_ascii_lowercase) ∙ hyphen-at part (length part - 1) in
+    rw (zero, two, three, last) (grind (arith, nat_tests))
+
+label-size : (part : List ℕ) → is_label part ≡ true → is_in_range 1 63 (length (str_to_ascii_lowercase part)) ≡ true
+label-size part h = ap (is_in_range 1 63) (length-map part to_ascii_lowercase) ∙ sized
+  where
+    sized : is_in_range 1 63 (length part) ≡ true
+    sized = grind (arith, nat_tests)
+
+pub has_labels-ascii : (bs : List ℕ) → are_labels bs ≡ true → has_labels (str_to_ascii_lowercase bs) ≡ true
+has_labels-ascii bs h = all-lowered (λ part. is_in_range 1 63 (length part)) label-size bs h
+
+IsPlain-labels : (bs : List ℕ) → are_labels bs ≡ true → IsPlain STD3 Check (str_to_ascii_lowercase bs)
+IsPlain-labels bs h =
+    record {
+      valid = All-map (λ c. (c < 128) × (is_valid_char STD3 c ≡ true)) to_ascii_lowercase bs
+          (λ k d lt. valid-byte (get_or bs k d) (AllPass-from_list_all (λ b. (b == 46) || is_label_byte b) bs (name-bytes bs h) k d lt));
+      placed = all-lowered (passes_hyphens Check) label-placed bs h;
+    }
+
+pub ascii_form-ascii : (bs : List ℕ) → are_labels bs ≡ true → ascii_form bs ≡ Some (str_to_ascii_lowercase bs)
+ascii_form-ascii bs h =
+    sym (to_ascii-map-lowercase STD3 Check Ignore bs (IsAscii-labels bs h)) ∙ to_ascii-plain STD3 Check (str_to_ascii_lowercase bs) (IsPlain-labels bs h)

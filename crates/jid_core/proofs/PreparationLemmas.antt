@@ -51,6 +51,12 @@ long-parts which bs p h = here (nat_lt 1023 (length bs)) refl h
 unless_long-short : (which : Which) (bs : List ℕ) → length bs < 1024 → unless_long which bs ≡ Ok bs
 unless_long-short which bs short = cond-false _ _ _ (le-ltb 1023 (length bs) (omega arith))
 
+unless_long-long : (which : Which) (bs : List ℕ) → 1023 < length bs → unless_long which bs ≡ Err (Long which)
+unless_long-long which bs long = cond-true _ _ _ (lt-ltb 1023 (length bs) long)
+
+length-lowered : (bs : List ℕ) → length (str_to_ascii_lowercase bs) ≡ length bs
+length-lowered bs = length-map bs to_ascii_lowercase
+
 bad-parts : (which : Which) (place : Option ℕ) (bs p : List ℕ) → unless_bad which place bs ≡ Ok p → (place ≡ None) × (unless_long which bs ≡ Ok p)
 bad-parts which None bs p h = (refl, h)
 bad-parts which (Some place) bs p h = absurd (cc)
@@ -126,9 +132,15 @@ local_stays p h =
     local-steps p size.0 (refused_at-fit Local p l.fit) (ap (λ x. is_nfc (chars x)) l.lower ∙ l.normal)
     ∙ ap (unless_long Local) l.lower ∙ unless_long-short Local p size.1
 
-pub local_of-ascii : (bs : List ℕ) → 0 < length bs → list_all is_local_byte bs ≡ true → local_of bs ≡ unless_long Local (str_to_ascii_lowercase bs)
-local_of-ascii bs some all =
+local-ascii : (bs : List ℕ) → 0 < length bs → list_all is_local_byte bs ≡ true → local_of bs ≡ unless_long Local (str_to_ascii_lowercase bs)
+local-ascii bs some all =
     local-steps bs some (refused_at-fit Local bs (is_fit-local bs all)) (is_nfc-ascii _ (IsAscii-lowered bs (all-low bs (all-resource bs all))))
+
+pub local_of_short : (bs : List ℕ) → 0 < length bs → list_all is_local_byte bs ≡ true → length bs < 1024 → local_of bs ≡ Ok (str_to_ascii_lowercase bs)
+local_of_short bs some all short = local-ascii bs some all ∙ unless_long-short Local _ (omega (arith, length-lowered bs))
+
+pub local_of_long : (bs : List ℕ) → 0 < length bs → list_all is_local_byte bs ≡ true → 1023 < length bs → local_of bs ≡ Err (Long Local)
+local_of_long bs some all long = local-ascii bs some all ∙ unless_long-long Local _ (omega (arith, length-lowered bs))
 
 -- ---- resources
 
@@ -212,9 +224,15 @@ resource_stays p h =
     let same : in_nfc p ≡ p = ap encode_utf8_all (is_in_form-true Nfc (chars p) r.normal) ∙ encodes-chars p (IsUtf8-from_resource p h) in
     resource-steps p size.0 (refused_at-fit Resource p r.fit) ∙ ap (unless_long Resource) same ∙ unless_long-short Resource p size.1
 
-pub resource_of-ascii : (bs : List ℕ) → 0 < length bs → list_all is_resource_byte bs ≡ true → resource_of bs ≡ unless_long Resource bs
-resource_of-ascii bs some all =
+resource-ascii : (bs : List ℕ) → 0 < length bs → list_all is_resource_byte bs ≡ true → resource_of bs ≡ unless_long Resource bs
+resource-ascii bs some all =
     resource-steps bs some (refused_at-fit Resource bs (is_fit-resource bs all)) ∙ ap (unless_long Resource) (in_nfc-ascii bs (all-low bs all))
+
+pub resource_of_short : (bs : List ℕ) → 0 < length bs → list_all is_resource_byte bs ≡ true → length bs < 1024 → resource_of bs ≡ Ok bs
+resource_of_short bs some all short = resource-ascii bs some all ∙ unless_long-short Resource bs short
+
+pub resource_of_long : (bs : List ℕ) → 0 < length bs → list_all is_resource_byte bs ≡ true → 1023 < length bs → resource_of bs ≡ Err (Long Resource)
+resource_of_long bs some all long = resource-ascii bs some all ∙ unless_long-long Resource bs long
 
 -- printable ASCII of the right size
 pub is_resource-ascii : (bs : List ℕ) → has_size bs ≡ true → list_all is_resource_byte bs ≡ true → is_resource bs ≡ true
@@ -336,10 +354,16 @@ domain_stays p h =
     let size = size-parts p d.size in
     domain-steps p p size.0 (ap ascii_form (keeps-last p d.labels) ∙ d.same) d.labels ∙ unless_long-short Domain p size.1
 
-pub domain_of-ascii : (bs : List ℕ) → 0 < length bs → are_labels (str_to_ascii_lowercase (without_final_dot bs)) ≡ true → domain_of bs ≡ unless_long Domain (str_to_ascii_lowercase (without_final_dot bs))
-domain_of-ascii bs some labels =
+domain-ascii : (bs : List ℕ) → 0 < length bs → are_labels (without_final_dot bs) ≡ true → domain_of bs ≡ unless_long Domain (str_to_ascii_lowercase (without_final_dot bs))
+domain-ascii bs some labels =
     let given = without_final_dot bs in
-    domain-steps bs (str_to_ascii_lowercase given) some (ascii_form-ascii given labels) (has_labels-ascii (str_to_ascii_lowercase given) labels)
+    domain-steps bs (str_to_ascii_lowercase given) some (ascii_form-ascii given labels) (has_labels-ascii given labels)
+
+pub domain_of_short : (bs : List ℕ) → 0 < length bs → are_labels (without_final_dot bs) ≡ true → length (without_final_dot bs) < 1024 → domain_of bs ≡ Ok (str_to_ascii_lowercase (without_final_dot bs))
+domain_of_short bs some labels short = domain-ascii bs some labels ∙ unless_long-short Domain _ (omega (arith, length-lowered (without_final_dot bs)))
+
+pub domain_of_long : (bs : List ℕ) → 0 < length bs → are_labels (without_final_dot bs) ≡ true → 1023 < length (without_final_dot bs) → domain_of bs ≡ Err (Long Domain)
+domain_of_long bs some labels long = domain-ascii bs some labels ∙ unless_long-long Domain _ (omega (arith, length-lowered (without_final_dot bs)))
 
 -- a small letter, a digit, a hyphen or a dot
 abbrev pub is_name_byte : ℕ → Bool

@@ -1,5 +1,6 @@
 -- Parts in ASCII, which are prepared without a look at Unicode's tables.
 use Rattle.std.specs.Prelude.{ℕ, ◌-◌, ◌==◌, nat_lt, nat_le, Bool, not, ◌&&◌, ◌||◌, List, length, slice_index}
+use Rattle.std.specs.Char.{is_ascii_alphanumeric}
 use Rattle.std.specs.List.{list_all, slice_split}
 use Rattle.jid_core.specs.Preparation.{is_excluded}
 
@@ -10,9 +11,9 @@ is_resource_byte b = nat_le 32 b && nat_lt b 127
 abbrev pub is_local_byte : ℕ → Bool
 is_local_byte b = is_resource_byte b && not (is_excluded b)
 
--- RFC 5890, 2.3.1: a small letter, a digit or a hyphen
+-- RFC 5890, 2.3.1: a letter, a digit or a hyphen
 abbrev pub is_label_byte : ℕ → Bool
-is_label_byte b = (nat_le 97 b && nat_le b 122) || (nat_le 48 b && nat_le b 57) || (b == 45)
+is_label_byte b = is_ascii_alphanumeric b || (b == 45)
 
 -- RFC 5891, 4.2.3.1: a hyphen stands neither first nor last, nor at both the third and the fourth place
 abbrev pub has_stray_hyphen : List ℕ → Bool

@@ -46,7 +46,7 @@ fn has_label_bytes(label: &[u8]) -> bool
 {
     label
         .iter()
-        .all(|byte| matches!(*byte, b'a'..=b'z' | b'0'..=b'9' | b'-'))
+        .all(|byte| byte.is_ascii_alphanumeric() || *byte == b'-')
 }
 
 fn is_label(label: &[u8]) -> bool
@@ -55,7 +55,7 @@ fn is_label(label: &[u8]) -> bool
     !label.is_empty() && label.len() < 64 && has_label_bytes(label) && !has_stray_hyphen(label)
 }
 
-/// Whether they are labels of small letters, digits and hyphens, joined by dots.
+/// Whether they are labels of letters, digits and hyphens, joined by dots.
 pub(crate) fn are_labels(bytes: &[u8]) -> bool
     ensures { result ≡ are_labels bytes.now }
 {

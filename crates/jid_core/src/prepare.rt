@@ -1,7 +1,8 @@
 //! The preparation of the parts of an address (RFC 7622, section 3).
-ghost use Rattle.std.specs.Prelude.{◌≡◌, ◌<◌, Ok, length, string_bytes, IfOk, IfErr};
+ghost use Rattle.std.specs.Prelude.{◌≡◌, ◌<◌, Ok, length, string_bytes, IfOk, IfErr, OnOk};
 ghost use Rattle.idna.specs.Errors.{Gives};
-ghost use Rattle.jid_core.specs.Preparation.{local_of, resource_of, domain_of, in_nfc, unless_long, unless_none, without_final_dot, has_labels, ascii_form, in_labels, IsCause};
+ghost use Rattle.jid_core.specs.declared.fault.JidFault.TheVariants.{Long};
+ghost use Rattle.jid_core.specs.Preparation.{local_of, resource_of, domain_of, unless_none, without_final_dot, has_labels, ascii_form, in_labels, IsCause};
 
 use crate::ascii::{are_labels, is_plain_local, is_plain_resource, lowered};
 use crate::fault::{JidFault, Which};
@@ -14,17 +15,19 @@ use unicode_normalization::{is_nfc, to_nfc};
 /// The most bytes that a prepared part has (RFC 7622, 3.2 to 3.4).
 const MOST_BYTES: usize = 1023;
 
-fn unless_long(which: Which, part: Vec<u8>) -> Result<Vec<u8>, JidFault>
-    ensures ok { IfOk result (λ p. unless_long which part.items ≡ Ok p.items) }
-    ensures fault { IfErr result (IsCause (unless_long which part.items)) }
+/// A prepared part has at most 1,023 bytes.
+fn has_size(which: Which, part: &[u8]) -> Result<(), JidFault>
+    ensures ok { OnOk result (length part.now < 1024) }
+    ensures long { IfErr result (λ fault. (fault ≡ Long which) × (1023 < length part.now)) }
 {
     if part.len() > MOST_BYTES {
         return Err(JidFault::Long(which));
     }
-    Ok(part)
+    Ok(())
 }
 
 /// A local part (RFC 7622, 3.3): its letters of ASCII are lowered.
+#[tactic(auto, using(crate::proofs::PreparationLemmas::local_of_short, crate::proofs::PreparationLemmas::local_of_long))]
 pub(crate) fn prepared_local(alloc: Global, bytes: &[u8]) -> Result<Vec<u8>, JidFault>
     ensures ok { IfOk result (λ p. local_of bytes.now ≡ Ok p.items) }
     ensures fault { IfErr result (IsCause (local_of bytes.now)) }
@@ -35,7 +38,8 @@ pub(crate) fn prepared_local(alloc: Global, bytes: &[u8]) -> Result<Vec<u8>, Jid
     if !is_plain_local(bytes) {
         return local_in_unicode(alloc, bytes);
     }
-    unless_long(Which::Local, lowered(alloc, bytes)?)
+    has_size(Which::Local, bytes)?;
+    Ok(lowered(alloc, bytes)?)
 }
 
 fn local_in_unicode(alloc: Global, bytes: &[u8]) -> Result<Vec<u8>, JidFault>
@@ -51,12 +55,14 @@ fn local_in_unicode(alloc: Global, bytes: &[u8]) -> Result<Vec<u8>, JidFault>
             if !is_nfc(alloc, text.as_str())? {
                 return Err(JidFault::Bad(Which::Local, 0));
             }
-            unless_long(Which::Local, text.into_bytes())
+            has_size(Which::Local, text.as_bytes())?;
+            Ok(text.into_bytes())
         }
     }
 }
 
 /// A resource (RFC 7622, 3.4): it is brought to Normalization Form C.
+#[tactic(auto, using(crate::proofs::PreparationLemmas::resource_of_short, crate::proofs::PreparationLemmas::resource_of_long))]
 pub(crate) fn prepared_resource(alloc: Global, bytes: &[u8]) -> Result<Vec<u8>, JidFault>
     ensures ok { IfOk result (λ p. resource_of bytes.now ≡ Ok p.items) }
     ensures fault { IfErr result (IsCause (resource_of bytes.now)) }
@@ -67,7 +73,8 @@ pub(crate) fn prepared_resource(alloc: Global, bytes: &[u8]) -> Result<Vec<u8>, 
     if !is_plain_resource(bytes) {
         return resource_in_unicode(alloc, bytes);
     }
-    unless_long(Which::Resource, bytes.to_vec(alloc)?)
+    has_size(Which::Resource, bytes)?;
+    Ok(bytes.to_vec(alloc)?)
 }
 
 fn resource_in_unicode(alloc: Global, bytes: &[u8]) -> Result<Vec<u8>, JidFault>
@@ -77,7 +84,11 @@ fn resource_in_unicode(alloc: Global, bytes: &[u8]) -> Result<Vec<u8>, JidFault>
 {
     match fit_text(Which::Resource, bytes) {
         Err(place) => Err(JidFault::Bad(Which::Resource, place)),
-        Ok(text) => unless_long(Which::Resource, to_nfc(alloc, text)?.into_bytes()),
+        Ok(text) => {
+            let text = to_nfc(alloc, text)?;
+            has_size(Which::Resource, text.as_bytes())?;
+            Ok(text.into_bytes())
+        }
     }
 }
 
@@ -95,6 +106,7 @@ fn without_final_dot(bytes: &[u8]) -> &[u8]
 }
 
 /// A domain (RFC 7622, 3.2): it loses one final dot, and ToASCII gives labels of 1 to 63 bytes.
+#[tactic(auto, using(crate::proofs::PreparationLemmas::domain_of_short, crate::proofs::PreparationLemmas::domain_of_long))]
 pub(crate) fn prepared_domain(alloc: Global, bytes: &[u8]) -> Result<Vec<u8>, JidFault>
     ensures ok { IfOk result (λ p. domain_of bytes.now ≡ Ok p.items) }
     ensures fault { IfErr result (IsCause (domain_of bytes.now)) }
@@ -103,11 +115,11 @@ pub(crate) fn prepared_domain(alloc: Global, bytes: &[u8]) -> Result<Vec<u8>, Ji
         return Err(JidFault::Empty(Which::Domain));
     }
     let name = without_final_dot(bytes);
-    let lower = lowered(alloc, name)?;
-    if !are_labels(lower.as_slice()) {
+    if !are_labels(name) {
         return name_in_unicode(alloc, name);
     }
-    unless_long(Which::Domain, lower)
+    has_size(Which::Domain, name)?;
+    Ok(lowered(alloc, name)?)
 }
 
 fn name_in_unicode(alloc: Global, name: &[u8]) -> Result<Vec<u8>, JidFault>
@@ -119,7 +131,8 @@ fn name_in_unicode(alloc: Global, name: &[u8]) -> Result<Vec<u8>, JidFault>
             if !has_labels(text.as_bytes()) {
                 return Err(JidFault::Bad(Which::Domain, 0));
             }
-            unless_long(Which::Domain, text.into_bytes())
+            has_size(Which::Domain, text.as_bytes())?;
+            Ok(text.into_bytes())
         }
         Err(Errors::Invalid) => Err(JidFault::Bad(Which::Domain, 0)),
         Err(Errors::OutOfMemory) => Err(JidFault::NoMemory),
