@@ -1,3 +1,4 @@
 pub mod Addresses
+pub mod AsciiParts
 pub mod Cuts
 pub mod Preparation

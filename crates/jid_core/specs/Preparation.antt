@@ -1,61 +1,84 @@
--- The preparation of the parts of an address (RFC 7622, section 3), for ASCII.
-use Rattle.std.specs.Prelude.{◌≡◌, ℕ, ◌-◌, ◌==◌, nat_lt, nat_le, Bool, not, ◌&&◌, ◌||◌, List, [], ◌∷◌, length, slice_index, take, position, Option, Some, None, Result, Ok, Err, ⊤, if◌then◌else◌}
-use Rattle.std.specs.List.{slice_split, list_all}
-use Rattle.std.specs.Str.{str_to_ascii_lowercase}
+-- The preparation of the parts of an address (RFC 7622, section 3).
+use Rattle.std.specs.Prelude.{ℕ, ◌+◌, ◌-◌, ◌==◌, nat_lt, Bool, false, not, ◌&&◌, ◌||◌, List, [], ◌∷◌, length, slice_index, take, bytes_eq, chars, encode_utf8_all, Option, Some, None, Result, Ok, Err, ⊤, ◌≡◌, if◌then◌else◌}
+use Rattle.std.specs.Char.{is_control, len_utf8}
+use Rattle.std.specs.Int.{is_in_range}
+use Rattle.std.specs.List.{list_all}
+use Rattle.std.specs.Option.{option_or, option_and_then}
+use Rattle.std.specs.Str.{str_to_ascii_lowercase, is_utf8}
+use Rattle.std.specs.Str.Lossy.{utf8_valid_len}
+use Rattle.unicode_normalization.specs.Forms.{nfc, is_nfc}
+use Rattle.idna.specs.declared.deny_list.TheConstants.AsciiDenyList.{STD3}
+use Rattle.idna.specs.declared.options.Hyphens.TheVariants.{Check}
+use Rattle.idna.specs.declared.options.DnsLength.TheVariants.{Ignore}
+use Rattle.idna.specs.Labels.{labels_of}
+use Rattle.idna.specs.Uts46.{to_ascii, if_passes}
 use Rattle.jid_core.specs.declared.fault.Which.{Which}
 use Rattle.jid_core.specs.declared.fault.Which.TheVariants.{Local, Domain, Resource}
 use Rattle.jid_core.specs.declared.fault.JidFault.{JidFault}
 use Rattle.jid_core.specs.declared.fault.JidFault.TheVariants.{NoMemory, Empty, Long, Bad}
 
--- a control character, or a byte beyond ASCII
-abbrev pub is_outside : ℕ → Bool
-is_outside b = nat_lt b 32 || nat_lt 126 b
+-- ---- what is refused
 
--- RFC 7622, 3.3.1: what else a local part may not have, which is a space and `" & ' / : < > @`
+-- RFC 7622, 3.3.1: a space and `" & ' / : < > @`
 abbrev pub is_excluded : ℕ → Bool
-is_excluded b = (b == 32) || (b == 34) || (b == 38) || (b == 39) || (b == 47) || (b == 58) || (b == 60) || (b == 62) || (b == 64)
+is_excluded c = (c == 32) || (c == 34) || (c == 38) || (c == 39) || (c == 47) || (c == 58) || (c == 60) || (c == 62) || (c == 64)
 
-abbrev pub is_refused_in_local : ℕ → Bool
-is_refused_in_local b = is_outside b || is_excluded b
+-- the characters that a part may not have: control characters (general category Cc), and in a local part the excluded ones
+abbrev pub is_refused : Which → ℕ → Bool
+is_refused Local c = is_control c || is_excluded c
+is_refused _ c = is_control c
 
-abbrev pub is_capital : ℕ → Bool
-is_capital b = nat_le 65 b && nat_le b 90
+-- how many bytes the characters before the first refused one have
+abbrev pub fit_len : (ℕ → Bool) → List ℕ → ℕ
+fit_len refused [] = 0
+fit_len refused (c ∷ cs) = if refused c then 0 else len_utf8 c + fit_len refused cs
 
--- 1 to 1023 bytes
+-- the characters of the longest front that is UTF-8 (RFC 3629)
+abbrev pub front_chars : List ℕ → List ℕ
+front_chars bytes = chars (take (utf8_valid_len bytes) bytes)
+
+-- the place of the first byte that begins no character that the part may have
+abbrev pub unless_all : ℕ → List ℕ → Option ℕ
+unless_all place bytes = if place == length bytes then None else Some place
+
+abbrev pub refused_at : Which → List ℕ → Option ℕ
+refused_at which bytes = unless_all (fit_len (is_refused which) (front_chars bytes)) bytes
+
+-- ---- prepared parts
+
+-- 1 to 1023 bytes (RFC 7622, 3.2 to 3.4)
 abbrev pub has_size : List ℕ → Bool
 has_size bytes = nat_lt 0 (length bytes) && nat_lt (length bytes) 1024
 
--- a prepared resource
-abbrev pub is_resource : List ℕ → Bool
-is_resource bytes = has_size bytes && list_all (λ b. not (is_outside b)) bytes
+-- UTF-8 of characters that the part may have
+abbrev pub is_fit : Which → List ℕ → Bool
+is_fit which bytes = is_utf8 bytes && list_all (λ c. not (is_refused which c)) (chars bytes)
 
--- a prepared local part
-abbrev pub is_local : List ℕ → Bool
-is_local bytes = has_size bytes && list_all (λ b. not (is_refused_in_local b) && not (is_capital b)) bytes
+-- a prepared resource: in Normalization Form C
+unfoldable pub is_resource : List ℕ → Bool
+is_resource bytes = has_size bytes && is_fit Resource bytes && is_nfc (chars bytes)
 
--- RFC 5890, 2.3.1: a letter, a digit or a hyphen
-abbrev pub is_label_byte : ℕ → Bool
-is_label_byte b = (nat_le 97 b && nat_le b 122) || (nat_le 48 b && nat_le b 57) || (b == 45)
+-- a prepared local part: without capital letters of ASCII, in Normalization Form C
+unfoldable pub is_local : List ℕ → Bool
+is_local bytes = has_size bytes && is_fit Local bytes && bytes_eq (str_to_ascii_lowercase bytes) bytes && is_nfc (chars bytes)
 
--- RFC 5891, 4.2.3.1: a hyphen stands neither first nor last, nor at both the third and the fourth place
-abbrev pub has_stray_hyphen : List ℕ → Bool
-has_stray_hyphen label =
-    (slice_index label 0 == 45) || (slice_index label (length label - 1) == 45) || ((slice_index label 2 == 45) && (slice_index label 3 == 45))
+-- RFC 1035, 2.3.4: each label of the name has 1 to 63 bytes
+abbrev pub has_labels : List ℕ → Bool
+has_labels name = list_all (λ label. is_in_range 1 63 (length label)) (labels_of name)
 
--- RFC 1035, 2.3.4: 1 to 63 of these
-abbrev pub is_label : List ℕ → Bool
-is_label label = nat_lt 0 (length label) && nat_lt (length label) 64 && list_all is_label_byte label && not (has_stray_hyphen label)
+-- UTS 46, 4.2, ToASCII, with the characters of STD3 and no hyphens but inside of labels
+abbrev pub ascii_form : List ℕ → Option (List ℕ)
+ascii_form name = to_ascii STD3 Check Ignore name
 
--- labels joined by dots
-abbrev pub are_labels : List ℕ → Bool
-are_labels bytes = list_all is_label (slice_split (λ b. b == 46) bytes)
+abbrev pub gives : Option (List ℕ) → List ℕ → Bool
+gives None name = false
+gives (Some other) name = bytes_eq other name
 
--- a prepared domain
-abbrev pub is_domain : List ℕ → Bool
-is_domain bytes = has_size bytes && are_labels bytes
+-- a prepared domain: labels in ASCII, which ToASCII leaves as they are
+unfoldable pub is_domain : List ℕ → Bool
+is_domain name = has_size name && has_labels name && gives (ascii_form name) name
 
-abbrev pub without_final_dot : List ℕ → List ℕ
-without_final_dot bytes = if slice_index bytes (length bytes - 1) == 46 then take (length bytes - 1) bytes else bytes
+-- ---- the preparation
 
 -- a part, where a byte at this place was refused, or none: then it may still be too long
 abbrev pub unless_long : Which → List ℕ → Result (List ℕ) JidFault
@@ -65,23 +88,37 @@ abbrev pub unless_bad : Which → Option ℕ → List ℕ → Result (List ℕ) 
 unless_bad which None bytes = unless_long which bytes
 unless_bad which (Some place) bytes = Err (Bad which place)
 
--- RFC 7622, 3.3: the letters are lowered
+-- RFC 7622, 3.3: once the letters of ASCII are lowered the part is in Normalization Form C, or it is refused as a whole
+abbrev pub unless_nfc : List ℕ → Option ℕ
+unless_nfc bytes = if is_nfc (chars bytes) then None else Some 0
+
 abbrev pub local_of : List ℕ → Result (List ℕ) JidFault
 local_of [] = Err (Empty Local)
-local_of (b ∷ more) = unless_bad Local (position is_refused_in_local (b ∷ more)) (str_to_ascii_lowercase (b ∷ more))
+local_of (b ∷ more) =
+    unless_bad Local (option_or (refused_at Local (b ∷ more)) (unless_nfc (str_to_ascii_lowercase (b ∷ more)))) (str_to_ascii_lowercase (b ∷ more))
 
--- RFC 7622, 3.4
+-- RFC 7622, 3.4: the part is brought to Normalization Form C
+abbrev pub in_nfc : List ℕ → List ℕ
+in_nfc bytes = encode_utf8_all (nfc (chars bytes))
+
 abbrev pub resource_of : List ℕ → Result (List ℕ) JidFault
 resource_of [] = Err (Empty Resource)
-resource_of (b ∷ more) = unless_bad Resource (position is_outside (b ∷ more)) (b ∷ more)
+resource_of (b ∷ more) = unless_bad Resource (refused_at Resource (b ∷ more)) (in_nfc (b ∷ more))
 
--- RFC 7622, 3.2: one final dot goes, and the letters are lowered
-abbrev pub domain_form : List ℕ → List ℕ
-domain_form bytes = str_to_ascii_lowercase (without_final_dot bytes)
+-- RFC 7622, 3.2: one final dot goes, and ToASCII gives labels, or the domain is refused as a whole
+abbrev pub without_final_dot : List ℕ → List ℕ
+without_final_dot bytes = if slice_index bytes (length bytes - 1) == 46 then take (length bytes - 1) bytes else bytes
+
+abbrev pub in_labels : List ℕ → Option (List ℕ)
+in_labels name = option_and_then (if_passes has_labels) (ascii_form name)
+
+abbrev pub unless_none : Option (List ℕ) → Result (List ℕ) JidFault
+unless_none None = Err (Bad Domain 0)
+unless_none (Some name) = unless_long Domain name
 
 abbrev pub domain_of : List ℕ → Result (List ℕ) JidFault
 domain_of [] = Err (Empty Domain)
-domain_of (b ∷ more) = unless_bad Domain (if are_labels (domain_form (b ∷ more)) then None else Some 0) (domain_form (b ∷ more))
+domain_of (b ∷ more) = unless_none (in_labels (without_final_dot (b ∷ more)))
 
 -- a fault is the one that reading has. Want of memory has no cause here.
 abbrev pub IsCause : {A : Type 0} → Result A JidFault → JidFault → Type 0

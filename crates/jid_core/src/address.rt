@@ -1,5 +1,5 @@
 //! Addresses of an optional local part, a domain and an optional resource (RFC 7622, 3.1).
-ghost use Rattle.std.specs.Prelude.{◌≡◌, ◌++◌, ◌↔◌, ◌≤◌, length, Ok, IfOk, IfErr, IsTrue, OnOk, OnErr};
+ghost use Rattle.std.specs.Prelude.{◌≡◌, ◌++◌, ◌↔◌, ◌≤◌, length, take, Ok, IfOk, IfErr, IsTrue, IsUtf8, OnOk, OnErr};
 ghost use Rattle.jid_core.specs.Addresses.{bare, is_prepared, same_part, same_bare, same_address, address_text, address_of};
 ghost use Rattle.jid_core.specs.Preparation.{IsCause};
 
@@ -109,22 +109,37 @@ impl Jid {
         is_same_part(&self.local, &other.local) && self.domain.bytes() == other.domain.bytes()
     }
 
-    /// Appends `local@domain/resource`, whole or not at all.
+    /// Appends `local@domain/resource`, whole or not at all (RFC 7622, 3.1).
+    #[tactic(auto, using(crate::proofs::AddressLemmas::address_text_short, crate::proofs::AddressLemmas::address_text_utf8))]
     pub fn write(&self, out: &mut Vec<u8>) -> Result<(), NoMemory>
         ensures ok { OnOk result (out.new.items ≡ out.old.items ++ address_text self.now) }
         ensures err { OnErr result (out.new.items ≡ out.old.items) }
         ensures short { length (address_text self.now) ≤ 3071 }
+        ensures utf8 { IsUtf8 (address_text self.now) }
     {
-        let mut whole = Vec::new(*out.allocator());
+        let _ = &self.domain;
+        let len = out.len();
+        let written = self.push(out);
+        if written.is_err() {
+            out.truncate(len);
+        }
+        written
+    }
+
+    // Where memory is wanting, a part of the text may stand behind what was there.
+    fn push(&self, out: &mut Vec<u8>) -> Result<(), NoMemory>
+        ensures ok { OnOk result (out.new.items ≡ out.old.items ++ address_text self.now) }
+        ensures kept { take (length out.old.items) out.new.items ≡ out.old.items }
+    {
         if let Some(local) = &self.local {
-            whole.extend_from_slice(local.bytes())?;
-            whole.extend_from_slice(b"@")?;
+            out.extend_from_slice(local.bytes())?;
+            out.extend_from_slice(b"@")?;
         }
-        whole.extend_from_slice(self.domain.bytes())?;
+        out.extend_from_slice(self.domain.bytes())?;
         if let Some(resource) = &self.resource {
-            whole.extend_from_slice(b"/")?;
-            whole.extend_from_slice(resource.bytes())?;
+            out.extend_from_slice(b"/")?;
+            out.extend_from_slice(resource.bytes())?;
         }
-        out.extend_from_slice(whole.as_slice())
+        Ok(())
     }
 }

@@ -1,10 +1,14 @@
-//! XMPP addresses (RFC 7622), in ASCII: read, prepared, compared and written.
+//! XMPP addresses (RFC 7622): read, prepared, compared and written.
 #![tactic(auto)]
 
 pub mod address;
+mod ascii;
 pub mod cut;
 pub mod fault;
+pub mod laws;
 pub mod part;
+mod prepare;
+mod refuse;
 #[cfg(test)]
 mod tests;
 

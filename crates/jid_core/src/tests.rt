@@ -1,4 +1,4 @@
-//! Addresses by hand, from RFC 7622, RFC 1035 and RFC 5890.
+//! Addresses by hand, from RFC 7622, RFC 1035, RFC 5890, and the tests of UTS 46 and UAX 15.
 
 use super::*;
 use std::alloc::Global;
@@ -28,15 +28,10 @@ fn has_parts(address: &Jid, want: &Parts) -> bool {
 fn addresses_are_read(rt: HostRuntime) -> Result<(), Fail> {
     let cases: [(&[u8], Parts); 8] = [
         (
-            b"alice@example.org/phone",
-            (Some(b"alice"), b"example.org", Some(b"phone")),
-        ),
-        (
-            b"ALice@Example.ORG/Phone",
-            (Some(b"alice"), b"example.org", Some(b"Phone")),
+            b"Alice@Example.ORG/Desk",
+            (Some(b"alice"), b"example.org", Some(b"Desk")),
         ),
         (b"alice@example.org", (Some(b"alice"), b"example.org", None)),
-        (b"example.org", (None, b"example.org", None)),
         (b"example.org.", (None, b"example.org", None)),
         (b"example.org/phone", (None, b"example.org", Some(b"phone"))),
         (
@@ -47,6 +42,14 @@ fn addresses_are_read(rt: HostRuntime) -> Result<(), Fail> {
             b"a.b_c+d!@x--1.2.a-b",
             (Some(b"a.b_c+d!"), b"x--1.2.a-b", None),
         ),
+        (
+            b"u@b\xc3\xbccher.example",
+            (Some(b"u"), b"xn--bcher-kva.example", None),
+        ),
+        (
+            b"king@example.com/\xe2\x99\x9a",
+            (Some(b"king"), b"example.com", Some(b"\xe2\x99\x9a")),
+        ),
     ];
     for (i, (text, want)) in cases.iter().enumerate() {
         let address = Jid::read(rt.alloc(), text)?;
@@ -55,98 +58,36 @@ fn addresses_are_read(rt: HostRuntime) -> Result<(), Fail> {
     Ok(())
 }
 
+// The parts are tried in the order local part, domain, resource.
 #[test]
 fn faults_are_told(rt: HostRuntime) {
-    let cases: [(&[u8], JidFault); 22] = [
+    let cases: [(&[u8], JidFault); 10] = [
         (b"", JidFault::Empty(Which::Domain)),
         (b"@example.org", JidFault::Empty(Which::Local)),
-        (b"@", JidFault::Empty(Which::Local)),
         (b"alice@", JidFault::Empty(Which::Domain)),
         (b"/phone", JidFault::Empty(Which::Domain)),
         (b"alice@example.org/", JidFault::Empty(Which::Resource)),
-        (b"al ice@example.org", JidFault::Bad(Which::Local, 2)),
-        (b"a\"b@example.org", JidFault::Bad(Which::Local, 1)),
-        (b"alice:@example.org", JidFault::Bad(Which::Local, 5)),
-        (
-            &[0x61, 0xc3, 0xa9, 0x40, 0x62],
-            JidFault::Bad(Which::Local, 1),
-        ),
-        (&[0x61, 0x40, 0xc3, 0xa9], JidFault::Bad(Which::Domain, 0)),
-        (
-            &[0x61, 0x2f, 0x62, 0x63, 0x7f],
-            JidFault::Bad(Which::Resource, 2),
-        ),
-        (&[0x61, 0x2f, 0xc3, 0xa9], JidFault::Bad(Which::Resource, 0)),
+        (b"a b@example.org", JidFault::Bad(Which::Local, 1)),
         (b"alice@bob@example.org", JidFault::Bad(Which::Domain, 0)),
-        (b"alice@exa_mple.org", JidFault::Bad(Which::Domain, 0)),
-        (b"alice@-example.org", JidFault::Bad(Which::Domain, 0)),
-        (b"alice@example-.org", JidFault::Bad(Which::Domain, 0)),
-        (b"alice@xn--caf-dma.org", JidFault::Bad(Which::Domain, 0)),
-        (b"alice@example..org", JidFault::Bad(Which::Domain, 0)),
-        (b"alice@.", JidFault::Bad(Which::Domain, 0)),
         (b"a b@c d/", JidFault::Bad(Which::Local, 1)),
         (b"ab@c d/", JidFault::Bad(Which::Domain, 0)),
+        (b"ab@cd/e\n", JidFault::Bad(Which::Resource, 1)),
     ];
     for (i, (text, want)) in cases.iter().enumerate() {
         assert_eq!(rt; Jid::read(rt.alloc(), text).err(), Some(*want), "case {i}");
     }
 }
 
-// Labels of one letter, with a dot after each.
-fn labels() -> [u8; 1024] {
-    let mut labels = [b'a'; 1024];
-    for i in 0..1024usize {
-        if i % 2 == 1 {
-            labels[i] = b'.';
-        }
-    }
-    labels
-}
-
-// A part has at most 1,023 bytes, and a label of a domain at most 63.
-#[test]
-fn parts_have_a_greatest_length(rt: HostRuntime) {
-    let long = [b'a'; 1024];
-    let cases: [(usize, Option<JidFault>, Option<JidFault>); 2] = [
-        (1023, None, None),
-        (
-            1024,
-            Some(JidFault::Long(Which::Local)),
-            Some(JidFault::Long(Which::Resource)),
-        ),
-    ];
-    for (count, local, resource) in cases {
-        let bytes = &long[..count.min(1024)];
-        assert_eq!(rt; Part::local(rt.alloc(), bytes).err(), local);
-        assert_eq!(rt; Part::resource(rt.alloc(), bytes).err(), resource);
-    }
-}
-
-#[test]
-fn domains_have_a_greatest_length(rt: HostRuntime) {
-    let long = [b'a'; 64];
-    let labels = labels();
-    let cases: [(&[u8], Option<JidFault>); 4] = [
-        (&long, Some(JidFault::Bad(Which::Domain, 0))),
-        (&long[..63], None),
-        (&labels, None),
-        (&labels[..1023], None),
-    ];
-    for (i, (text, want)) in cases.iter().enumerate() {
-        assert_eq!(rt; Jid::read(rt.alloc(), text).err(), *want, "case {i}");
-    }
-}
-
-#[test]
-fn a_domain_of_1024_bytes_is_long(rt: HostRuntime) {
-    let mut labels = labels();
-    labels[1023] = b'a';
-    let fault = Jid::read(rt.alloc(), &labels).err();
-    assert_eq!(rt; fault, Some(JidFault::Long(Which::Domain)));
-}
-
 // A part as it was given, and as it is prepared or refused.
 type Prepared<'a> = (&'a [u8], Result<&'a [u8], JidFault>);
+
+fn prepare(alloc: Global, which: Which, bytes: &[u8]) -> Result<Part, JidFault> {
+    match which {
+        Which::Local => Part::local(alloc, bytes),
+        Which::Domain => Part::domain(alloc, bytes),
+        Which::Resource => Part::resource(alloc, bytes),
+    }
+}
 
 fn has_bytes(part: &Part, want: &Result<&[u8], JidFault>) -> bool {
     match want {
@@ -169,29 +110,107 @@ fn is_prepared(part: &Result<Part, JidFault>, want: &Result<&[u8], JidFault>) ->
     }
 }
 
-#[test]
-fn local_parts_are_prepared(rt: HostRuntime) {
-    let cases: [Prepared; 3] = [
-        (b"Al.ICE-1", Ok(b"al.ice-1")),
-        (b"", Err(JidFault::Empty(Which::Local))),
-        (b"ab/c", Err(JidFault::Bad(Which::Local, 2))),
-    ];
+fn expect_prepared<R: Abort>(rt: &R, alloc: Global, which: Which, cases: &[Prepared]) {
     for (i, (bytes, want)) in cases.iter().enumerate() {
-        let part = Part::local(rt.alloc(), bytes);
-        assert!(rt; is_prepared(&part, want), "case {i}");
+        let part = prepare(alloc, which, bytes);
+        assert!(rt; is_prepared(&part, want), "case {i} of {which:?}");
     }
 }
 
+// RFC 7622, 3.3 and 3.5. `h` and U+0331 compose to U+1E96, `H` and U+0331 to nothing, and `I` and U+0307 to U+0130.
+#[test]
+fn local_parts_are_prepared(rt: HostRuntime) {
+    let cases: [Prepared; 14] = [
+        (b"Al.ICE-1", Ok(b"al.ice-1")),
+        (b"foo\\20bar", Ok(b"foo\\20bar")),
+        (b"fu\xc3\x9fball", Ok(b"fu\xc3\x9fball")),
+        (b"ZO\xc3\x8b", Ok(b"zo\xc3\x8b")),
+        (b"I\xcc\x87", Ok(b"i\xcc\x87")),
+        (b"H\xcc\xb1", Err(JidFault::Bad(Which::Local, 0))),
+        (b"e\xcc\x81", Err(JidFault::Bad(Which::Local, 0))),
+        (b"e\xcc\x81 ", Err(JidFault::Bad(Which::Local, 3))),
+        (b"ab/c", Err(JidFault::Bad(Which::Local, 2))),
+        (b"a\xc2\x85", Err(JidFault::Bad(Which::Local, 1))),
+        (b"\xc3\xa9\xff", Err(JidFault::Bad(Which::Local, 2))),
+        (b"a\xff b", Err(JidFault::Bad(Which::Local, 1))),
+        (b"a b\xff", Err(JidFault::Bad(Which::Local, 1))),
+        (b"", Err(JidFault::Empty(Which::Local))),
+    ];
+    expect_prepared(&rt, rt.alloc(), Which::Local, &cases);
+}
+
+// RFC 7622, 3.4 and 3.5.
 #[test]
 fn resources_are_prepared(rt: HostRuntime) {
-    let cases: [Prepared; 3] = [
+    let cases: [Prepared; 7] = [
         (b"My Phone/@2", Ok(b"My Phone/@2")),
-        (b"", Err(JidFault::Empty(Which::Resource))),
+        (b"e\xcc\x81t\xc3\xa9", Ok(b"\xc3\xa9t\xc3\xa9")),
+        (b"\xe2\x99\x9a\xc2\xa0", Ok(b"\xe2\x99\x9a\xc2\xa0")),
         (b"abc\n", Err(JidFault::Bad(Which::Resource, 3))),
+        (b"bc\x7f", Err(JidFault::Bad(Which::Resource, 2))),
+        (b"\xc3\xa9\xc2\x9f", Err(JidFault::Bad(Which::Resource, 2))),
+        (b"a\xe2\x99", Err(JidFault::Bad(Which::Resource, 1))),
     ];
-    for (i, (bytes, want)) in cases.iter().enumerate() {
-        let part = Part::resource(rt.alloc(), bytes);
-        assert!(rt; is_prepared(&part, want), "case {i}");
+    expect_prepared(&rt, rt.alloc(), Which::Resource, &cases);
+}
+
+// RFC 7622, 3.2, and UTS 46: U+00AD is ignored, and U+3002 is mapped to a dot.
+#[test]
+fn domains_are_prepared(rt: HostRuntime) {
+    let cases: [Prepared; 18] = [
+        (b"B\xc3\x9cCHER.Example.", Ok(b"xn--bcher-kva.example")),
+        (b"fa\xc3\x9f.de", Ok(b"xn--fa-hia.de")),
+        (b"XN--BCHER-KVA.example", Ok(b"xn--bcher-kva.example")),
+        (b"a\xe3\x80\x82b", Ok(b"a.b")),
+        (b"ex\xc2\xadample.org", Ok(b"example.org")),
+        (b"example\xe3\x80\x82", Err(JidFault::Bad(Which::Domain, 0))),
+        (b"example..", Err(JidFault::Bad(Which::Domain, 0))),
+        (b"example..org", Err(JidFault::Bad(Which::Domain, 0))),
+        (b".", Err(JidFault::Bad(Which::Domain, 0))),
+        (b"\xc2\xad", Err(JidFault::Bad(Which::Domain, 0))),
+        (b"xn--u-ccb.com", Err(JidFault::Bad(Which::Domain, 0))),
+        (b"xn--a.pt", Err(JidFault::Bad(Which::Domain, 0))),
+        (b"exa_mple.org", Err(JidFault::Bad(Which::Domain, 0))),
+        (b"-example.org", Err(JidFault::Bad(Which::Domain, 0))),
+        (b"example-.org", Err(JidFault::Bad(Which::Domain, 0))),
+        (b"ab--c.org", Err(JidFault::Bad(Which::Domain, 0))),
+        (b"\xff.org", Err(JidFault::Bad(Which::Domain, 0))),
+        (b"", Err(JidFault::Empty(Which::Domain))),
+    ];
+    expect_prepared(&rt, rt.alloc(), Which::Domain, &cases);
+}
+
+// Each place has the byte of this index, in turn.
+fn repeated(bytes: [u8; 3]) -> [u8; 1536] {
+    let mut all = [0; 1536];
+    for i in 0..1536usize {
+        all[i] = bytes[i % 3];
+    }
+    all
+}
+
+// How long a part may be: at most 1,023 bytes once it is prepared, which `e` and U+0301 fall short of, and U+0958 exceeds.
+#[test]
+fn parts_have_a_greatest_length(rt: HostRuntime) {
+    let plain = repeated(*b"aaa");
+    let shrinks = repeated(*b"e\xcc\x81");
+    let grows = repeated(*b"\xe0\xa5\x98");
+    let names = repeated(*b"aa.");
+    let cases: [(Which, &[u8], Option<JidFault>); 11] = [
+        (Which::Local, &plain[..1023], None),
+        (Which::Local, &plain[..1024], Some(JidFault::Long(Which::Local))),
+        (Which::Resource, &plain[..1023], None),
+        (Which::Resource, &plain[..1024], Some(JidFault::Long(Which::Resource))),
+        (Which::Resource, &shrinks[..1533], None),
+        (Which::Resource, &shrinks, Some(JidFault::Long(Which::Resource))),
+        (Which::Resource, &grows[..600], Some(JidFault::Long(Which::Resource))),
+        (Which::Domain, &plain[..63], None),
+        (Which::Domain, &plain[..64], Some(JidFault::Bad(Which::Domain, 0))),
+        (Which::Domain, &names[1..1024], None),
+        (Which::Domain, &names[..1024], Some(JidFault::Long(Which::Domain))),
+    ];
+    for (i, (which, bytes, want)) in cases.iter().enumerate() {
+        assert_eq!(rt; prepare(rt.alloc(), *which, bytes).err(), *want, "case {i}");
     }
 }
 

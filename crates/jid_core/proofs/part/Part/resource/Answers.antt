@@ -1,7 +1,5 @@
-use Rattle.std.proofs.Common.{arith}
-use Rattle.std.proofs.lemmas.Grind.{elements}
-use Rattle.jid_core.proofs.PreparationLemmas.{is_resource-from_none}
+use Rattle.jid_core.proofs.PreparationLemmas.{is_resource-resource_of}
 use Rattle.jid_core.proofs.part.Part.resource.Goals as goal
 
-pub of_prepared-requires : goal.of_prepared-requires
-of_prepared-requires c = grind (arith, elements, is_resource-from_none c.args.bytes.now)
+pub invariant_of-result : goal.invariant_of-result
+invariant_of-result c = is_resource-resource_of c.args.bytes.now _ c.in_ok-prepared_resource.ensures.ok

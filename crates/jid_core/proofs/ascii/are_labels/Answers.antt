@@ -1,8 +1,8 @@
 use Rattle.std.proofs.Common.{rules, tests, ◌==◌}
 use Rattle.std.proofs.lemmas.Iterator.Search.{all_from_yields_List}
 use Rattle.std.proofs.lemmas.Iterator.Splits.{YieldsList-from_slice_split}
-use Rattle.jid_core.specs.Preparation.{is_label}
-use Rattle.jid_core.proofs.part.are_labels.Goals as goal
+use Rattle.jid_core.specs.AsciiParts.{is_label}
+use Rattle.jid_core.proofs.ascii.are_labels.Goals as goal
 
 pub returns : goal.returns
 returns c =
