@@ -1,43 +1,34 @@
 -- The dice's digits are a resource.
-use Rattle.std.proofs.Common.{◌≡◌, ℕ, suc, ◌+◌, ◌*◌, ◌/◌, ◌%◌, ◌<◌, List, [], ◌∷◌, length, get_or, Bool, true, false, cond, not, nat_lt, Some, None, Ok, Err, Result, refl, sym, ◌∙◌, ap, arith}
-use Rattle.std.specs.List.{position, position_or_len, prefix_len}
-use Rattle.std.proofs.lemmas.Bool.{le-ltb}
+use Rattle.std.proofs.Common.{◌≡◌, ℕ, suc, ◌*◌, ◌/◌, ◌%◌, ◌<◌, List, [], ◌∷◌, length, get_or, Bool, true, ◌&&◌, Ok, Err, Result, refl, sym, ◌∙◌, arith}
+use Rattle.std.specs.List.{list_all}
 use Rattle.std.proofs.lemmas.Bool.Decides.{nat_tests}
-use Rattle.jid_core.specs.Preparation.{is_outside, unless_bad, resource_of, IsCause}
+use Rattle.jid_core.specs.AsciiParts.{is_resource_byte}
+use Rattle.jid_core.specs.Preparation.{resource_of, IsCause}
 use Rattle.jid_core.specs.declared.fault.JidFault.{JidFault}
 use Rattle.jid_core.specs.declared.fault.JidFault.TheVariants.{NoMemory, Empty, Long, Bad}
-use Rattle.jid_core.specs.declared.fault.Which.TheVariants.{Resource}
+use Rattle.jid_core.proofs.PreparationLemmas.{resource_of_short}
 use Rattle.house_model.specs.Steps.{hex_digit, hex}
 
-digit-inside : (n : ℕ) → n < 16 → not (is_outside (hex_digit n)) ≡ true
-digit-inside n low = grind (arith, nat_tests)
+digit-printable : (n : ℕ) → n < 16 → is_resource_byte (hex_digit n) ≡ true
+digit-printable n low = grind (arith, nat_tests)
 
--- two more that pass
-two-pass : (p : ℕ → Bool) (x y : ℕ) (xs : List ℕ) → p x ≡ true → p y ≡ true → prefix_len p (x ∷ y ∷ xs) ≡ 2 + prefix_len p xs
-two-pass p x y xs px py = rw (px, py) (omega arith)
+two-more : (p : ℕ → Bool) (x y : ℕ) (xs : List ℕ) → p x ≡ true → p y ≡ true → list_all p xs ≡ true → list_all p (x ∷ y ∷ xs) ≡ true
+two-more p x y xs px py all = rw (px, py, all) refl
 
-all-inside : (bytes : List ℕ) → ((i : ℕ) → get_or bytes i 0 < 256) → prefix_len (λ b. not (is_outside b)) (hex bytes) ≡ length (hex bytes)
-all-inside [] fits = refl
-all-inside (b ∷ bytes) fits =
+all-printable : (bytes : List ℕ) → ((i : ℕ) → get_or bytes i 0 < 256) → list_all is_resource_byte (hex bytes) ≡ true
+all-printable [] fits = refl
+all-printable (b ∷ bytes) fits =
     let small : b < 256 = fits 0 in
-    two-pass (λ x. not (is_outside x)) (hex_digit (b / 16)) (hex_digit (b % 16)) (hex bytes) (digit-inside (b / 16) (omega arith)) (digit-inside (b % 16) (omega arith))
-    ∙ omega (arith, all-inside bytes (λ i. fits (suc i)))
+    two-more is_resource_byte (hex_digit (b / 16)) (hex_digit (b % 16)) (hex bytes) (digit-printable (b / 16) (omega arith)) (digit-printable (b % 16) (omega arith))
+    (all-printable bytes (λ i. fits (suc i)))
 
 length-hex : (bytes : List ℕ) → length (hex bytes) ≡ 2 * length bytes
 length-hex [] = refl
 length-hex (b ∷ bytes) = omega (arith, length-hex bytes)
 
-none-outside : (bytes : List ℕ) → ((i : ℕ) → get_or bytes i 0 < 256) → position is_outside (hex bytes) ≡ None
-none-outside bytes fits =
-    let e : nat_lt (position_or_len is_outside (hex bytes)) (length (hex bytes)) ≡ false = le-ltb (position_or_len is_outside (hex bytes)) (length (hex bytes)) (omega (arith, all-inside bytes fits)) in
-    ap (λ c. cond c (Some (position_or_len is_outside (hex bytes))) None) e
-
 pub resource_of-hex : (bytes : List ℕ) → length bytes ≡ 16 → ((i : ℕ) → get_or bytes i 0 < 256) → resource_of (hex bytes) ≡ Ok (hex bytes)
-resource_of-hex [] sixteen fits = absurd (omega arith)
-resource_of-hex (b ∷ bytes) sixteen fits =
-    let none = none-outside (b ∷ bytes) fits in
-    let short : nat_lt 1023 (length (hex (b ∷ bytes))) ≡ false = le-ltb 1023 (length (hex (b ∷ bytes))) (omega (arith, length-hex (b ∷ bytes))) in
-    ap (λ o. unless_bad Resource o (hex (b ∷ bytes))) none ∙ rw short refl
+resource_of-hex bytes sixteen fits =
+    resource_of_short (hex bytes) (omega (arith, sixteen, length-hex bytes)) (all-printable bytes fits) (omega (arith, sixteen, length-hex bytes))
 
 -- what is read has no fault but want of memory
 pub cause-read : {A : Type 0} (read : Result A JidFault) (value : A) (fault : JidFault) → read ≡ Ok value → IsCause read fault → fault ≡ NoMemory
@@ -45,3 +36,7 @@ cause-read read value NoMemory e cause = refl
 cause-read read value (Empty which) e cause = absurd (let z : Ok value ≡ Err (Empty which) = sym e ∙ cause in cc)
 cause-read read value (Long which) e cause = absurd (let z : Ok value ≡ Err (Long which) = sym e ∙ cause in cc)
 cause-read read value (Bad which place) e cause = absurd (let z : Ok value ≡ Err (Bad which place) = sym e ∙ cause in cc)
+
+-- a text is read as one part
+pub read-once : {A : Type 0} (read : Result A JidFault) (one other : A) → read ≡ Ok one → read ≡ Ok other → one ≡ other
+read-once read one other e f = let z : Ok one ≡ Ok other = sym e ∙ f in cc

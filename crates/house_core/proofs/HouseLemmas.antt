@@ -17,7 +17,8 @@ use Rattle.jid_core.specs.Preparation.{is_local}
 use Rattle.house_model.specs.Numbered.{listed}
 use Rattle.house_model.proofs.NumberedLemmas.{listed-at, length-listed}
 use Rattle.std.proofs.lemmas.List.{get_or_past}
-use Rattle.std.proofs.lemmas.Bool.{cases_lt}
+use Rattle.std.proofs.lemmas.Bool.{cases_lt, cases_Bool}
+use Rattle.std.proofs.lemmas.List.Folds.{list_all_at}
 use Rattle.std.proofs.Common.{true, inl, inr}
 
 -- what holds of the new element and of what was read is true of what is read
@@ -129,3 +130,10 @@ whole-start users n m prepared few = record {
   logged = λ x u h. absurd (let z : Empty ≡ Logged u = sym (ap (λ (l : Line). l.stage) (read-empty n x)) ∙ h in cc);
   held = λ x s h. absurd (let z : Empty ≡ Bound s = sym (ap (λ (l : Line). l.stage) (read-empty n x)) ∙ h in cc);
 }
+
+-- each user is a local part
+pub user-local : (users : List (List ℕ)) (i : ℕ) (d : List ℕ) → list_all is_local users ≡ true → i < length users → is_local (get_or users i d) ≡ true
+user-local users i d all low = elim (cases_Bool (is_local (get_or users i d))) [
+  | inl e ↦ e
+  | inr e ↦ absurd (let z = sym (list_all_at is_local users i d low e) ∙ all in cc)
+]

@@ -12,8 +12,8 @@ use Rattle.stanza_tree.specs.Stamps.{sent_by}
 use Rattle.stanza_tree.proofs.Bounds.{length-frame, length-text-sent-le, length-value_text-le}
 use Rattle.jid_core.specs.Addresses.{Address, same_bare, same_address}
 use Rattle.jid_core.proofs.AddressLemmas.{same_address-equal}
-use Rattle.house_model.specs.declared.stanza.Stanza.{Stanza}
 use Rattle.house_model.specs.Keeping.{KeptSession, Kept}
+use Rattle.stanza_tree.specs.declared.frame.Origin.TheVariants.{Direct}
 use Rattle.house_model.specs.Effects.{no_session, session_in, kept_pushed, kept_all}
 use Rattle.house_model.specs.Plain.{has_room, takes, reaches, can_begin}
 use Rattle.house_model.specs.Steps.{session_at, entry_for, queue_at, delivered}
@@ -53,60 +53,61 @@ session-there : (seats : List Seat) (i : ℕ) (d : Seat) → i < length seats �
 session-there seats i d low =
     ap (λ n. get_or (seated seats) n no_session) (let e : i + 1 - 1 ≡ i = omega arith in e) ∙ get_or-map (λ (s : Seat). s.kept) seats i d no_session low
 
-pub reaches-some : (seats : List Seat) (sender a : Address) (stanza : Stanza) (i : ℕ) (d : Seat) → receiver_in seats (Some a) ≡ Some i
-    → reaches (seated seats) sender (Some a) stanza ≡ has_room (get_or seats i d).kept (entry_for sender a stanza)
-reaches-some seats sender a stanza i d at =
+pub reaches-some : (seats : List Seat) (sender a : Address) (e : Element) (i : ℕ) (d : Seat) → receiver_in seats (Some a) ≡ Some i
+    → reaches (seated seats) sender (Some a) (Some e) ≡ has_room (get_or seats i d).kept (entry_for sender a e)
+reaches-some seats sender a e i d at =
     let low = (receiver-address seats a i d at).0 in
-    ap (λ o. takes (seated seats) o (entry_for sender a stanza)) (session_at-place seats a ∙ ap (option_map (λ n. n + 1)) at)
-    ∙ ap (λ (k : KeptSession). has_room k (entry_for sender a stanza)) (session-there seats i d low)
+    ap (λ o. takes (seated seats) o (entry_for sender a e)) (session_at-place seats a ∙ ap (option_map (λ n. n + 1)) at)
+    ∙ ap (λ (k : KeptSession). has_room k (entry_for sender a e)) (session-there seats i d low)
 
-pub reaches-none : (seats : List Seat) (sender a : Address) (stanza : Stanza) → receiver_in seats (Some a) ≡ None → reaches (seated seats) sender (Some a) stanza ≡ false
-reaches-none seats sender a stanza at =
-    ap (λ o. takes (seated seats) o (entry_for sender a stanza)) (session_at-place seats a ∙ ap (option_map (λ n. n + 1)) at)
+pub reaches-none : (seats : List Seat) (sender a : Address) (e : Element) → receiver_in seats (Some a) ≡ None → reaches (seated seats) sender (Some a) (Some e) ≡ false
+reaches-none seats sender a e at =
+    ap (λ o. takes (seated seats) o (entry_for sender a e)) (session_at-place seats a ∙ ap (option_map (λ n. n + 1)) at)
 
-pub reaches-absent : (seats : List Seat) (sender : Address) (to : Option Address) (stanza : Stanza) → receiver_in seats to ≡ None → reaches (seated seats) sender to stanza ≡ false
-reaches-absent seats sender None stanza none = refl
-reaches-absent seats sender (Some a) stanza none = reaches-none seats sender a stanza none
+pub reaches-absent : (seats : List Seat) (sender : Address) (to : Option Address) (e : Option Element) → receiver_in seats to ≡ None → reaches (seated seats) sender to e ≡ false
+reaches-absent seats sender to None none = refl
+reaches-absent seats sender None (Some e) none = refl
+reaches-absent seats sender (Some a) (Some e) none = reaches-none seats sender a e none
 
--- what is known where the receiver of a stanza was found
-pub record Reached (seats : List Seat) (sender : Address) (to : Option Address) (stanza : Stanza) (i : ℕ) (seat : Seat) : Type 0 where
+-- what is known where the receiver of a headline was found
+pub record Reached (seats : List Seat) (sender : Address) (to : Option Address) (e : Element) (i : ℕ) (seat : Seat) : Type 0 where
   pub receiver : Address
   pub named : to ≡ Some receiver
   pub address : seat.kept.address ≡ receiver
   pub low : i < length seats
-  pub room : reaches (seated seats) sender to stanza ≡ has_room seat.kept (entry_for sender receiver stanza)
+  pub room : reaches (seated seats) sender to (Some e) ≡ has_room seat.kept (entry_for sender receiver e)
 
-pub reached : (seats : List Seat) (sender : Address) (to : Option Address) (stanza : Stanza) (i : ℕ) (seat : Seat) → receiver_in seats to ≡ Some i → seat ≡ get_or seats i seat
-    → Reached seats sender to stanza i seat
-reached seats sender None stanza i seat found at = absurd (cc)
-reached seats sender (Some a) stanza i seat found at =
+pub reached : (seats : List Seat) (sender : Address) (to : Option Address) (e : Element) (i : ℕ) (seat : Seat) → receiver_in seats to ≡ Some i → seat ≡ get_or seats i seat
+    → Reached seats sender to e i seat
+reached seats sender None e i seat found at = absurd (cc)
+reached seats sender (Some a) e i seat found at =
     let r = receiver-address seats a i seat found in
     record {
       receiver = a;
       named = refl;
       address = ap (λ (s : Seat). s.kept.address) at ∙ r.1;
       low = r.0;
-      room = reaches-some seats sender a stanza i seat found ∙ ap (λ (s : Seat). has_room s.kept (entry_for sender a stanza)) (sym at);
+      room = reaches-some seats sender a e i seat found ∙ ap (λ (s : Seat). has_room s.kept (entry_for sender a e)) (sym at);
     }
 
 -- a stanza and its addresses within their limits make a frame that fits a pull
 pub length-entry-le : (e : Element) (from to : List ℕ) → length (text e) ≤ 196608 → length from ≤ 3071 → length to ≤ 3071
-    → length (frame (record { to = to; rest = text (sent_by from e) })) ≤ 524288
+    → length (frame (record { to = to; rest = text (sent_by from e); origin = Direct })) ≤ 524288
 length-entry-le e from to small one two =
-    omega (arith, length-frame (record { to = to; rest = text (sent_by from e) }), length-text-sent-le from e, length-value_text-le to)
+    omega (arith, length-frame (record { to = to; rest = text (sent_by from e); origin = Direct }), length-text-sent-le from e, length-value_text-le to)
 
 -- what a delivery is to the machine
-pub delivered-one : (k : Kept) (seats : List Seat) (sender : Address) (to : Option Address) (stanza : Stanza) (i : ℕ) (seat : Seat)
-    → k.sessions ≡ seated seats → (r : Reached seats sender to stanza i seat) → seat ≡ get_or seats i seat → receiver_in seats to ≡ Some i
-    → record k { sessions = set k.sessions i (kept_pushed (entry_for sender r.receiver stanza) seat.kept) } ≡ kept_all k (delivered k.sessions sender to stanza)
-delivered-one k seats sender None stanza i seat same r at found = absurd (cc)
-delivered-one k seats sender (Some a) stanza i seat same r at found =
+pub delivered-one : (k : Kept) (seats : List Seat) (sender : Address) (to : Option Address) (e : Element) (i : ℕ) (seat : Seat)
+    → k.sessions ≡ seated seats → (r : Reached seats sender to e i seat) → seat ≡ get_or seats i seat → receiver_in seats to ≡ Some i
+    → record k { sessions = set k.sessions i (kept_pushed (entry_for sender r.receiver e) seat.kept) } ≡ kept_all k (delivered k.sessions sender to (Some e))
+delivered-one k seats sender None e i seat same r at found = absurd (cc)
+delivered-one k seats sender (Some a) e i seat same r at found =
     let one : a ≡ r.receiver = let e = r.named in cc in
     let number : session_at a k.sessions ≡ Some (i + 1) = ap (session_at a) same ∙ session_at-place seats a ∙ ap (option_map (λ n. n + 1)) found in
     let there : session_in k.sessions (i + 1) ≡ seat.kept = ap (λ xs. session_in xs (i + 1)) same ∙ session-there seats i seat r.low ∙ ap (λ (s : Seat). s.kept) (sym at) in
     let place : i ≡ i + 1 - 1 = omega arith in
-    (λ j. record k { sessions = set k.sessions (place j) (kept_pushed (entry_for sender (sym one j) stanza) (sym there j)) })
-    ∙ ap (λ o. kept_all k (queue_at o (entry_for sender a stanza))) (sym number)
+    (λ j. record k { sessions = set k.sessions (place j) (kept_pushed (entry_for sender (sym one j) e) (sym there j)) })
+    ∙ ap (λ o. kept_all k (queue_at o (entry_for sender a e))) (sym number)
 
 is_some-mapped : (o : Option ℕ) → is_some (option_map (λ i. i + 1) o) ≡ is_some o
 is_some-mapped None = refl

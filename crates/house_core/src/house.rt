@@ -9,7 +9,8 @@ ghost use Rattle.house_model.specs.Keeping.{keep};
 ghost use Rattle.house_model.specs.Histories.{Turn, StanzaFits, StandsFor, kept_passed, made, ended};
 ghost use Rattle.house_model.specs.Plain.{is_plain, can_begin, reaches};
 ghost use Rattle.house_model.specs.Effects.{kept_line, kept_session};
-ghost use Rattle.house_model.specs.Steps.{kept_step, user_place, bound_address, resource_or, address_in};
+ghost use Rattle.house_model.specs.Steps.{kept_step, user_place, bound_address, resource_or, headline_in};
+ghost use Rattle.stanza_model.specs.Stanzas.{to_in};
 
 use crate::deliver::deliver;
 use crate::line::Line;
@@ -218,10 +219,10 @@ impl House {
 
     fn can_act(&self, session: u64, stanza: &Stanza) -> bool
         requires { (0 < session) × (session ≤ length self.now.sessions) }
-        ensures { result ≡ reaches self.now.sessions (kept_session self.now session).address (address_in stanza.now) stanza.now }
+        ensures { result ≡ reaches self.now.sessions (kept_session self.now session).address (to_in stanza.now) (headline_in stanza.now) }
     {
         let sender = &self.sessions[(session - 1) as usize];
-        can_reach(self.sessions.as_slice(), sender.text(), stanza)
+        can_reach(self.sessions.as_slice(), sender.text().bytes(), stanza)
     }
 
     fn apply_open(&mut self, w: u32) -> Reply

@@ -7,8 +7,6 @@ pub mod house;
 mod line;
 mod make;
 mod places;
-#[cfg(test)]
-mod plain;
 mod session;
 #[cfg(test)]
 mod tests;

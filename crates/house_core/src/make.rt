@@ -1,6 +1,7 @@
 //! Makes what a binding or a stanza needs, before anything is changed.
 ghost use Rattle.std.specs.Prelude.{◌≡◌, ◌≤◌, Some, [], length, IfOk, IsTrue};
 ghost use Rattle.std.specs.Option.{option_copied};
+ghost use Rattle.stanza_tree.specs.declared.frame.Origin.TheVariants.{Direct};
 ghost use Rattle.stanza_tree.specs.Spelling.{text};
 ghost use Rattle.stanza_tree.specs.Stamps.{sent_by};
 ghost use Rattle.jid_core.specs.Addresses.{address_text};
@@ -12,7 +13,7 @@ use crate::dice::hex_of;
 use crate::session::Session;
 use house_model::Answer;
 use jid_core::{Jid, JidFault, Part};
-use stanza_tree::{Element, Entry, NoMemory, Several, Text, write_sent};
+use stanza_tree::{Element, Entry, NoMemory, Origin, Several, Text, write_sent};
 use std::alloc::Global;
 
 /// The one fault that can come where the bytes are known to be right.
@@ -85,17 +86,18 @@ fn make_answer(alloc: Global, id: &Text, jid: &[u8]) -> Result<Answer, NoMemory>
 /// The entry for a stanza from one address to another.
 pub(crate) fn make_entry(
     alloc: Global,
-    from: &[u8],
-    to: &[u8],
+    from: &Text,
+    to: &Text,
     element: &Element,
 ) -> Result<Entry, NoMemory>
-    ensures { IfOk result (λ e. e ≡ record { to = to.now; rest = text (sent_by from.now element.now) }) }
+    ensures { IfOk result (λ e. e ≡ record { to = to.now; rest = text (sent_by from.now element.now); origin = Direct }) }
 {
     let mut rest = Vec::new(alloc);
-    write_sent(element, from, &mut rest)?;
+    write_sent(element, from.bytes(), &mut rest)?;
     Ok(Entry {
-        to: copy_of(alloc, to)?,
-        rest: Several::of(rest),
+        to: to.copy(alloc)?,
+        rest: Text::of_vec(rest),
+        origin: Origin::Direct,
     })
 }
 
@@ -110,8 +112,9 @@ pub(crate) fn make_binding(
     ensures answer { IfOk result (λ made. made.1 ≡ Answer.Bound id.now (address_text address)) }
     ensures short { IfOk result (λ made. length (answer_text made.1) ≤ 524288) }
 {
-    let mut text = Vec::new(alloc);
-    address.write(&mut text)?;
-    let answer = make_answer(alloc, id, text.as_slice())?;
+    let mut spelt = Vec::new(alloc);
+    address.write(&mut spelt)?;
+    let text = Text::of_vec(spelt);
+    let answer = make_answer(alloc, id, text.bytes())?;
     Ok((Session::new(alloc, address, text), answer))
 }

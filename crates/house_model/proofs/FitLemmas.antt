@@ -6,11 +6,13 @@ use Rattle.std.specs.List.{position_or_len}
 use Rattle.std.proofs.lemmas.Bool.{ltb-true}
 use Rattle.std.proofs.lemmas.List.{length-drop}
 use Rattle.stanza_tree.specs.declared.frame.Entry.{Entry}
+use Rattle.stanza_tree.specs.declared.node.Element.{Element}
+use Rattle.stanza_model.specs.Stanzas.{to_in}
 use Rattle.jid_core.specs.Addresses.{Address, same_address}
 use Rattle.house_model.specs.declared.stage.Stage.{Stage}
 use Rattle.house_model.specs.declared.stage.Stage.TheVariants.{Empty, Fresh, Logged, Bound}
 use Rattle.house_model.specs.declared.stage.Answer.{Answer}
-use Rattle.house_model.specs.declared.stanza.Stanza.{Stanza}
+use Rattle.stanza_model.specs.declared.stanza.Stanza.{Stanza}
 use Rattle.house_model.specs.declared.event.Event.{Event}
 use Rattle.house_model.specs.declared.event.Event.TheVariants.{OpenLine, Login, Bind, Act, Pull}
 use Rattle.house_model.specs.States.{Line, State, empty_line}
@@ -18,7 +20,7 @@ use Rattle.house_model.specs.Keeping.{KeptSession, keep}
 use Rattle.house_model.specs.Effects.{Effect, Acted, apply, apply_all, kept_line, kept_session, kept_all}
 use Rattle.house_model.specs.Fits.{IsMade, Fits, Sound}
 use Rattle.house_model.specs.Histories.{line_of}
-use Rattle.house_model.specs.Steps.{user_place, logs_in_at, logs_in, resource_or, binds, session_at, entry_for, queue_at, delivered, address_in, acts, next_entry, entry_at, next_frame, pulls, verdict}
+use Rattle.house_model.specs.Steps.{user_place, logs_in_at, logs_in, resource_or, binds, session_at, headline_in, entry_for, queue_at, delivered, acts, next_entry, entry_at, next_frame, pulls, verdict}
 use Rattle.house_model.proofs.NumberedLemmas.{length-listed, listed-at}
 use Rattle.house_model.proofs.Keeps.{kept_of, keeps-effect, session-kept}
 use Rattle.house_model.proofs.Sounds.{sound-effect}
@@ -52,16 +54,17 @@ fits-queue : (st : State) (o : Option ℕ) (entry : Entry) → ((s : ℕ) → o 
 fits-queue st None entry made = tt
 fits-queue st (Some s) entry made = (made s refl, tt)
 
-fits-delivered : (st : State) (sender : Address) (to : Option Address) (stanza : Stanza) (s : ℕ) (x : Stanza) → Fits (apply st (Acted s x)) (delivered (keep st).sessions sender to stanza)
-fits-delivered st sender None stanza s x = tt
-fits-delivered st sender (Some a) stanza s x =
-    fits-queue (apply st (Acted s x)) (session_at a (keep st).sessions) (entry_for sender a stanza) (made-at st a)
+fits-delivered : (st : State) (sender : Address) (to : Option Address) (e : Option Element) (s : ℕ) (x : Stanza) → Fits (apply st (Acted s x)) (delivered (keep st).sessions sender to e)
+fits-delivered st sender to None s x = tt
+fits-delivered st sender None (Some e) s x = tt
+fits-delivered st sender (Some a) (Some e) s x =
+    fits-queue (apply st (Acted s x)) (session_at a (keep st).sessions) (entry_for sender a e) (made-at st a)
 
 fits-acts : (st : State) (stanza : Stanza) (stage : Stage) → Fits st (acts (keep st) stanza stage).effects
 fits-acts st stanza Empty = tt
 fits-acts st stanza Fresh = tt
 fits-acts st stanza (Logged u) = tt
-fits-acts st stanza (Bound s) = (tt, fits-delivered st (kept_session (keep st) s).address (address_in stanza) stanza s stanza)
+fits-acts st stanza (Bound s) = (tt, fits-delivered st (kept_session (keep st) s).address (to_in stanza) (headline_in stanza) s stanza)
 
 fits-login : (st : State) (w : ℕ) (o : Option ℕ) → w < st.workers → Fits st (logs_in_at w o).effects
 fits-login st w None low = tt

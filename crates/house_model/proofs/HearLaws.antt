@@ -2,6 +2,8 @@
 use Rattle.std.proofs.Common.{◌≡◌, ℕ, ◌<◌, ◌≤◌, List, [], ◌∷◌, ◌++◌, true, refl, sym, ◌∙◌, ap, subst, arith, append_assoc, append-nil}
 use Rattle.std.specs.Prelude.{drop, Option, Some, None}
 use Rattle.stanza_tree.specs.declared.frame.Entry.{Entry}
+use Rattle.stanza_tree.specs.declared.node.Element.{Element}
+use Rattle.stanza_model.specs.Stanzas.{to_in}
 use Rattle.jid_core.specs.Addresses.{Address}
 use Rattle.house_model.specs.declared.event.Event.{Event}
 use Rattle.house_model.specs.declared.event.Event.TheVariants.{OpenLine, Login, Bind, Act, Pull}
@@ -9,7 +11,7 @@ use Rattle.house_model.specs.declared.reply.Reply.{Reply}
 use Rattle.house_model.specs.declared.stage.Stage.{Stage}
 use Rattle.house_model.specs.declared.stage.Stage.TheVariants.{Empty, Fresh, Logged, Bound}
 use Rattle.house_model.specs.declared.stage.Answer.{Answer}
-use Rattle.house_model.specs.declared.stanza.Stanza.{Stanza}
+use Rattle.stanza_model.specs.declared.stanza.Stanza.{Stanza}
 use Rattle.house_model.specs.States.{Line, Held, State, opening, empty_line}
 use Rattle.house_model.specs.Keeping.{KeptSession, keep}
 use Rattle.house_model.specs.Effects.{Acted, apply, apply_all, kept_line, kept_session}
@@ -17,7 +19,7 @@ use Rattle.house_model.specs.Plain.{is_plain, is_free}
 use Rattle.house_model.specs.Fits.{IsMade, Sound}
 use Rattle.house_model.specs.Frames.{frame_in, given_by, to_conn, pulled_by, HearsInOrder, AllHear}
 use Rattle.house_model.specs.Histories.{Outcome, Made, Short, Turn, IsOutcome, line_of, next_by, next, after, Legal, IsOpening}
-use Rattle.house_model.specs.Steps.{Verdict, step, turned, verdict, opens, user_place, logs_in_at, logs_in, resource_or, bound_address, binds, session_at, entry_for, queue_at, delivered, address_in, acts, next_entry, entry_at, next_frame, pulls}
+use Rattle.house_model.specs.Steps.{Verdict, step, turned, verdict, opens, user_place, logs_in_at, logs_in, resource_or, bound_address, binds, session_at, entry_for, queue_at, delivered, headline_in, acts, next_entry, entry_at, next_frame, pulls}
 use Rattle.house_model.proofs.NumberedLemmas.{listed-at}
 use Rattle.house_model.proofs.Keeps.{session-kept}
 use Rattle.house_model.proofs.TurnLaws.{sound-next}
@@ -80,10 +82,11 @@ heard-queue : (st : State) (log : ℕ → List (List ℕ)) (o : Option ℕ) (ent
 heard-queue st log None entry heard = heard
 heard-queue st log (Some s) entry heard = hear-queue st.lines st.sessions st.made st.opened s entry log heard
 
-heard-delivered : (st : State) (log : ℕ → List (List ℕ)) (sessions : List KeptSession) (sender : Address) (to : Option Address) (stanza : Stanza) → Heard st log
-    → Heard (apply_all st (delivered sessions sender to stanza)) log
-heard-delivered st log sessions sender None stanza heard = heard
-heard-delivered st log sessions sender (Some a) stanza heard = heard-queue st log (session_at a sessions) (entry_for sender a stanza) heard
+heard-delivered : (st : State) (log : ℕ → List (List ℕ)) (sessions : List KeptSession) (sender : Address) (to : Option Address) (e : Option Element) → Heard st log
+    → Heard (apply_all st (delivered sessions sender to e)) log
+heard-delivered st log sessions sender to None heard = heard
+heard-delivered st log sessions sender None (Some e) heard = heard
+heard-delivered st log sessions sender (Some a) (Some e) heard = heard-queue st log (session_at a sessions) (entry_for sender a e) heard
 
 heard-acts : (st : State) (log : ℕ → List (List ℕ)) (conn : ℕ) (stanza : Stanza) (stage : Stage) → Heard st log → HeardAfter st log conn (acts (keep st) stanza stage)
 heard-acts st log conn stanza Empty heard = heard-none st log conn heard
@@ -91,7 +94,7 @@ heard-acts st log conn stanza Fresh heard = heard-none st log conn heard
 heard-acts st log conn stanza (Logged u) heard = heard-none st log conn heard
 heard-acts st log conn stanza (Bound s) heard =
     heard-none (apply_all st (acts (keep st) stanza (Bound s)).effects) log conn
-    (heard-delivered (apply st (Acted s stanza)) log (keep st).sessions (kept_session (keep st) s).address (address_in stanza) stanza
+    (heard-delivered (apply st (Acted s stanza)) log (keep st).sessions (kept_session (keep st) s).address (to_in stanza) (headline_in stanza)
     (hear-acted st.lines st.sessions st.made st.opened s stanza log heard))
 
 heard-next_entry : (st : State) (log : ℕ → List (List ℕ)) (w s : ℕ) (waiting : List Entry) → (st.lines w).stage ≡ Bound s → (st.lines w).answers ≡ []

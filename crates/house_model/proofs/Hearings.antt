@@ -10,7 +10,7 @@ use Rattle.house_model.specs.declared.stage.Stage.{Stage}
 use Rattle.house_model.specs.declared.stage.Stage.TheVariants.{Empty, Fresh, Logged, Bound}
 use Rattle.house_model.specs.declared.stage.Answer.{Answer}
 use Rattle.house_model.specs.declared.stage.Answer.TheVariants as answer
-use Rattle.house_model.specs.declared.stanza.Stanza.{Stanza}
+use Rattle.stanza_model.specs.declared.stanza.Stanza.{Stanza}
 use Rattle.house_model.specs.Answers.{answer_text}
 use Rattle.house_model.specs.States.{Line, Held, Session, unmade, put}
 use Rattle.house_model.specs.Effects.{begun, acted, pushed, pulled, touched, opened_line, logged_line, bound_line, answered_line}

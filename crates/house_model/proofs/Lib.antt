@@ -7,3 +7,4 @@ pub mod NumberedLemmas
 pub mod Sounds
 pub mod Texts
 pub mod Turns
+pub mod StanzaLemmas

@@ -3,7 +3,7 @@ use Rattle.std.proofs.Common.{◌≡◌, ℕ, List, [], Option, Some, None, refl
 use Rattle.house_model.specs.declared.event.Event.TheVariants.{Login, Bind, Act}
 use Rattle.house_model.specs.declared.stage.Stage.{Stage}
 use Rattle.house_model.specs.declared.stage.Stage.TheVariants.{Empty, Fresh, Logged, Bound}
-use Rattle.house_model.specs.declared.stanza.Stanza.{Stanza}
+use Rattle.stanza_model.specs.declared.stanza.Stanza.{Stanza}
 use Rattle.house_model.specs.Keeping.{Kept}
 use Rattle.house_model.specs.Effects.{kept_line}
 use Rattle.house_model.specs.Steps.{logs_in_at, logs_in, user_place, binds, resource_or, acts, kept_turned, kept_step}

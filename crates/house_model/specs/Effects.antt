@@ -4,7 +4,7 @@ use Rattle.stanza_tree.specs.declared.frame.Entry.{Entry}
 use Rattle.jid_core.specs.Addresses.{Address, address_text}
 use Rattle.house_model.specs.declared.stage.Stage.TheVariants.{Fresh, Logged, Bound}
 use Rattle.house_model.specs.declared.stage.Answer.TheVariants as answer
-use Rattle.house_model.specs.declared.stanza.Stanza.{Stanza}
+use Rattle.stanza_model.specs.declared.stanza.Stanza.{Stanza}
 use Rattle.house_model.specs.States.{Line, Held, Core, Session, State, empty_line, nowhere, no_core, unmade, put}
 use Rattle.house_model.specs.Keeping.{KeptSession, Kept}
 

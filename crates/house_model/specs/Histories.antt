@@ -1,15 +1,19 @@
 -- What may have happened since a house was made.
-use Rattle.std.specs.Prelude.{◌≡◌, ℕ, ◌+◌, ◌<◌, ◌≤◌, List, [], ◌∷◌, Result, Ok, Err, true, length, ⊤}
-use Rattle.stanza_tree.specs.Spelling.{text}
+use Rattle.std.specs.Prelude.{◌≡◌, ℕ, ◌+◌, ◌<◌, ◌≤◌, List, [], ◌∷◌, Option, Some, None, Result, Ok, Err, true, length, ⊤, ◌⊎◌}
+use Rattle.stanza_tree.specs.Spelling.{text, value_text}
+use Rattle.stanza_tree.specs.declared.node.Element.{Element}
+use Rattle.stanza_model.specs.Stanzas.{stanza_of}
+use Rattle.stanza_model.specs.declared.stanza.Stanza.TheVariants.{Faulty}
+use Rattle.stream_grammar.specs.Proper.{IsProper}
 use Rattle.jid_core.specs.Addresses.{Address}
 use Rattle.house_model.specs.declared.event.Event.{Event}
 use Rattle.house_model.specs.declared.event.Event.TheVariants.{OpenLine, Login, Bind, Act, Pull}
 use Rattle.house_model.specs.declared.reply.Reply.{Reply}
-use Rattle.house_model.specs.declared.stanza.Stanza.{Stanza}
+use Rattle.stanza_model.specs.declared.stanza.Stanza.{Stanza}
 use Rattle.house_model.specs.States.{State, opening}
 use Rattle.house_model.specs.Keeping.{Kept, keep}
 use Rattle.house_model.specs.Plain.{is_plain}
-use Rattle.house_model.specs.Steps.{element_in, step}
+use Rattle.house_model.specs.Steps.{step}
 
 -- what came of an event: a reply and the text of a frame, or nothing at all for want of memory
 pub data Outcome : Type 0 where
@@ -38,10 +42,26 @@ line_of (Bind w id resource t dice) = w
 line_of (Act w stanza t) = w
 line_of (Pull w t) = w
 
--- the greatest stanza, in canonical bytes, and the greatest id of a request
-abbrev pub StanzaFits : Stanza → Type 0
-StanzaFits stanza = length (text (element_in stanza)) ≤ 196608
+-- RFC 6120, 8: a stanza that a stream brings is what a proper element is; it has at most 196,608 canonical bytes
+pub record IsSent (stanza : Stanza) : Type 0 where
+  pub element : Element
+  pub proper : IsProper element
+  pub small : length (text element) ≤ 196608
+  pub read : stanza_of element ≡ Some stanza
 
+-- of a faulty one the id is all that counts: it has at most so many bytes as it stands in a value
+abbrev pub IsShortId : Option (List ℕ) → Type 0
+IsShortId None = ⊤
+IsShortId (Some id) = length (value_text id) ≤ 196608
+
+abbrev pub IsShortFault : Stanza → Type 0
+IsShortFault (Faulty kind to id answered condition) = IsShortId id
+IsShortFault stanza = ⊥
+
+abbrev pub StanzaFits : Stanza → Type 0
+StanzaFits stanza = IsSent stanza ⊎ IsShortFault stanza
+
+-- the greatest id of a request
 abbrev pub IdFits : List ℕ → Type 0
 IdFits id = length id ≤ 65536
 

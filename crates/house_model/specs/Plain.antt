@@ -8,10 +8,12 @@ use Rattle.house_model.specs.declared.event.Event.{Event}
 use Rattle.house_model.specs.declared.event.Event.TheVariants.{OpenLine, Login, Bind, Act, Pull}
 use Rattle.house_model.specs.declared.stage.Stage.{Stage}
 use Rattle.house_model.specs.declared.stage.Stage.TheVariants.{Empty, Fresh, Logged, Bound}
-use Rattle.house_model.specs.declared.stanza.Stanza.{Stanza}
+use Rattle.stanza_model.specs.declared.stanza.Stanza.{Stanza}
 use Rattle.house_model.specs.Keeping.{KeptSession, Kept}
 use Rattle.house_model.specs.Effects.{kept_line, session_in, kept_session}
-use Rattle.house_model.specs.Steps.{bound_address, resource_or, session_at, address_in, entry_for}
+use Rattle.house_model.specs.Steps.{bound_address, resource_or, session_at, headline_in, entry_for}
+use Rattle.stanza_model.specs.Stanzas.{to_in}
+use Rattle.stanza_tree.specs.declared.node.Element.{Element}
 
 -- how many sessions a user may have, and the house
 abbrev pub most_of_user : ℕ
@@ -54,15 +56,17 @@ abbrev pub takes : List KeptSession → Option ℕ → Entry → Bool
 takes sessions None entry = false
 takes sessions (Some s) entry = has_room (session_in sessions s) entry
 
-abbrev pub reaches : List KeptSession → Address → Option Address → Stanza → Bool
-reaches sessions sender None stanza = false
-reaches sessions sender (Some a) stanza = takes sessions (session_at a sessions) (entry_for sender a stanza)
+-- a headline message to the address of a session that can take it
+abbrev pub reaches : List KeptSession → Address → Option Address → Option Element → Bool
+reaches sessions sender to None = false
+reaches sessions sender None (Some e) = false
+reaches sessions sender (Some a) (Some e) = takes sessions (session_at a sessions) (entry_for sender a e)
 
 abbrev pub act_is_plain : Kept → Stanza → Stage → Bool
 act_is_plain k stanza Empty = true
 act_is_plain k stanza Fresh = true
 act_is_plain k stanza (Logged u) = true
-act_is_plain k stanza (Bound s) = reaches k.sessions (kept_session k s).address (address_in stanza) stanza
+act_is_plain k stanza (Bound s) = reaches k.sessions (kept_session k s).address (to_in stanza) (headline_in stanza)
 
 abbrev pub is_plain : Kept → Event → Bool
 is_plain k (OpenLine w) = is_free (kept_line k w).stage

@@ -5,7 +5,7 @@ use Rattle.jid_core.specs.Addresses.{Address}
 use Rattle.house_model.specs.declared.stage.Stage.{Stage}
 use Rattle.house_model.specs.declared.stage.Stage.TheVariants.{Empty}
 use Rattle.house_model.specs.declared.stage.Answer.{Answer}
-use Rattle.house_model.specs.declared.stanza.Stanza.{Stanza}
+use Rattle.stanza_model.specs.declared.stanza.Stanza.{Stanza}
 
 -- a place for a connection: the number of the one that is there, how far it is, and what waits to be answered, the oldest first
 pub record Line : Type 0 where

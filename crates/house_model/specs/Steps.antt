@@ -2,6 +2,7 @@
 use Rattle.std.specs.Prelude.{ℕ, ◌+◌, ◌/◌, ◌%◌, List, [], ◌∷◌, max, Option, Some, None, false, bytes_eq, flat_map, position, nat_lt, slice_index_or, if◌then◌else◌}
 use Rattle.std.specs.Option.{option_map}
 use Rattle.stanza_tree.specs.declared.frame.Entry.{Entry}
+use Rattle.stanza_tree.specs.declared.frame.Origin.TheVariants.{Direct}
 use Rattle.stanza_tree.specs.declared.node.Element.{Element}
 use Rattle.stanza_tree.specs.Entries.{frame}
 use Rattle.stanza_tree.specs.Spelling.{text}
@@ -14,8 +15,10 @@ use Rattle.house_model.specs.declared.reply.Reply.TheVariants as reply
 use Rattle.house_model.specs.declared.stage.Stage.{Stage}
 use Rattle.house_model.specs.declared.stage.Stage.TheVariants.{Empty, Fresh, Logged, Bound}
 use Rattle.house_model.specs.declared.stage.Answer.{Answer}
-use Rattle.house_model.specs.declared.stanza.Stanza.{Stanza}
-use Rattle.house_model.specs.declared.stanza.Stanza.TheVariants.{Message}
+use Rattle.stanza_model.specs.declared.stanza.Stanza.{Stanza}
+use Rattle.stanza_model.specs.declared.stanza.Stanza.TheVariants.{Message}
+use Rattle.stanza_model.specs.declared.kinds.MessageForm.TheVariants.{Headline}
+use Rattle.stanza_model.specs.Stanzas.{to_in}
 use Rattle.house_model.specs.Answers.{answer_text}
 use Rattle.house_model.specs.States.{Line, State}
 use Rattle.house_model.specs.Keeping.{KeptSession, Kept, keep}
@@ -75,32 +78,31 @@ binds k w id resource Fresh = only reply.Unready
 binds k w id resource (Logged u) = done reply.Bound (Begin w (bound_address k u resource) id ∷ [])
 binds k w id resource (Bound s) = only reply.Unready
 
--- Act: a message goes to the session of its address, as the sender's
+-- Act: a headline message goes to the session of its address, as the sender's. Nothing is done yet for any other stanza.
+abbrev pub headline_in : Stanza → Option Element
+headline_in (Message to Headline e) = Some e
+headline_in st = None
+
 abbrev pub session_at : Address → List KeptSession → Option ℕ
 session_at a sessions = option_map (λ i. i + 1) (position (λ s. same_address s.address a) sessions)
 
-abbrev pub element_in : Stanza → Element
-element_in (Message to form element) = element
-
-abbrev pub entry_for : Address → Address → Stanza → Entry
-entry_for sender receiver stanza = record { to = address_text receiver; rest = text (sent_by (address_text sender) (element_in stanza)) }
+abbrev pub entry_for : Address → Address → Element → Entry
+entry_for sender receiver e = record { to = address_text receiver; rest = text (sent_by (address_text sender) e); origin = Direct }
 
 abbrev pub queue_at : Option ℕ → Entry → List Effect
 queue_at None entry = []
 queue_at (Some s) entry = Queue s entry ∷ []
 
-abbrev pub delivered : List KeptSession → Address → Option Address → Stanza → List Effect
-delivered sessions sender None stanza = []
-delivered sessions sender (Some a) stanza = queue_at (session_at a sessions) (entry_for sender a stanza)
-
-abbrev pub address_in : Stanza → Option Address
-address_in (Message to form element) = to
+abbrev pub delivered : List KeptSession → Address → Option Address → Option Element → List Effect
+delivered sessions sender to None = []
+delivered sessions sender None (Some e) = []
+delivered sessions sender (Some a) (Some e) = queue_at (session_at a sessions) (entry_for sender a e)
 
 abbrev pub acts : Kept → Stanza → Stage → Verdict
 acts k stanza Empty = only reply.Absent
 acts k stanza Fresh = only reply.Unready
 acts k stanza (Logged u) = only reply.Unready
-acts k stanza (Bound s) = done reply.Done (Acted s stanza ∷ delivered k.sessions (kept_session k s).address (address_in stanza) stanza)
+acts k stanza (Bound s) = done reply.Done (Acted s stanza ∷ delivered k.sessions (kept_session k s).address (to_in stanza) (headline_in stanza))
 
 -- Pull: the oldest answer, else the next entry
 abbrev pub next_entry : ℕ → List Entry → Verdict

@@ -1,6 +1,9 @@
 //! What can happen to the house. `w` is the place for a connection, `t` the moment in milliseconds since 1970.
-use crate::stanza::Stanza;
+ghost use Rattle.std.specs.Prelude.{◌≡◌};
+ghost use Rattle.house_model.specs.Histories.{line_of};
+
 use jid_core::Part;
+use stanza_model::Stanza;
 use stanza_tree::Text;
 
 /// One event. Each names the line at which it happens.
@@ -34,4 +37,19 @@ pub enum Event {
         w: u32,
         t: u64,
     },
+}
+
+impl Event {
+    /// The line at which the event happens.
+    pub fn line(&self) -> u32
+        ensures { result ≡ line_of self.now }
+    {
+        match self {
+            Event::OpenLine { w } => *w,
+            Event::Login { w, .. } => *w,
+            Event::Bind { w, .. } => *w,
+            Event::Act { w, .. } => *w,
+            Event::Pull { w, .. } => *w,
+        }
+    }
 }

@@ -5,11 +5,10 @@ pub mod event;
 pub mod laws;
 pub mod reply;
 pub mod stage;
-pub mod stanza;
 #[cfg(test)]
 mod tests;
 
 pub use event::Event;
 pub use reply::Reply;
 pub use stage::{Answer, Stage};
-pub use stanza::{MessageForm, Stanza};
+pub use stanza_model::{MessageForm, Stanza};

@@ -1,35 +1,8 @@
 //! Parts of stanzas and answers.
 
 use super::*;
-use jid_core::Jid;
-use stanza_tree::{Element, Several, Text};
+use stanza_tree::{Several, Text};
 use std::test::Fail;
-
-#[test]
-fn stanzas_have_an_address_and_an_element(rt: HostRuntime) -> Result<(), Fail> {
-    let jid = Jid::read(rt.alloc(), b"bob@example.org/desk")?;
-    let stanza = Stanza::Message {
-        to: Some(jid.copy(rt.alloc())?),
-        form: MessageForm::Headline,
-        element: Element::new(rt.alloc(), b"jabber:client", b"message")?,
-    };
-    assert!(rt; stanza.to().is_some_and(|to| to.is_same(&jid)));
-    let name = &stanza.element().name;
-    assert!(rt; name.local.bytes() == b"message".as_slice());
-    assert!(rt; name.space.bytes() == b"jabber:client".as_slice());
-    Ok(())
-}
-
-#[test]
-fn stanzas_may_have_no_address(rt: HostRuntime) -> Result<(), Fail> {
-    let stanza = Stanza::Message {
-        to: None,
-        form: MessageForm::Headline,
-        element: Element::new(rt.alloc(), b"jabber:client", b"message")?,
-    };
-    assert!(rt; stanza.to().is_none());
-    Ok(())
-}
 
 #[test]
 fn answers_tell_an_id_and_an_address(rt: HostRuntime) -> Result<(), Fail> {

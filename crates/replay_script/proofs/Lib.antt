@@ -2,3 +2,4 @@ mod CharacterLemmas
 mod NumberLemmas
 mod StanzaLemmas
 mod UserLemmas
+mod NoticeLemmas

@@ -1,6 +1,6 @@
 -- What waits after the bytes of a stanza.
-use Rattle.std.proofs.Common.{◌≡◌, ℕ, ◌+◌, ◌<◌, ◌≤◌, ◌^◌, ◌-◌, ◌==◌, take, List, [], ◌∷◌, length, Bool, true, false, Option, Some, None, arith, refl, sym, ap, ◌∙◌}
-use Rattle.std.proofs.lemmas.Bool.{ltb-false}
+use Rattle.std.proofs.Common.{inl, ◌++◌, ◌≡◌, ℕ, ◌+◌, ◌<◌, ◌≤◌, ◌^◌, ◌-◌, ◌==◌, take, List, [], ◌∷◌, length, Bool, true, false, Option, Some, None, arith, refl, sym, ap, ◌∙◌}
+use Rattle.std.proofs.lemmas.Bool.{ltb-false, eqb-true}
 use Rattle.std.specs.Prelude.{if◌then◌else◌}
 use Rattle.std.proofs.lemmas.List.{take_all}
 use Rattle.stanza_tree.specs.Spelling.{text}
@@ -14,8 +14,15 @@ use Rattle.stream_grammar.specs.declared.FrameFault.TheVariants as fault
 use Rattle.stream_grammar.specs.declared.item.Item.{Item}
 use Rattle.stream_grammar.specs.declared.item.Item.TheVariants as item
 use Rattle.stream_grammar.specs.declared.item.Limits.{Limits}
-use Rattle.replay_script.specs.Stanzas.{limits, in_client_stream, begins_with_tag, item_of}
-use Rattle.stream_grammar.specs.Reading.{Reading, taken, reads, stopped, is_ready, handed, reading_next, reading_after, waiting, concluded, or_else, fault_if, is_past, extent_after, rules_of, is_large, is_large_item, byte_judged, told_number}
+use Rattle.stanza_model.specs.Stanzas.{stanza_of}
+use Rattle.stanza_model.specs.declared.stanza.Stanza.{Stanza}
+use Rattle.stream_grammar.specs.Proper.{IsProper}
+use Rattle.stream_grammar.proofs.FeedLemmas.{piece_went}
+use Rattle.stream_laws.proofs.Handing.{went-more}
+use Rattle.stream_laws.proofs.ProperItems.{top_proper}
+use Rattle.house_model.specs.Histories.{StanzaFits}
+use Rattle.replay_script.specs.Stanzas.{limits, fed, client_header, in_client_stream, begins_with_tag, item_of}
+use Rattle.stream_grammar.specs.Reading.{Reading, first_reading, went, taken, reads, stopped, is_ready, handed, reading_next, reading_after, waiting, concluded, or_else, fault_if, is_past, extent_after, rules_of, is_large, is_large_item, byte_judged, told_number}
 
 pub handed_is_ready : (s : Reading) → is_ready (handed s) ≡ true
 handed_is_ready (reads f b n k) = refl
@@ -65,3 +72,46 @@ element_fits (b ∷ bs) e begins h =
     cond_is : (c : Bool) (o : Option Item) (e : Element) → (if c then o else None) ≡ Some (item.Top e) → o ≡ Some (item.Top e)
     cond_is true o e h = h
     cond_is false o e h = absurd (cc)
+
+-- What waits in that stream is handed out of the whole stream's bytes.
+
+again : (s : Reading) (b : ℕ) (bs : List ℕ) → went limits (handed s) (b ∷ bs) ≡ went limits s (b ∷ bs)
+again (stopped f k) b bs = refl
+again (reads f c n k) b bs = refl
+
+client_bytes : List ℕ
+client_bytes = take (taken limits first_reading client_header) client_header
+
+in-stream : in_client_stream ≡ handed (went limits first_reading client_bytes)
+unfolding client_bytes
+in-stream = ap handed (piece_went limits first_reading client_header refl)
+
+whole : (xml : List ℕ) → taken limits in_client_stream xml ≡ length xml → reading_after limits in_client_stream xml ≡ went limits in_client_stream xml
+whole xml same =
+    let all : take (taken limits in_client_stream xml) xml ≡ xml = take_all (taken limits in_client_stream xml) xml (omega (arith, same)) in
+    ap (λ (x : List ℕ). reading_after limits in_client_stream x) (sym all)
+    ∙ piece_went limits in_client_stream xml (handed_is_ready (fed first_reading client_header))
+    ∙ ap (λ (x : List ℕ). went limits in_client_stream x) all
+
+of-stream : (b : ℕ) (bs : List ℕ) → taken limits in_client_stream (b ∷ bs) ≡ length (b ∷ bs)
+    → reading_after limits in_client_stream (b ∷ bs) ≡ went limits first_reading (client_bytes ++ (b ∷ bs))
+of-stream b bs same =
+    whole (b ∷ bs) same
+    ∙ ap (λ (s : Reading). went limits s (b ∷ bs)) in-stream
+    ∙ again (went limits first_reading client_bytes) b bs
+    ∙ sym (went-more limits first_reading client_bytes (b ∷ bs))
+
+item-whole : (c : Bool) (o : Option Item) (i : Item) → (if c then o else None) ≡ Some i → (c ≡ true) × (o ≡ Some i)
+item-whole true o i h = (refl, h)
+item-whole false o i h = absurd (cc)
+
+pub element_proper : (xml : List ℕ) (e : Element) → begins_with_tag xml ≡ true → item_of xml ≡ Some (item.Top e) → IsProper e
+element_proper [] e begins h = absurd (cc)
+element_proper (b ∷ bs) e begins h =
+    let parts = item-whole (taken limits in_client_stream (b ∷ bs) == length (b ∷ bs)) (waiting (reading_after limits in_client_stream (b ∷ bs))) (item.Top e) h in
+    top_proper limits (client_bytes ++ (b ∷ bs)) e (ap waiting (sym (of-stream b bs (eqb-true (taken limits in_client_stream (b ∷ bs)) (length (b ∷ bs)) parts.0))) ∙ parts.1)
+
+-- what a proper element is that is not too large
+pub stanza_fits : (e : Element) (st : Stanza) → IsProper e → length (text e) ≤ 196608 → stanza_of e ≡ Some st → StanzaFits st
+stanza_fits e st proper small read = inl (record { element = e; proper = proper; small = small; read = read })
+

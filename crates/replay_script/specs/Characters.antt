@@ -1,12 +1,13 @@
 -- Characters of a script.
-use Rattle.std.specs.Prelude.{ℕ, Bool, not, ◌&&◌, ◌||◌, ◌==◌, nat_le, nat_lt, List, length}
+use Rattle.std.specs.Prelude.{ℕ, Bool, not, ◌&&◌, ◌==◌, nat_lt, List, length}
 use Rattle.std.specs.List.{list_all}
 use Rattle.std.specs.Str.{chars, is_utf8}
 use Rattle.std.specs.Char.{is_control}
+use Rattle.stream_lex.specs.Classes as classes
 
 -- XML 1.0, production 2
 unfoldable pub is_xml_char : ℕ → Bool
-is_xml_char c = (c == 9) || (c == 10) || (c == 13) || (nat_le 32 c && nat_le c 55295) || (nat_le 57344 c && nat_le c 65533) || nat_le 65536 c
+is_xml_char c = classes.is_xml c
 
 -- UTF-8, all characters of XML
 unfoldable pub is_xml : List ℕ → Bool

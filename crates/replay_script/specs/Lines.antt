@@ -7,16 +7,13 @@ use Rattle.jid_core.specs.declared.fault.JidFault.{JidFault}
 use Rattle.house_model.specs.declared.event.Event.{Event}
 use Rattle.house_model.specs.declared.event.Event.TheVariants.{OpenLine, Login, Bind, Act, Pull}
 use Rattle.house_model.specs.Histories.{Meets}
-use Rattle.house_model.specs.declared.stanza.Stanza.TheVariants.{Message}
-use Rattle.house_model.specs.declared.stanza.MessageForm.TheVariants.{Headline}
-use Rattle.stanza_tree.specs.declared.node.Element.{Element}
 use Rattle.replay_script.specs.declared.step.Step.{Step}
 use Rattle.replay_script.specs.declared.step.Step.TheVariants as step
 use Rattle.replay_script.specs.Characters.{is_token}
 use Rattle.replay_script.specs.Notices.{notice_of}
 use Rattle.replay_script.specs.Numbers.{number_of, line_number_of, dice_of, bytes_of}
 use Rattle.replay_script.specs.Readings.{on, cut}
-use Rattle.replay_script.specs.Stanzas.{stanza_in, is_headline, receiver_of}
+use Rattle.replay_script.specs.Stanzas.{stanza_in}
 
 -- `open W`
 abbrev pub open_of : List ℕ → Option Event
@@ -127,15 +124,11 @@ feed_of text = cut text (λ w hex. on (line_number_of w) (λ w. on (bytes_of hex
 abbrev pub fresh_of : List ℕ → Option Step
 fresh_of text = on (line_number_of text) (λ w. Some (step.Fresh w))
 
--- a headline message is an event, and every other stanza is told as it is
-abbrev pub step_to : ℕ → ℕ → Element → Step
-step_to w t e = if is_headline e then step.Event (Act w (Message (receiver_of e) Headline e) t) else step.Other w t e
-
 -- `stanza W T XML`
-abbrev pub stanza_of : List ℕ → Option Step
-stanza_of text =
+abbrev pub stanza_line_of : List ℕ → Option Step
+stanza_line_of text =
     cut text (λ w rest. on (line_number_of w) (λ w.
-    cut rest (λ t xml. on (number_of t) (λ t. on (stanza_in xml) (λ e. Some (step_to w t e))))))
+    cut rest (λ t xml. on (number_of t) (λ t. on (stanza_in xml) (λ stanza. Some (step.Event (Act w stanza t)))))))
 
 -- a line by its word
 abbrev pub step_by : List ℕ → List ℕ → Option Step
@@ -143,7 +136,7 @@ step_by word rest =
     if bytes_eq word (codes "house") then house_of rest
     else if bytes_eq word (codes "feed") then feed_of rest
     else if bytes_eq word (codes "fresh") then fresh_of rest
-    else if bytes_eq word (codes "stanza") then stanza_of rest
+    else if bytes_eq word (codes "stanza") then stanza_line_of rest
     else on (event_by word rest) (λ e. Some (step.Event e))
 
 -- a line of a script, without its line feed
@@ -156,4 +149,3 @@ StepFits (step.Begin domain users workers) = (list_all is_local users ≡ true) 
 StepFits (step.Event e) = Meets e
 StepFits (step.Feed w bytes) = ⊤
 StepFits (step.Fresh w) = ⊤
-StepFits (step.Other w t e) = ⊤

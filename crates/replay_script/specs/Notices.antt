@@ -8,9 +8,9 @@ use Rattle.stanza_tree.specs.declared.node.Node.TheOpen.{Child, Words}
 use Rattle.stanza_tree.specs.declared.node.Node.TheViews.{roll-Node}
 use Rattle.jid_core.specs.Addresses.{Address, address_of}
 use Rattle.jid_core.specs.declared.fault.JidFault.{JidFault}
-use Rattle.house_model.specs.declared.stanza.Stanza.{Stanza}
-use Rattle.house_model.specs.declared.stanza.Stanza.TheVariants.{Message}
-use Rattle.house_model.specs.declared.stanza.MessageForm.TheVariants.{Headline}
+use Rattle.stanza_model.specs.declared.stanza.Stanza.{Stanza}
+use Rattle.stanza_model.specs.declared.stanza.Stanza.TheVariants.{Message}
+use Rattle.stanza_model.specs.declared.kinds.MessageForm.TheVariants.{Headline}
 use Rattle.replay_script.specs.Characters.{is_token, is_xml}
 
 -- an attribute in no namespace

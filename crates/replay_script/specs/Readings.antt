@@ -6,6 +6,8 @@ use Rattle.stanza_tree.specs.declared.text.TextFault.{TextFault}
 use Rattle.stanza_tree.specs.declared.text.TextFault.TheVariants as text
 use Rattle.jid_core.specs.declared.fault.JidFault.{JidFault}
 use Rattle.jid_core.specs.declared.fault.JidFault.TheVariants as jid
+use Rattle.stanza_model.specs.declared.stanza.StanzaFault.{StanzaFault}
+use Rattle.stanza_model.specs.declared.stanza.StanzaFault.TheVariants as stanza
 use Rattle.replay_script.specs.declared.fault.LineFault.{LineFault}
 use Rattle.replay_script.specs.declared.fault.LineFault.TheVariants.{Bad, NoMemory}
 
@@ -23,7 +25,7 @@ Gives read (Ok x) = read ≡ Some x
 Gives read (Err Bad) = read ≡ None
 Gives read (Err NoMemory) = ⊤
 
--- the fault of a line that a text or an address in it has
+-- the fault of a line that a text, an address or a stanza in it has
 abbrev pub of_text : TextFault → LineFault
 of_text text.NoMemory = NoMemory
 of_text (text.NotUtf8 place) = Bad
@@ -33,3 +35,7 @@ of_address jid.NoMemory = NoMemory
 of_address (jid.Empty which) = Bad
 of_address (jid.Long which) = Bad
 of_address (jid.Bad which place) = Bad
+
+abbrev pub of_stanza : StanzaFault → LineFault
+of_stanza stanza.NoMemory = NoMemory
+of_stanza stanza.Unsupported = Bad

@@ -78,7 +78,6 @@ MayCome st (step.Begin domain users workers) = ⊥
 MayCome st (step.Event e) = IsPossible st e
 MayCome st (step.Feed w bytes) = w < st.workers
 MayCome st (step.Fresh w) = w < st.workers
-MayCome st (step.Other w t e) = ⊥
 
 -- the line is no first line, or no later one after these
 abbrev pub IsOutside : List (List ℕ) → State → List Deed → List ℕ → Type 0

@@ -1,10 +1,8 @@
 -- The stanza of a `stanza` line.
-use Rattle.std.specs.Prelude.{ℕ, ◌==◌, nat_lt, nat_le, Bool, false, not, ◌&&◌, ◌||◌, List, length, slice_index, take, codes, bytes_eq, Option, Some, None, Result, Ok, Err, if◌then◌else◌}
-use Rattle.stanza_tree.specs.Attributes.{attr_of}
-use Rattle.stanza_tree.specs.Spelling.{client_space}
+use Rattle.std.specs.Prelude.{ℕ, ◌==◌, nat_lt, nat_le, Bool, not, ◌&&◌, List, length, slice_index, take, codes, Option, Some, None, if◌then◌else◌}
 use Rattle.stanza_tree.specs.declared.node.Element.{Element}
-use Rattle.jid_core.specs.Addresses.{Address, address_of}
-use Rattle.jid_core.specs.declared.fault.JidFault.{JidFault}
+use Rattle.stanza_model.specs.Stanzas.{stanza_of}
+use Rattle.stanza_model.specs.declared.stanza.Stanza.{Stanza}
 use Rattle.stream_grammar.specs.Reading.{Reading, first_reading, reading_after, waiting, handed, taken}
 use Rattle.stream_grammar.specs.declared.item.Item.{Item}
 use Rattle.stream_grammar.specs.declared.item.Item.TheVariants as item
@@ -46,26 +44,6 @@ item_of xml = if taken limits in_client_stream xml == length xml then waiting (r
 abbrev pub element_of : List ℕ → Option Element
 element_of xml = if nat_le (length xml) 65536 && begins_with_tag xml then top_in (item_of xml) else None
 
--- RFC 6120, 8.1: a message, a presence or an iq
-abbrev pub is_stanza : Element → Bool
-is_stanza e =
-    bytes_eq e.name.space client_space && (bytes_eq e.name.local (codes "message") || bytes_eq e.name.local (codes "presence") || bytes_eq e.name.local (codes "iq"))
-
-abbrev pub stanza_in : List ℕ → Option Element
-stanza_in xml = on (element_of xml) (λ e. if is_stanza e then Some e else None)
-
--- RFC 6121, 5.2.2: a message of the type `headline`
-abbrev pub is_headline_type : Option (List ℕ) → Bool
-is_headline_type None = false
-is_headline_type (Some value) = bytes_eq value (codes "headline")
-
-abbrev pub is_headline : Element → Bool
-is_headline e = bytes_eq e.name.local (codes "message") && is_headline_type (attr_of (codes "type") e.attrs)
-
--- the address that a text is read as, if it is one
-abbrev pub address_if : Result Address JidFault → Option Address
-address_if (Ok a) = Some a
-address_if (Err fault) = None
-
-abbrev pub receiver_of : Element → Option Address
-receiver_of e = on (attr_of (codes "to") e.attrs) (λ text. address_if (address_of text))
+-- RFC 6120, 8: the stanza that it is
+abbrev pub stanza_in : List ℕ → Option Stanza
+stanza_in xml = on (element_of xml) stanza_of

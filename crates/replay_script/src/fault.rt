@@ -2,6 +2,7 @@
 ghost use Rattle.std.specs.Prelude.{◌≡◌};
 
 use jid_core::JidFault;
+use stanza_model::StanzaFault;
 use stanza_tree::{NoMemory, TextFault};
 use std::alloc::AllocFailed;
 use stream_frames::Short;
@@ -59,6 +60,19 @@ impl From<JidFault> for LineFault {
             JidFault::Empty(_) => LineFault::Bad,
             JidFault::Long(_) => LineFault::Bad,
             JidFault::Bad(_, _) => LineFault::Bad,
+        }
+    }
+}
+
+impl From<StanzaFault> for LineFault {
+    ghost use Rattle.replay_script.specs.Readings.{of_stanza};
+
+    ghost from_gives = { λ e f. f ≡ of_stanza e };
+
+    fn from(fault: StanzaFault) -> LineFault {
+        match fault {
+            StanzaFault::NoMemory => LineFault::NoMemory,
+            StanzaFault::Unsupported => LineFault::Bad,
         }
     }
 }

@@ -22,7 +22,7 @@ pub(crate) fn first_field(text: &[u8]) -> Option<(&[u8], &[u8])>
 fn is_xml_char(c: char) -> bool
     ensures { result ≡ is_xml_char c }
 {
-    matches!(c as u32, 9 | 10 | 13 | 32..=0xD7FF | 0xE000..=0xFFFD | 0x10000..)
+    matches!(c as u32, 9 | 10 | 13 | 32..=0xD7FF | 0xE000..=0xFFFD | 0x10000..=0x10FFFF)
 }
 
 #[tactic(auto, unfolding(crate::specs::Characters::is_token_char))]

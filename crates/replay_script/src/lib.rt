@@ -17,5 +17,4 @@ mod tests;
 pub use fault::LineFault;
 pub use print::{print_item, print_reply};
 pub use read::read_line;
-pub use stanza::LIMITS;
 pub use step::Step;

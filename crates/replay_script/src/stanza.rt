@@ -1,101 +1,46 @@
 //! The stanza of a `stanza` line.
 ghost use Rattle.std.specs.Prelude.{◌≡◌, ◌≤◌, length, IfOk};
 ghost use Rattle.stanza_tree.specs.Spelling.{text};
-ghost use Rattle.replay_script.specs.Lines.{StepFits, stanza_of};
+ghost use Rattle.stream_grammar.specs.Proper.{IsProper};
+ghost use Rattle.house_model.specs.Histories.{StanzaFits};
+ghost use Rattle.replay_script.specs.Lines.{StepFits, stanza_line_of};
 ghost use Rattle.replay_script.specs.Readings.{Gives};
-ghost use Rattle.replay_script.specs.Stanzas.{limits, client_header, in_client_stream, begins_with_tag, item_of, element_of, is_stanza, stanza_in, is_headline, receiver_of};
+ghost use Rattle.replay_script.specs.Stanzas.{limits, client_header, in_client_stream, begins_with_tag, item_of, element_of, stanza_in};
 
 use crate::fault::LineFault;
 use crate::fields::first_field;
 use crate::numbers::{read_decimal, read_line_number};
 use crate::step::Step;
-use house_model::{Event, MessageForm, Stanza};
-use jid_core::{Jid, JidFault};
+use house_model::Event;
+use stanza_model::Stanza;
 use stanza_tree::{Element, NoMemory};
 use std::alloc::Global;
-use stream_frames::{Framer, Item, Limits};
-
-/// What every stream is held to.
-pub const LIMITS: Limits = Limits {
-    bytes: 65_536,
-    depth: 32,
-    attrs: 64,
-    canonical: 196_608,
-};
+use stream_frames::{Framer, Item, LIMITS};
 
 /// How many bytes the text of a stanza may have.
 const MOST_XML: usize = 65_536;
 
 /// The step of a `stanza` line by what stands after its word.
 pub(crate) fn read_stanza(alloc: Global, rest: &[u8]) -> Result<Step, LineFault>
-    ensures read { Gives (stanza_of rest.now) result }
+    ensures read { Gives (stanza_line_of rest.now) result }
     ensures fits { IfOk result StepFits }
 {
     let (w, rest) = first_field(rest).ok_or(LineFault::Bad)?;
     let w = read_line_number(w).ok_or(LineFault::Bad)?;
     let (t, xml) = first_field(rest).ok_or(LineFault::Bad)?;
     let t = read_decimal(t).ok_or(LineFault::Bad)?;
-    let element = stanza_in(alloc, xml)?;
-    if !is_headline(&element) {
-        return Ok(Step::Other { w, t, element });
-    }
-    let to = receiver_of(alloc, &element)?;
-    let form = MessageForm::Headline;
-    let stanza = Stanza::Message { to, form, element };
+    let stanza = stanza_in(alloc, xml)?;
     Ok(Step::Event(Event::Act { w, stanza, t }))
 }
 
-/// The stanza that a text spells.
-fn stanza_in(alloc: Global, xml: &[u8]) -> Result<Element, LineFault>
+/// The stanza that a text spells (RFC 6120, section 8).
+#[tactic(auto, using(crate::proofs::StanzaLemmas::stanza_fits))]
+fn stanza_in(alloc: Global, xml: &[u8]) -> Result<Stanza, LineFault>
     ensures read { Gives (stanza_in xml.now) result }
-    ensures fits { IfOk result (λ e. length (text e) ≤ 196608) }
+    ensures fits { IfOk result StanzaFits }
 {
     let element = element_of(alloc, xml)?;
-    if is_stanza(&element) {
-        Ok(element)
-    } else {
-        Err(LineFault::Bad)
-    }
-}
-
-/// Whether it is a message, a presence or an iq (RFC 6120, 8.1).
-fn is_stanza(element: &Element) -> bool
-    ensures { result ≡ is_stanza element.now }
-{
-    let local = element.name.local.bytes();
-    element.name.space.bytes() == b"jabber:client".as_slice()
-        && (local == b"message".as_slice()
-            || local == b"presence".as_slice()
-            || local == b"iq".as_slice())
-}
-
-/// Whether it is a message of the type `headline` (RFC 6121, 5.2.2).
-fn is_headline(element: &Element) -> bool
-    ensures { result ≡ is_headline element.now }
-{
-    if element.name.local.bytes() != b"message".as_slice() {
-        return false;
-    }
-    match element.attr(b"type") {
-        Some(value) => value.bytes() == b"headline".as_slice(),
-        None => false,
-    }
-}
-
-/// To whom a stanza goes: None for one without an address that can be read.
-fn receiver_of(alloc: Global, element: &Element) -> Result<Option<Jid>, NoMemory>
-    ensures { IfOk result (λ to. to ≡ receiver_of element.now) }
-{
-    let Some(value) = element.attr(b"to") else {
-        return Ok(None);
-    };
-    match Jid::read(alloc, value.bytes()) {
-        Ok(to) => Ok(Some(to)),
-        Err(JidFault::NoMemory) => Err(NoMemory),
-        Err(JidFault::Empty(_)) => Ok(None),
-        Err(JidFault::Long(_)) => Ok(None),
-        Err(JidFault::Bad(_, _)) => Ok(None),
-    }
+    Ok(Stanza::of(alloc, element)?)
 }
 
 /// The header of a stream whose default namespace is `jabber:client`, and which declares no prefix.
@@ -142,10 +87,11 @@ fn item_of(alloc: Global, xml: &[u8]) -> Result<Option<Item>, NoMemory>
 }
 
 /// The one element that a text spells within the limits, in the default namespace `jabber:client`.
-#[tactic(auto, using(crate::proofs::StanzaLemmas::element_fits))]
+#[tactic(auto, using(crate::proofs::StanzaLemmas::element_fits, crate::proofs::StanzaLemmas::element_proper))]
 fn element_of(alloc: Global, xml: &[u8]) -> Result<Element, LineFault>
     ensures read { Gives (element_of xml.now) result }
     ensures fits { IfOk result (λ e. length (text e) ≤ 196608) }
+    ensures proper { IfOk result IsProper }
 {
     if xml.len() > MOST_XML || !begins_with_tag(xml) {
         return Err(LineFault::Bad);

@@ -1,7 +1,7 @@
 //! What a line of a script does.
 use house_model::Event;
 use jid_core::{Jid, Part};
-use stanza_tree::{Element, Several};
+use stanza_tree::Several;
 
 /// The step of a line.
 #[derive(Drop)]
@@ -22,11 +22,5 @@ pub enum Step {
     /// The framer of connection `w` begins a new stream.
     Fresh {
         w: u32,
-    },
-    /// Connection `w` sends a stanza at moment `t` that is no headline message to an address.
-    Other {
-        w: u32,
-        t: u64,
-        element: Element,
     },
 }

@@ -1,2 +1,2 @@
-mod AddressTexts
 mod Counts
+pub mod StanzaLemmas

@@ -112,6 +112,12 @@ to_in (stanza.Presence to form e) = to
 to_in (stanza.Iq to id form e) = to
 to_in (stanza.Faulty k to id answered condition) = to
 
+abbrev pub element_in : Stanza → Option Element
+element_in (stanza.Message to form e) = Some e
+element_in (stanza.Presence to form e) = Some e
+element_in (stanza.Iq to id form e) = Some e
+element_in (stanza.Faulty k to id answered condition) = None
+
 abbrev pub id_in : Stanza → Option (List ℕ)
 id_in (stanza.Message to form e) = id_of e
 id_in (stanza.Presence to form e) = id_of e

@@ -45,12 +45,9 @@ fn text_of(alloc: Global, text: &str) -> Result<Text, NoMemory>
 }
 
 /// The text of an address.
-#[tactic(auto, using(crate::proofs::AddressTexts::address_text_utf8))]
 fn written(alloc: Global, address: &Jid) -> Result<Text, NoMemory>
     ensures { IfOk result (λ t. t ≡ address_text address.now) }
 {
-    // A look inside: its parts are prepared, and so what is written is UTF-8.
-    let _ = &address.domain;
     let mut bytes = Vec::new(alloc);
     address.write(&mut bytes)?;
     Ok(Text::of_vec(bytes))

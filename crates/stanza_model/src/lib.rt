@@ -2,6 +2,7 @@
 #![tactic(auto)]
 
 pub mod condition;
+pub mod effect;
 pub mod error;
 pub mod form;
 #[cfg(test)]
@@ -15,6 +16,7 @@ pub mod stanza;
 mod tests;
 
 pub use condition::Condition;
+pub use effect::Effect;
 pub use error::error_reply;
 pub use form::{DataForm, Field, FormFault};
 pub use kinds::{IqForm, Kind, MessageForm, PresenceForm};

@@ -3,7 +3,7 @@ ghost use Rattle.std.specs.Prelude.{◌≡◌, ◌==◌, ◌↔◌, None, Some, 
 ghost use Rattle.std.specs.Option.{option_copied};
 ghost use Rattle.stanza_model.specs.Kinds.{message_form, presence_form, iq_form};
 ghost use Rattle.stanza_model.specs.declared.stanza.StanzaFault.TheVariants.{Unsupported};
-ghost use Rattle.stanza_model.specs.Stanzas.{kind_of, type_of, id_of, address_in, is_unreadable, element_count, has_value, is_answered, faulty, message_of, presence_by, iq_by, stanza_of, has_wrong_content, kind_in, to_in, id_in};
+ghost use Rattle.stanza_model.specs.Stanzas.{kind_of, type_of, id_of, address_in, is_unreadable, element_count, has_value, is_answered, faulty, message_of, presence_by, iq_by, stanza_of, has_wrong_content, kind_in, to_in, element_in, id_in};
 
 use crate::condition::Condition;
 use crate::kinds::{IqForm, Kind, MessageForm, PresenceForm};
@@ -341,6 +341,18 @@ impl Stanza {
             Stanza::Presence { to, .. } => to.as_ref(),
             Stanza::Iq { to, .. } => to.as_ref(),
             Stanza::Faulty { to, .. } => to.as_ref(),
+        }
+    }
+
+    /// The stanza's element. A faulty stanza has none.
+    pub fn element(&self) -> Option<&Element>
+        ensures { option_copied result ≡ element_in self.now }
+    {
+        match self {
+            Stanza::Message { element, .. } => Some(element),
+            Stanza::Presence { element, .. } => Some(element),
+            Stanza::Iq { element, .. } => Some(element),
+            Stanza::Faulty { .. } => None,
         }
     }
 

@@ -6,5 +6,4 @@ pub mod TextLemmas
 pub mod LookupLemmas
 pub mod ExpandedLemmas
 pub mod BuildLemmas
-pub mod PlainLemmas
 mod FillLemmas

@@ -21,6 +21,15 @@ use std::marker::Model;
 use stream_grammar::{FrameFault, Item, Limits, NameFault};
 use stream_lex::Token;
 
+/// What every stream of a client is held to. A header or a top element has at most 65,536 bytes as it is read, 32 levels, 64
+/// attributes on a tag, and 196,608 bytes as it is spelt, which is what a queue has to hold of it (RFC 6120, 4.9.3.14 and 13.12).
+pub const LIMITS: Limits = Limits {
+    bytes: 65_536,
+    depth: 32,
+    attrs: 64,
+    canonical: 196_608,
+};
+
 /// What the tokens of a byte will do, or the fault by its names of a tag that they end.
 fn prepared(builder: &mut Builder, told: &[Token]) -> Result<Result<Ready, FrameFault>, NoMemory>
     requires few { is_few told.now ≡ true }

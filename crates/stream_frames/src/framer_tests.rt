@@ -1,5 +1,6 @@
 //! Streams as items: whole, cut after every byte, and at their limits.
 
+use crate::LIMITS;
 use crate::feeding::{Cut, items_of};
 use stanza_tree::write;
 use std::alloc::Global;
@@ -9,13 +10,6 @@ use stream_grammar::FrameFault::{
     BadEncoding, BadFormat, BadPrefix, NotWellFormed, Restricted, TooDeep, TooLong, TooManyAttrs,
 };
 use stream_grammar::{FrameFault, Item, Limits};
-
-const LIMITS: Limits = Limits {
-    bytes: 65_536,
-    depth: 32,
-    attrs: 64,
-    canonical: 196_608,
-};
 
 /// The header of 116 bytes that the texts below follow.
 const HEADER: &[u8] =

@@ -14,14 +14,6 @@ mod name_tests;
 mod names;
 mod namespaces;
 mod places;
-#[cfg(test)]
-mod plain;
-#[cfg(test)]
-mod plain_frames;
-#[cfg(test)]
-mod plain_nesting;
-#[cfg(test)]
-mod plain_tests;
 mod scan;
 mod tags;
 #[cfg(test)]
@@ -29,7 +21,7 @@ mod tests;
 mod tracker;
 mod work;
 
-pub use framer::{Framer, Short};
+pub use framer::{Framer, LIMITS, Short};
 pub use namespaces::own_bindings;
 pub use scan::syntax_fault;
 pub use stream_grammar::{Binding, FrameFault, Item, Limits, NameFault, Rules, Written};

@@ -42,3 +42,4 @@ pub mod Faultless
 pub mod OneFault
 pub mod ScopeFaults
 pub mod OpenItems
+pub mod ProperItems

@@ -1,6 +1,6 @@
 //! What is written is read.
 
-ghost use Rattle.std.specs.Prelude.{◌≡◌, ℕ, ◌^◌, ◌<◌, ◌≤◌, List, [], ◌∷◌, ◌++◌, length, All, true, false, codes, bytes_eq};
+ghost use Rattle.std.specs.Prelude.{◌≡◌, ℕ, ◌^◌, ◌<◌, ◌≤◌, List, [], ◌∷◌, ◌++◌, length, All, Some, true, false, codes, bytes_eq};
 ghost use Rattle.stanza_tree.specs.declared.node.Element.{Element};
 ghost use Rattle.stanza_tree.specs.Attributes.{with_attr, without_attr};
 ghost use Rattle.stanza_tree.specs.Spelling.{text, client_space};
@@ -11,6 +11,9 @@ ghost use Rattle.stream_grammar.specs.Streams.{Spells};
 ghost use Rattle.stream_grammar.specs.Items.{HasCome};
 ghost use Rattle.stream_grammar.specs.Elements.{default_of, header_of, tops_of, IsNamed};
 ghost use Rattle.stream_grammar.specs.Proper.{IsNcName, IsXmlText, IsProper, IsProperInParts, is_ascii_name, is_ascii_text};
+ghost use Rattle.stream_grammar.specs.Reading.{first_reading, waiting, went};
+ghost use Rattle.stream_grammar.specs.declared.item.Item.TheVariants as item;
+ghost use Rattle.stream_grammar.specs.declared.item.Limits.{Limits};
 ghost use Rattle.stream_grammar.specs.RoundTrips.{HasMore, IsReadBack, IsWritable, IsTop, texts_of, end_tag_of, bare_header, bare_root};
 
 /// The canonical text of a proper element is read back as that element. It follows the start of a stream whose default
@@ -67,6 +70,14 @@ pub fn what_has_come_is_proper()
         → HasCome r bytes root f → IsNamed root f → IsProper (header_of root) }
     ensures tops { (r : Rules) (bytes : List ℕ) (root : RawTag) (f : Content)
         → HasCome r bytes root f → IsNamed root f → All IsProper (tops_of root f) }
+{}
+
+/// The elements that a framer hands out are proper.
+pub fn items_are_proper()
+    ensures top { (l : Limits) (bytes : List ℕ) (e : Element)
+        → waiting (went l first_reading bytes) ≡ Some (item.Top e) → IsProper e }
+    ensures header { (l : Limits) (bytes : List ℕ) (e : Element) (space : List ℕ)
+        → waiting (went l first_reading bytes) ≡ Some (item.Header e space) → IsProper e }
 {}
 
 /// An element is proper exactly where its name, its attributes and its children are.

@@ -209,7 +209,6 @@ may-come o h house (step.Begin domain users workers) stands may = may
 may-come o h house (step.Event e) stands may = (omega (arith, may.line, lines-kept o h house stands), ap (λ (k : Kept). is_plain k e) stands.kept ∙ may.plain)
 may-come o h house (step.Feed w bytes) stands may = omega (arith, may, lines-kept o h house stands)
 may-come o h house (step.Fresh w) stands may = omega (arith, may, lines-kept o h house stands)
-may-come o h house (step.Other w t e) stands may = may
 
 -- the line can't be played
 pub stop-bad : (left coming coming_now left_now took now : Option (List ℕ)) (given given_now : ℕ) (house : Kept) (framers : Framers) (number : ℕ) (text : List ℕ)

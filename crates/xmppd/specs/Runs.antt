@@ -127,7 +127,6 @@ MayComeHere house (step.Begin domain users workers) = ⊥
 MayComeHere house (step.Event e) = (line_of e < length house.lines) × (is_plain house e ≡ true)
 MayComeHere house (step.Feed w bytes) = w < length house.lines
 MayComeHere house (step.Fresh w) = w < length house.lines
-MayComeHere house (step.Other w t e) = ⊥
 
 abbrev pub PlaysStep : {X : Type 0} → Kept → Kept → Framers → Framers → Step → List ℕ → Result X LineFault → Type 0
 PlaysStep before after framers framers_now s out (Ok x) = PlaysDeed before after framers framers_now s out

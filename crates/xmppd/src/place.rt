@@ -4,10 +4,10 @@ ghost use Rattle.stream_grammar.specs.Reading.{first_reading, reading_next, hand
 ghost use Rattle.replay_script.specs.Deeds.{item_in, items_of, print_items};
 ghost use Rattle.replay_script.specs.Stanzas.{limits};
 
-use replay_script::{LIMITS, print_item};
+use replay_script::print_item;
 use stanza_tree::NoMemory;
 use std::alloc::Global;
-use stream_frames::Framer;
+use stream_frames::{Framer, LIMITS};
 
 /// A framer of which each item was handed out.
 #[derive(Drop)]

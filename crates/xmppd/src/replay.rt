@@ -92,9 +92,7 @@ fn house_of(alloc: Global, line: &[u8]) -> Result<House, LineFault>
             users,
             workers,
         } => Ok(House::new(alloc, &domain, users.slice(), workers)?),
-        Step::Event(_) | Step::Feed { .. } | Step::Fresh { .. } | Step::Other { .. } => {
-            Err(LineFault::Bad)
-        }
+        Step::Event(_) | Step::Feed { .. } | Step::Fresh { .. } => Err(LineFault::Bad),
     }
 }
 
@@ -202,7 +200,7 @@ impl Player {
                 self.streams.begin_again(w as usize);
                 Ok(())
             }
-            Step::Begin { .. } | Step::Other { .. } => Err(LineFault::Bad),
+            Step::Begin { .. } => Err(LineFault::Bad),
         }
     }
 
@@ -213,7 +211,7 @@ impl Player {
         requires print { self.old.print.items ≡ [] }
         ensures { PlaysStep self.old.house self.new.house (framers_of self.old.streams.places.items) (framers_of self.new.streams.places.items) (step.Event event.now) self.new.print.items result }
     {
-        if line_of(event) as usize >= self.house.workers() || !self.house.is_plain(event) {
+        if event.line() as usize >= self.house.workers() || !self.house.is_plain(event) {
             return Err(LineFault::Bad);
         }
         self.frame.clear();
@@ -221,19 +219,6 @@ impl Player {
         let reply = enact(&mut self.house, event, &mut self.frame)?;
         print_reply(&reply, self.frame.as_slice(), &mut self.print)?;
         Ok(())
-    }
-}
-
-/// The line at which an event happens.
-fn line_of(event: &Event) -> u32
-    ensures { result ≡ line_of event.now }
-{
-    match event {
-        Event::OpenLine { w } => *w,
-        Event::Login { w, .. } => *w,
-        Event::Bind { w, .. } => *w,
-        Event::Act { w, .. } => *w,
-        Event::Pull { w, .. } => *w,
     }
 }
 

@@ -5,7 +5,8 @@ use Rattle.house_model.specs.States.{Line, empty_line}
 use Rattle.house_model.specs.Keeping.{KeptSession, Kept}
 use Rattle.house_model.specs.Effects.{no_session, kept_line, kept_session, kept_all}
 use Rattle.house_model.specs.Plain.{reaches, act_is_plain}
-use Rattle.house_model.specs.Steps.{kept_turned, address_in, delivered, acts}
+use Rattle.house_model.specs.Steps.{kept_turned, headline_in, delivered, acts}
+use Rattle.stanza_model.specs.Stanzas.{to_in}
 use Rattle.house_core.specs.Seats.{seated}
 use Rattle.house_core.specs.contracts.house.House.{the_view}
 use Rattle.house_core.proofs.HouseLemmas.{read-there, seat-kept}
@@ -27,7 +28,7 @@ deliver-requires-clause-reaches c d =
     let there : c.in-Bound.session - 1 < length c.self.inside.sessions.items = omega (arith, held.0, held.1) in
     let sender = seat-kept c.self.inside.sessions.items (c.in-Bound.session - 1) (get_or c.self.inside.sessions.items (c.in-Bound.session - 1) d) there
     (read-there c.self.inside.sessions.items (c.in-Bound.session - 1) d (get_or c.self.inside.sessions.items (c.in-Bound.session - 1) d) there) in
-    ap (λ (s : KeptSession). reaches (seated c.self.inside.sessions.items) s.address (address_in c.args.stanza.now) c.args.stanza.now) (sym sender)
+    ap (λ (s : KeptSession). reaches (seated c.self.inside.sessions.items) s.address (to_in c.args.stanza.now) (headline_in c.args.stanza.now)) (sym sender)
     ∙ ap (λ (s : Stage). act_is_plain (the_view c.self.inside) c.args.stanza.now s) (sym bound)
     ∙ ap (λ (k : Kept). act_is_plain k c.args.stanza.now (kept_line k c.args.w).stage) c.self.view_is
     ∙ c.requires.plain
@@ -49,8 +50,26 @@ returns-in_ok-deliver-in-Bound-clause-state c =
     ∙ ap (λ (x : Kept). record x { turns = x.turns + 1; moment = max x.moment c.args.t; sessions = seated c.deliver.new.sessions.items }) c.self.view_is
     ∙ c.in_ok-deliver-in-Bound.ensures.ok (kept_turned (Event.Act c.args.w c.args.stanza.now c.args.t) c.args.self.now) (record { kept = no_session; spare = 0 }) (ap (λ (k : Kept). k.sessions) (sym c.self.view_is))
     ∙ ap (λ (x : KeptSession). kept_all (kept_turned (Event.Act c.args.w c.args.stanza.now c.args.t) c.args.self.now)
-    (delivered c.args.self.now.sessions x.address (address_in c.args.stanza.now) c.args.stanza.now))
+    (delivered c.args.self.now.sessions x.address (to_in c.args.stanza.now) (headline_in c.args.stanza.now)))
     (sym sender ∙ ap (λ (k : Kept). kept_session k c.in-Bound.session) c.self.view_is)
     ∙ ap (λ (s : Stage). kept_all (kept_turned (Event.Act c.args.w c.args.stanza.now c.args.t) c.args.self.now)
     (acts (kept_turned (Event.Act c.args.w c.args.stanza.now c.args.t) c.args.self.now) c.args.stanza.now s).effects)
     (sym (ap (λ (k : Kept). (kept_line k c.args.w).stage) (sym c.self.view_is) ∙ bound))
+
+pub invariant_of-self-in_err-deliver-in-Bound : goal.invariant_of-self-in_err-deliver-in-Bound
+invariant_of-self-in_err-deliver-in-Bound c = record {
+  prepared = c.self.invariant.prepared;
+  few = c.self.invariant.few;
+  counted = omega (arith, c.self.invariant.counted);
+  logged = c.self.invariant.logged;
+  held = λ w s h. (let old = c.self.invariant.held w s h in (old.0, omega (arith, old.1, c.deliver.ensures.len)));
+}
+
+pub invariant_of-self-in-Bound : goal.invariant_of-self-in-Bound
+invariant_of-self-in-Bound c = record {
+  prepared = c.self.invariant.prepared;
+  few = c.self.invariant.few;
+  counted = omega (arith, c.self.invariant.counted);
+  logged = c.self.invariant.logged;
+  held = λ w s h. (let old = c.self.invariant.held w s h in (old.0, omega (arith, old.1, c.deliver.ensures.len)));
+}

@@ -11,7 +11,8 @@ use Rattle.house_model.specs.Steps.{kept_turned, resource_or, bound_address}
 use Rattle.house_core.specs.Houses.{IsWhole}
 use Rattle.house_core.specs.Seats.{Seat, seated}
 use Rattle.house_core.specs.contracts.house.House.{the_view}
-use Rattle.house_core.proofs.HouseLemmas.{whole-turn, whole-begin, binding-made, read-there}
+use Rattle.house_core.proofs.HouseLemmas.{whole-turn, whole-begin, binding-made, read-there, user-local}
+use Rattle.jid_core.specs.Preparation.{is_local}
 use Rattle.house_core.proofs.house.House.apply_bind.Goals as goal
 
 pub invariant_of-self-in_err-reserve-in-Logged : goal.invariant_of-self-in_err-reserve-in-Logged
@@ -65,3 +66,11 @@ returns-in_ok-reserve-in-Logged-clause-state c =
       lines = set x.lines c.args.w c.bind.new.self;
     }) c.self.view_is
     ∙ made
+
+pub make_address-requires : goal.make_address-requires
+make_address-requires c =
+    let low : c.args.w < length c.self.inside.lines.items = subst (λ (k : Kept). c.args.w < length k.lines) (sym c.self.view_is) c.requires.line in
+    let line = read-there c.self.inside.lines.items c.args.w empty_line c.index-line.result.now low ∙ sym c.index-line.ensures in
+    let logged = ap (λ (l : Line). l.stage) line ∙ sym c.stage.ensures.stage ∙ c.in-Logged.is in
+    let there = c.self.invariant.logged c.args.w c.in-Logged.user logged in
+    ap is_local c.index.ensures ∙ user-local c.self.inside.users.items c.in-Logged.user c.index.result.now c.self.invariant.prepared there
