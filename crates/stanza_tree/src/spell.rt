@@ -315,7 +315,11 @@ fn push_nodes(nodes: &[Node], parent: &[u8], out: &mut Vec<u8>) -> Result<(), No
 
 /// Appends the rest of an element after its start tag's attributes.
 #[tactic(auto, unfolding(crate::specs::Spelling::closed))]
-pub(crate) fn push_content(name: &Name, children: &[Node], out: &mut Vec<u8>) -> Result<(), NoMemory>
+pub(crate) fn push_content(
+    name: &Name,
+    children: &[Node],
+    out: &mut Vec<u8>,
+) -> Result<(), NoMemory>
     ensures ok { OnOk result (out.new.items ≡ out.old.items ++ closed name.now.local (texts_under name.now.space children.now)) }
     ensures utf8 { OnOk result (IsUtf8 (texts_under name.now.space children.now)) }
     ensures kept { Keeps out.old out.new }
