@@ -53,7 +53,7 @@ pub(crate) fn is_plain_in_words(byte: u8) -> bool
 
 /// Whether all bytes stand for themselves in words.
 pub(crate) fn are_plain_in_words(bytes: &[u8]) -> bool
-    ensures { IsTrue result → words_text bytes.now ≡ bytes.now }
+    ensures { IsTrue result ↔ words_text bytes.now ≡ bytes.now }
 {
     let mut escapes = 0u8;
     for byte in bytes {
@@ -91,7 +91,7 @@ pub(crate) fn is_plain_in_value(byte: u8) -> bool
 
 /// Whether all bytes stand for themselves in a value that is quoted by `'`.
 pub(crate) fn are_plain_in_value(bytes: &[u8]) -> bool
-    ensures { IsTrue result → value_text bytes.now ≡ bytes.now }
+    ensures { IsTrue result ↔ value_text bytes.now ≡ bytes.now }
 {
     let mut escapes = 0u8;
     for byte in bytes {
