@@ -3,6 +3,7 @@ pub mod Bounds
 mod ContentLemmas
 mod CountLemmas
 mod DecimalLemmas
+mod FrameLemmas
 mod HeldLemmas
 mod RunLemmas
 pub mod SpellingLemmas

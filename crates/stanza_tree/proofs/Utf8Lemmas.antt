@@ -54,7 +54,7 @@ spelt-utf8 f low high (c ∷ cs) s =
 
 -- Escapes.
 
-abbrev all_low : List ℕ → Bool
+abbrev pub all_low : List ℕ → Bool
 all_low [] = true
 all_low (b ∷ bs) = nat_lt b 128 && all_low bs
 
@@ -64,7 +64,7 @@ low-ascii (b ∷ bs) e zero = ltb-true b 128 (and_parts _ _ e).0
 low-ascii (b ∷ bs) e (suc i) = low-ascii bs (and_parts _ _ e).1 i
 
 -- a text of ASCII, by computing
-ascii-utf8 : (bs : List ℕ) → all_low bs ≡ true → IsUtf8 bs
+pub ascii-utf8 : (bs : List ℕ) → all_low bs ≡ true → IsUtf8 bs
 ascii-utf8 bs e = IsUtf8-from_ascii bs (low-ascii bs e)
 
 byte-utf8 : (b : ℕ) → b < 128 → IsUtf8 (b ∷ [])

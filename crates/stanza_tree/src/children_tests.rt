@@ -17,16 +17,10 @@ fn example(alloc: Global) -> Result<Element, Fail> {
 }
 
 #[test]
-fn words_are_joined(rt: HostRuntime) -> Result<(), Fail> {
+fn children_are_found(rt: HostRuntime) -> Result<(), Fail> {
     let element = example(rt.alloc())?;
     let words = element.words(rt.alloc())?;
     assert!(&rt; words.bytes() == b"ab".as_slice());
-    Ok(())
-}
-
-#[test]
-fn a_child_has_both_names(rt: HostRuntime) -> Result<(), Fail> {
-    let element = example(rt.alloc())?;
     assert!(&rt; element.child(b"urn:x", b"x").is_some());
     assert!(&rt; element.child(b"jabber:client", b"x").is_none());
     Ok(())

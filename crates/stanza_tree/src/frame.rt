@@ -1,5 +1,5 @@
 //! Frames: what goes out for an entry of a session's queue (RFC 6120, 8.1.1).
-ghost use Rattle.std.specs.Prelude.{◌≡◌, ◌≤◌, ◌+◌, ◌^◌, ◌-◌, ◌++◌, min, length, vec_len, vec_capacity};
+ghost use Rattle.std.specs.Prelude.{◌≡◌, ◌≤◌, ◌+◌, ◌^◌, ◌-◌, ◌++◌, min, length, vec_len, vec_capacity, IsUtf8};
 ghost use Rattle.stanza_tree.specs.Spelling.{value_text, words_text};
 ghost use Rattle.stanza_tree.specs.declared.frame.Entry.{Entry};
 ghost use Rattle.stanza_tree.specs.Entries.{name_end, frame};
@@ -104,6 +104,7 @@ fn name_length(rest: &[u8]) -> usize
 pub fn push_frame(entry: &Entry, out: &mut Vec<u8>)
     requires { vec_len out.old + length (frame entry.now) ≤ vec_capacity out.old }
     ensures frame { out.new.items ≡ out.old.items ++ frame entry.now }
+    ensures utf8 { IsUtf8 (frame entry.now) }
     ensures capacity { vec_capacity out.old ≤ vec_capacity out.new }
 {
     let rest = entry.rest.bytes();

@@ -19,5 +19,5 @@ pub use measure::{is_longer, length};
 pub use node::{Attr, Element, Name, Node};
 pub use several::Several;
 pub use spell::write;
-pub use stamp::{sent_length, write_sent};
+pub use stamp::{sent_length, sent_text, write_sent};
 pub use text::{NoMemory, Text, TextFault};

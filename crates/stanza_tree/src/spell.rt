@@ -53,7 +53,7 @@ pub(crate) fn is_plain_in_words(byte: u8) -> bool
 
 /// Whether all bytes stand for themselves in words.
 pub(crate) fn are_plain_in_words(bytes: &[u8]) -> bool
-    ensures { IsTrue result → words_text bytes.now ≡ bytes.now }
+    ensures { IsTrue result ↔ words_text bytes.now ≡ bytes.now }
 {
     let mut escapes = 0u8;
     for byte in bytes {
@@ -91,7 +91,7 @@ pub(crate) fn is_plain_in_value(byte: u8) -> bool
 
 /// Whether all bytes stand for themselves in a value that is quoted by `'`.
 pub(crate) fn are_plain_in_value(bytes: &[u8]) -> bool
-    ensures { IsTrue result → value_text bytes.now ≡ bytes.now }
+    ensures { IsTrue result ↔ value_text bytes.now ≡ bytes.now }
 {
     let mut escapes = 0u8;
     for byte in bytes {
@@ -315,7 +315,11 @@ fn push_nodes(nodes: &[Node], parent: &[u8], out: &mut Vec<u8>) -> Result<(), No
 
 /// Appends the rest of an element after its start tag's attributes.
 #[tactic(auto, unfolding(crate::specs::Spelling::closed))]
-pub(crate) fn push_content(name: &Name, children: &[Node], out: &mut Vec<u8>) -> Result<(), NoMemory>
+pub(crate) fn push_content(
+    name: &Name,
+    children: &[Node],
+    out: &mut Vec<u8>,
+) -> Result<(), NoMemory>
     ensures ok { OnOk result (out.new.items ≡ out.old.items ++ closed name.now.local (texts_under name.now.space children.now)) }
     ensures utf8 { OnOk result (IsUtf8 (texts_under name.now.space children.now)) }
     ensures kept { Keeps out.old out.new }

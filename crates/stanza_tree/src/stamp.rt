@@ -1,5 +1,5 @@
 //! A stanza as the server hands it on: with the sender's address as its `from`, and without its `to` (RFC 6120, 8.1.2.1).
-ghost use Rattle.std.specs.Prelude.{◌≡◌, ◌++◌, ◌^◌, ◌-◌, false, min, length as list_length, OnOk, OnErr, IsUtf8};
+ghost use Rattle.std.specs.Prelude.{◌≡◌, ◌++◌, ◌^◌, ◌-◌, false, min, length as list_length, IfOk, OnOk, OnErr, IsUtf8};
 ghost use Rattle.stanza_tree.specs.Appending.{Keeps};
 ghost use Rattle.stanza_tree.specs.Attributes.{is_named};
 ghost use Rattle.stanza_tree.specs.Spelling.{assigned, text};
@@ -14,7 +14,8 @@ use crate::spell::{
     CLIENT_SPACE, is_foreign, know_utf8, push_assigned, push_content, push_declarations, push_name,
     push_prefixed, push_unprefixed,
 };
-use crate::text::NoMemory;
+use crate::text::{NoMemory, Text};
+use std::alloc::Global;
 
 /// Whether an attribute is the one of that name in no namespace.
 fn is_plain(attr: &Attr, local: &[u8]) -> bool
@@ -112,6 +113,16 @@ pub fn write_sent(element: &Element, from: &[u8], out: &mut Vec<u8>) -> Result<(
         out.truncate(before);
     }
     done
+}
+
+/// That spelling as a text of its own.
+pub fn sent_text(alloc: Global, element: &Element, from: &[u8]) -> Result<Text, NoMemory>
+    requires { IsUtf8 from.now }
+    ensures { IfOk result (λ t. t ≡ text (sent_by from.now element.now)) }
+{
+    let mut bytes = Vec::new(alloc);
+    write_sent(element, from, &mut bytes)?;
+    Ok(Text::of_vec(bytes))
 }
 
 /// The number of bytes of that spelling; 2^64 - 1 stands for more. Costs the size of the tree, and no memory.

@@ -103,34 +103,22 @@ fn texts_are_utf8(rt: HostRuntime) {
     }
 }
 
+// A text, its copy, and the copy of what shares its bytes.
 #[test]
 fn texts_are_copied(rt: HostRuntime) -> Result<(), Fail> {
-    let text = Text::of(rt.alloc(), b"plain")?;
-    assert!(rt; text.bytes() == b"plain".as_slice());
-    let copy = text.copy(rt.alloc())?;
-    assert!(rt; copy.bytes() == b"plain".as_slice());
-    Ok(())
-}
-
-#[test]
-fn texts_share_their_bytes(rt: HostRuntime) -> Result<(), Fail> {
     let mut text = Text::of(rt.alloc(), "é".as_bytes())?;
+    let first = text.copy(rt.alloc())?;
     text.share(rt.alloc())?;
     text.share(rt.alloc())?;
-    let copy = text.copy(rt.alloc())?;
+    let second = text.copy(rt.alloc())?;
     drop(text);
-    assert!(&rt; copy.bytes() == "é".as_bytes());
+    assert!(&rt; first.bytes() == "é".as_bytes());
+    assert!(&rt; second.bytes() == "é".as_bytes());
     Ok(())
 }
 
 // Values of this type may go to other threads.
 fn may_cross_threads<T: Send + Sync>(_value: &T) {}
-
-#[test]
-fn elements_may_cross_threads(rt: HostRuntime) -> Result<(), Fail> {
-    may_cross_threads(&Element::new(rt.alloc(), b"jabber:client", b"message")?);
-    Ok(())
-}
 
 fn set(element: &mut Element, alloc: Global, local: &[u8], value: &[u8]) -> Result<(), Fail> {
     let local = Text::of(alloc, local)?;
@@ -165,15 +153,6 @@ fn attributes_are_set_in_place(rt: HostRuntime) -> Result<(), Fail> {
     )
 }
 
-#[test]
-fn names_are_copied(rt: HostRuntime) -> Result<(), Fail> {
-    let iq = Element::new(rt.alloc(), b"jabber:client", b"iq")?;
-    let name = iq.name.copy(rt.alloc())?;
-    assert!(rt; name.space.bytes() == b"jabber:client".as_slice());
-    assert!(rt; name.local.bytes() == b"iq".as_slice());
-    Ok(())
-}
-
 // A message with an attribute and words of all that has to be escaped.
 fn message(alloc: Global) -> Result<Element, Fail> {
     let mut message = Element::new(alloc, b"jabber:client", b"message")?;
@@ -202,6 +181,7 @@ const MESSAGE: &[u8] =
 #[test]
 fn elements_are_written(rt: HostRuntime) -> Result<(), Fail> {
     let message = message(rt.alloc())?;
+    may_cross_threads(&message);
     expect_text(&rt, rt.alloc(), &message, MESSAGE)?;
     let copy = message.copy(rt.alloc())?;
     expect_text(&rt, rt.alloc(), &copy, MESSAGE)
@@ -210,7 +190,6 @@ fn elements_are_written(rt: HostRuntime) -> Result<(), Fail> {
 const DECLARED: &[u8] =
     b"<top xmlns='urn:example:&apos;' xmlns:n0='urn:example:a' xmlns:n1='urn:example:b' n0:k='1' xml:lang='en' k='2' n1:k='3'>x<body xmlns='jabber:client'/></top>";
 
-// A namespace that is not the parent's is declared, and so is one of an attribute, but for that of `xml`.
 #[test]
 fn lengths_are_compared(rt: HostRuntime) -> Result<(), Fail> {
     let words = said(rt.alloc(), b"jabber:client", b"body", b"Hi")?;
@@ -220,6 +199,7 @@ fn lengths_are_compared(rt: HostRuntime) -> Result<(), Fail> {
     Ok(())
 }
 
+// A namespace that is not the parent's is declared, and so is one of an attribute, but for that of `xml`.
 #[test]
 fn namespaces_are_declared(rt: HostRuntime) -> Result<(), Fail> {
     let mut top = Element::new(rt.alloc(), b"urn:example:'", b"top")?;
@@ -243,13 +223,12 @@ type Sent<'a> = (&'a [Spelt<'a>], &'a [u8]);
 
 fn expect_sent<R: Abort>(rt: &R, alloc: Global, sent: &Sent) -> Result<(), Fail> {
     let (attrs, want) = sent;
-    let from = b"alice@example.org/it's".as_slice();
+    let from = Text::of(alloc, b"alice@example.org/it's")?;
     let mut message = said(alloc, b"jabber:client", b"message", b"hi")?;
     message.attrs = attributes(alloc, attrs)?;
-    let mut out = Vec::new(alloc);
-    write_sent(&message, from, &mut out)?;
-    assert!(rt; out.as_slice() == *want, "{want:?}");
-    assert_eq!(rt; sent_length(&message, from), want.len() as u64);
+    let text = sent_text(alloc, &message, from.bytes())?;
+    assert!(rt; text.bytes() == *want, "{want:?}");
+    assert_eq!(rt; sent_length(&message, from.bytes()), want.len() as u64);
     Ok(())
 }
 
@@ -288,7 +267,7 @@ fn expect_frame<R: Abort>(rt: &R, alloc: Global, framed: &Framed) -> Result<(), 
     assert_eq!(rt; frame_length(to, rest.len() as u64), want.len() as u64);
     let entry = entry_of(alloc, to, rest)?;
     let mut out = Vec::with_capacity(alloc, 100)?;
-    assert!(rt; frame_length(entry.to.slice(), entry.rest.slice().len() as u64) <= 100);
+    assert!(rt; frame_length(entry.to.bytes(), entry.rest.bytes().len() as u64) <= 100);
     push_frame(&entry, &mut out);
     assert!(rt; out.as_slice() == *want);
     Ok(())
@@ -317,15 +296,7 @@ fn bytes_are_appended(rt: HostRuntime) -> Result<(), Fail> {
     let mut out = Vec::with_capacity(rt.alloc(), 100)?;
     append(b"a&'", &mut out);
     append_value(b"&'\t<", &mut out);
-    append_words(b"&'\t<\n", &mut out);
-    assert!(rt; out.as_slice() == b"a&'&amp;&apos;&#9;&lt;&amp;'\t&lt;&#10;".as_slice());
-    Ok(())
-}
-
-#[test]
-fn lists_are_kept(rt: HostRuntime) -> Result<(), Fail> {
-    let list = Several::of(Vec::from_slice(rt.alloc(), b"xyz")?);
-    assert!(rt; list.slice() == b"xyz".as_slice());
-    assert!(rt; list.into_vec().as_slice() == b"xyz".as_slice());
+    append_words(b"ab&cd<\n'ef", &mut out);
+    assert!(rt; out.as_slice() == b"a&'&amp;&apos;&#9;&lt;ab&amp;cd&lt;&#10;'ef".as_slice());
     Ok(())
 }
