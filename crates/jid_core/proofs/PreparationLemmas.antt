@@ -1,5 +1,5 @@
 -- What preparation gives is prepared, what is prepared stays as it is, and each prepared part is a prepared resource and UTF-8.
-use Rattle.std.proofs.Common.{◌≡◌, ℕ, zero, suc, ◌+◌, ◌-◌, ◌<◌, ◌≤◌, Bool, true, false, cond, not, ◌&&◌, ◌||◌, ◌==◌, nat_lt, bytes_eq, List, [], ◌∷◌, map, length, get_or, take, chars, encode_utf8_all, Option, Some, None, Ok, Err, All, IsUtf8, IsAscii, refl, sym, ap, ap₂, subst, ◌∙◌, arith}
+use Rattle.std.proofs.Common.{◌≡◌, ℕ, ◌-◌, ◌<◌, ◌≤◌, Bool, true, false, cond, not, ◌||◌, ◌==◌, nat_lt, bytes_eq, List, [], ◌∷◌, length, get_or, take, chars, encode_utf8_all, Option, Some, None, Ok, Err, IsUtf8, refl, sym, ap, subst, ◌∙◌, arith}
 use Rattle.std.proofs.Math.Utf8.{scalar}
 use Rattle.std.proofs.lemmas.Bool.{cond-true, cond-false, and_parts, and_from, and_right, not-true, not_from_false, ne_eqb, ltb-true, ltb-false, lt-ltb, le-ltb, eqb-true}
 use Rattle.std.proofs.lemmas.Bool.Decides.{nat_tests}
@@ -10,7 +10,7 @@ use Rattle.std.proofs.lemmas.Slice.Eq.{bytes_eq-Decides}
 use Rattle.std.proofs.lemmas.Str.{is_utf8-from_IsUtf8, encodes-chars, chars-encodes, scalars-chars, length-le-encodes, NoCharPasses-byte}
 use Rattle.std.specs.Char.{to_ascii_lowercase, is_ascii_uppercase}
 use Rattle.std.specs.Int.{is_in_range}
-use Rattle.std.specs.List.{list_all, slice_index, slice_split, onto_first}
+use Rattle.std.specs.List.{list_all, slice_index, onto_first}
 use Rattle.std.specs.Option.{option_or, option_and_then}
 use Rattle.std.specs.Str.{str_to_ascii_lowercase, is_utf8, all_scalars, NonePass, NoCharPasses}
 use Rattle.unicode_normalization.specs.Forms.{Nfc, nfc, is_nfc}
@@ -18,7 +18,7 @@ use Rattle.unicode_normalization.proofs.FormsLemmas.{is_in_form_from, is_in_form
 use Rattle.idna.specs.declared.deny_list.TheConstants.AsciiDenyList.{STD3}
 use Rattle.idna.specs.declared.options.Hyphens.TheVariants.{Check}
 use Rattle.idna.specs.declared.options.DnsLength.TheVariants.{Ignore}
-use Rattle.idna.specs.AsciiDenyList.{may_be_denied, denies}
+use Rattle.idna.specs.AsciiDenyList.{may_be_denied}
 use Rattle.idna.specs.Labels.{labels_of}
 use Rattle.idna.specs.Uts46.{if_passes}
 use Rattle.idna.proofs.Uts46Lemmas.{All-to_ascii, to_ascii_idem}
