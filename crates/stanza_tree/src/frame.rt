@@ -5,27 +5,14 @@ ghost use Rattle.stanza_tree.specs.declared.frame.Entry.{Entry};
 ghost use Rattle.stanza_tree.specs.Entries.{name_end, frame};
 
 use crate::measure::value_length;
+use crate::several::Several;
 use crate::spell::{value_escape, words_escape};
-use crate::text::Text;
 
-/// Why an entry is in a queue. A stay is one presence of a session in a room, and a room's order is the list of what it
-/// broadcast; both are numbered.
-#[derive(Clone, Copy, Debug, PartialEq, Eq)]
-pub enum Origin {
-    /// It is for this session alone.
-    Direct,
-    /// It tells a newcomer what the room holds, as the stay in it begins (XEP-0045, 7.2).
-    Opening { room: u64, stay: u64 },
-    /// It is the item of this number of the room's order.
-    Live { room: u64, stay: u64, number: u128 },
-}
-
-/// One stanza that is queued for a session: its address, its text without the address, and why it is there.
+/// One stanza that is queued for a session: its address, and its text without the address, each as bytes of UTF-8.
 #[derive(Drop)]
 pub struct Entry {
-    pub to: Text,
-    pub rest: Text,
-    pub origin: Origin,
+    pub to: Several<u8>,
+    pub rest: Several<u8>,
 }
 
 /// Appends bytes in room that is there. Takes no memory.
@@ -81,11 +68,11 @@ pub fn push_frame(entry: &Entry, out: &mut Vec<u8>)
     ensures frame { out.new.items ≡ out.old.items ++ frame entry.now }
     ensures capacity { vec_capacity out.old ≤ vec_capacity out.new }
 {
-    let rest = entry.rest.bytes();
+    let rest = entry.rest.slice();
     let name = name_length(rest);
     append(&rest[..name], out);
     append(b" to='", out);
-    append_value(entry.to.bytes(), out);
+    append_value(entry.to.slice(), out);
     append(b"'", out);
     append(&rest[name..], out);
 }
