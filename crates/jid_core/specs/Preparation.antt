@@ -89,15 +89,15 @@ abbrev pub unless_bad : Which → Option ℕ → List ℕ → Result (List ℕ) 
 unless_bad which None bytes = unless_long which bytes
 unless_bad which (Some place) bytes = Err (Bad which place)
 
--- a part that is not in Normalization Form C is refused at 0
+-- a text (UTF-8) that is not in Normalization Form C is refused at 0
 abbrev pub unless_nfc : List ℕ → Option ℕ
-unless_nfc bytes = if is_nfc (chars bytes) then None else Some 0
+unless_nfc bytes = if is_utf8 bytes && not (is_nfc (chars bytes)) then Some 0 else None
 
 -- RFC 7622, 3.3: the letters of ASCII are lowered, and what comes of that is in Normalization Form C
 abbrev pub local_of : List ℕ → Result (List ℕ) JidFault
 local_of [] = Err (Empty Local)
 local_of (b ∷ more) =
-    unless_bad Local (option_or (refused_at Local (b ∷ more)) (unless_nfc (str_to_ascii_lowercase (b ∷ more)))) (str_to_ascii_lowercase (b ∷ more))
+    unless_bad Local (option_or (unless_nfc (str_to_ascii_lowercase (b ∷ more))) (refused_at Local (b ∷ more))) (str_to_ascii_lowercase (b ∷ more))
 
 -- the text in Normalization Form C
 abbrev pub in_nfc : List ℕ → List ℕ

@@ -120,7 +120,7 @@ fn expect_prepared<R: Abort>(rt: &R, alloc: Global, which: Which, cases: &[Prepa
 // RFC 7622, 3.3 and 3.5. `h` and U+0331 compose to U+1E96, `H` and U+0331 to nothing, and `I` and U+0307 to U+0130.
 #[test]
 fn local_parts_are_prepared(rt: HostRuntime) {
-    let cases: [Prepared; 14] = [
+    let cases: [Prepared; 17] = [
         (b"Al.ICE-1", Ok(b"al.ice-1")),
         (b"foo\\20bar", Ok(b"foo\\20bar")),
         (b"fu\xc3\x9fball", Ok(b"fu\xc3\x9fball")),
@@ -128,7 +128,10 @@ fn local_parts_are_prepared(rt: HostRuntime) {
         (b"I\xcc\x87", Ok(b"i\xcc\x87")),
         (b"H\xcc\xb1", Err(JidFault::Bad(Which::Local, 0))),
         (b"e\xcc\x81", Err(JidFault::Bad(Which::Local, 0))),
-        (b"e\xcc\x81 ", Err(JidFault::Bad(Which::Local, 3))),
+        (b"e\xcc\x81 ", Err(JidFault::Bad(Which::Local, 0))),
+        (b" e\xcc\x81", Err(JidFault::Bad(Which::Local, 0))),
+        (b"\xc3\xa9 ", Err(JidFault::Bad(Which::Local, 2))),
+        (b"e\xcc\x81\xff", Err(JidFault::Bad(Which::Local, 3))),
         (b"ab/c", Err(JidFault::Bad(Which::Local, 2))),
         (b"a\xc2\x85", Err(JidFault::Bad(Which::Local, 1))),
         (b"\xc3\xa9\xff", Err(JidFault::Bad(Which::Local, 2))),
