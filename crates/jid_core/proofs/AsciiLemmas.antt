@@ -1,6 +1,6 @@
 -- A part in ASCII is prepared as the short rules say.
-use Rattle.std.proofs.Common.{◌≡◌, ℕ, zero, suc, ◌+◌, ◌-◌, ◌<◌, ◌≤◌, Bool, true, false, cond, not, ◌&&◌, ◌||◌, ◌==◌, List, [], ◌∷◌, map, length, get_or, chars, encode_utf8_all, Some, None, All, IsAscii, refl, sym, ap, ◌∙◌, arith}
-use Rattle.std.proofs.lemmas.Bool.{cond-true, and_parts, and_from}
+use Rattle.std.proofs.Common.{◌≡◌, ℕ, ◌-◌, ◌<◌, Bool, true, false, cond, not, ◌&&◌, ◌||◌, ◌==◌, List, [], ◌∷◌, map, length, get_or, chars, encode_utf8_all, Some, IsAscii, refl, sym, ap, ◌∙◌, arith}
+use Rattle.std.proofs.lemmas.Bool.{and_parts, and_from}
 use Rattle.std.proofs.lemmas.Bool.Decides.{nat_tests}
 use Rattle.std.proofs.Math.ListN.{get_or-map}
 use Rattle.std.proofs.lemmas.List.{length-map}
@@ -19,7 +19,7 @@ use Rattle.unicode_normalization.proofs.FormsLemmas.{is_in_form_from, normalize-
 use Rattle.idna.specs.declared.deny_list.TheConstants.AsciiDenyList.{STD3}
 use Rattle.idna.specs.declared.options.Hyphens.TheVariants.{Check}
 use Rattle.idna.specs.declared.options.DnsLength.TheVariants.{Ignore}
-use Rattle.idna.specs.AsciiDenyList.{may_be_denied, denies}
+use Rattle.idna.specs.AsciiDenyList.{may_be_denied}
 use Rattle.idna.specs.Display.{IsPlain}
 use Rattle.idna.specs.Labels.{labels_of}
 use Rattle.idna.specs.Validity.{passes_hyphens, is_valid_char}
@@ -28,7 +28,7 @@ use Rattle.idna.proofs.ValidityLemmas.{denies-STD3, is_valid_char-ascii}
 use Rattle.jid_core.specs.declared.fault.Which.{Which}
 use Rattle.jid_core.specs.declared.fault.Which.TheVariants.{Local, Resource}
 use Rattle.jid_core.specs.Preparation.{is_refused, is_fit, has_labels, ascii_form, in_nfc}
-use Rattle.jid_core.specs.AsciiParts.{is_resource_byte, is_local_byte, is_label_byte, has_stray_hyphen, is_label, are_labels}
+use Rattle.jid_core.specs.AsciiParts.{is_resource_byte, is_local_byte, is_label_byte, is_label, are_labels}
 
 -- a weaker test of each element
 pub weaker : {X : Type 0} (p q : X → Bool) → ((x : X) → p x ≡ true → q x ≡ true) → (xs : List X) → list_all p xs ≡ true → list_all q xs ≡ true

@@ -1,24 +1,24 @@
 -- What preparation gives is prepared, what is prepared stays as it is, and each prepared part is a prepared resource and UTF-8.
-use Rattle.std.proofs.Common.{◌≡◌, ℕ, zero, suc, ◌+◌, ◌-◌, ◌<◌, ◌≤◌, Bool, true, false, cond, not, ◌&&◌, ◌||◌, ◌==◌, nat_lt, bytes_eq, List, [], ◌∷◌, map, length, get_or, take, chars, encode_utf8_all, Option, Some, None, Ok, Err, All, IsUtf8, IsAscii, refl, sym, ap, ap₂, subst, ◌∙◌, arith}
+use Rattle.std.proofs.Common.{◌≡◌, ℕ, ◌-◌, ◌<◌, ◌≤◌, Bool, true, false, cond, not, ◌&&◌, ◌||◌, ◌==◌, nat_lt, bytes_eq, List, [], ◌∷◌, length, get_or, take, chars, encode_utf8_all, Option, Some, None, Ok, Err, IsUtf8, IsTrue, ◌↔◌, refl, sym, ap, subst, ◌∙◌, arith}
 use Rattle.std.proofs.Math.Utf8.{scalar}
-use Rattle.std.proofs.lemmas.Bool.{cond-true, cond-false, and_parts, and_from, and_right, not-true, not_from_false, ne_eqb, ltb-true, ltb-false, lt-ltb, le-ltb, eqb-true}
+use Rattle.std.proofs.lemmas.Bool.{cond-true, cond-false, and_parts, and_from, and_left, and_right, not-true, not_from_true, not_from_false, ne_eqb, false_from_ne_true, ltb-true, ltb-false, lt-ltb, le-ltb, eqb-true}
 use Rattle.std.proofs.lemmas.Bool.Decides.{nat_tests}
 use Rattle.std.proofs.lemmas.List.{length-map, get_or_default}
 use Rattle.std.proofs.lemmas.List.Folds.{list_all-map}
 use Rattle.std.proofs.lemmas.List.Sums.{list_all-from_AllPass}
 use Rattle.std.proofs.lemmas.Slice.Eq.{bytes_eq-Decides}
-use Rattle.std.proofs.lemmas.Str.{is_utf8-from_IsUtf8, encodes-chars, chars-encodes, scalars-chars, length-le-encodes, NoCharPasses-byte}
+use Rattle.std.proofs.lemmas.Str.{IsUtf8-from_is_utf8, is_utf8-from_IsUtf8, encodes-chars, chars-encodes, scalars-chars, length-le-encodes, NoCharPasses-byte}
 use Rattle.std.specs.Char.{to_ascii_lowercase, is_ascii_uppercase}
 use Rattle.std.specs.Int.{is_in_range}
-use Rattle.std.specs.List.{list_all, slice_index, slice_split, onto_first}
+use Rattle.std.specs.List.{list_all, slice_index, onto_first}
 use Rattle.std.specs.Option.{option_or, option_and_then}
 use Rattle.std.specs.Str.{str_to_ascii_lowercase, is_utf8, all_scalars, NonePass, NoCharPasses}
-use Rattle.unicode_normalization.specs.Forms.{Nfc, nfc, is_nfc}
+use Rattle.unicode_normalization.specs.Forms.{Nfc, IsInForm, nfc, is_nfc}
 use Rattle.unicode_normalization.proofs.FormsLemmas.{is_in_form_from, is_in_form-true, nfc_idem}
 use Rattle.idna.specs.declared.deny_list.TheConstants.AsciiDenyList.{STD3}
 use Rattle.idna.specs.declared.options.Hyphens.TheVariants.{Check}
 use Rattle.idna.specs.declared.options.DnsLength.TheVariants.{Ignore}
-use Rattle.idna.specs.AsciiDenyList.{may_be_denied, denies}
+use Rattle.idna.specs.AsciiDenyList.{may_be_denied}
 use Rattle.idna.specs.Labels.{labels_of}
 use Rattle.idna.specs.Uts46.{if_passes}
 use Rattle.idna.proofs.Uts46Lemmas.{All-to_ascii, to_ascii_idem}
@@ -65,12 +65,25 @@ or-parts : (a b : Option ℕ) → option_or a b ≡ None → (a ≡ None) × (b 
 or-parts None b h = (refl, h)
 or-parts (Some x) b h = absurd (cc)
 
-nfc-none : (bs : List ℕ) → unless_nfc bs ≡ None → is_nfc (chars bs) ≡ true
-nfc-none bs h = here (is_nfc (chars bs)) refl h
+nfc-none : (bs : List ℕ) → IsUtf8 bs → unless_nfc bs ≡ None → is_nfc (chars bs) ≡ true
+nfc-none bs text h = here (is_nfc (chars bs)) refl (sym (ap (λ u. cond {A = Option ℕ} (u && not (is_nfc (chars bs))) (Some 0) None) (is_utf8-from_IsUtf8 bs text)) ∙ h)
   where
-    here : (b : Bool) → is_nfc (chars bs) ≡ b → cond {A = Option ℕ} b None (Some 0) ≡ None → is_nfc (chars bs) ≡ true
+    here : (b : Bool) → is_nfc (chars bs) ≡ b → cond {A = Option ℕ} (not b) (Some 0) None ≡ None → is_nfc (chars bs) ≡ true
     here true e k = e
     here false e k = absurd (cc)
+
+nfc-passes : (bs : List ℕ) → is_nfc (chars bs) ≡ true → unless_nfc bs ≡ None
+nfc-passes bs normal = cond-false _ _ _ (and_right (is_utf8 bs) _ (not_from_true _ normal))
+
+-- what the look at the form told
+pub nfc_of_text : (normal : Bool) (bs : List ℕ) → IsUtf8 bs → (IsTrue normal ↔ IsInForm Nfc (chars bs)) → not normal ≡ (is_utf8 bs && not (is_nfc (chars bs)))
+nfc_of_text true bs text told = sym (and_right (is_utf8 bs) _ (not_from_true _ (is_in_form_from Nfc (chars bs) (told.0 refl))))
+nfc_of_text false bs text told =
+    sym (and_from (is_utf8 bs) _ (is_utf8-from_IsUtf8 bs text)
+    (not_from_false _ (false_from_ne_true _ (λ t. let z : false ≡ true = told.1 (is_in_form-true Nfc (chars bs) t) in absurd (cc)))))
+
+pub nfc_of_bytes : (bs : List ℕ) → ¬ IsUtf8 bs → false ≡ (is_utf8 bs && not (is_nfc (chars bs)))
+nfc_of_bytes bs none = sym (and_left (is_utf8 bs) _ (false_from_ne_true _ (λ t. none (IsUtf8-from_is_utf8 bs t))))
 
 -- ---- local parts
 
@@ -107,23 +120,24 @@ pub is_local-local_of : (bs p : List ℕ) → local_of bs ≡ Ok p → is_local 
 is_local-local_of [] p h = absurd (cc)
 is_local-local_of (b ∷ more) p h =
     let lower = str_to_ascii_lowercase (b ∷ more) in
-    let bad = bad-parts Local (option_or (refused_at Local (b ∷ more)) (unless_nfc lower)) lower p h in
-    let none = or-parts (refused_at Local (b ∷ more)) (unless_nfc lower) bad.0 in
+    let bad = bad-parts Local (option_or (unless_nfc lower) (refused_at Local (b ∷ more))) lower p h in
+    let none = or-parts (unless_nfc lower) (refused_at Local (b ∷ more)) bad.0 in
+    let fit = is_fit-from_none Local (b ∷ more) none.1 in
     let long = long-parts Local lower p bad.1 in
     subst (λ x. is_local x ≡ true) long.0
     (is_local-IsLocal lower
     (record {
       size = size-here lower (omega arith) long.1;
-      fit = fit-lowered (b ∷ more) (is_fit-from_none Local (b ∷ more) none.0);
+      fit = fit-lowered (b ∷ more) fit;
       lower = lowered-lowered (b ∷ more);
-      normal = nfc-none lower none.1;
+      normal = nfc-none lower (IsUtf8-lowered (b ∷ more) (IsUtf8-is_fit Local (b ∷ more) fit)) none.0;
     }))
 
 local-steps : (bs : List ℕ) → 0 < length bs → refused_at Local bs ≡ None → is_nfc (chars (str_to_ascii_lowercase bs)) ≡ true → local_of bs ≡ unless_long Local (str_to_ascii_lowercase bs)
 local-steps [] some none normal = absurd (omega arith)
 local-steps (b ∷ more) some none normal =
     let lower = str_to_ascii_lowercase (b ∷ more) in
-    ap (λ o. unless_bad Local o lower) (ap (λ o. option_or o (unless_nfc lower)) none ∙ cond-true _ _ _ normal)
+    ap (λ o. unless_bad Local o lower) (ap (λ o. option_or o (refused_at Local (b ∷ more))) (nfc-passes lower normal) ∙ none)
 
 pub local_stays : (p : List ℕ) → is_local p ≡ true → local_of p ≡ Ok p
 local_stays p h =

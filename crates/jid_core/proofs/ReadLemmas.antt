@@ -1,5 +1,5 @@
 -- What a prepared address is written as reads as that address.
-use Rattle.std.proofs.Common.{◌≡◌, ℕ, ◌<◌, Bool, true, false, cond, not, ◌&&◌, ◌==◌, List, [], ◌∷◌, ◌++◌, Option, Some, None, Ok, Result, refl, sym, ap, ◌∙◌, arith, append_assoc, append-nil}
+use Rattle.std.proofs.Common.{◌≡◌, ℕ, Bool, true, not, ◌==◌, List, [], ◌∷◌, ◌++◌, Option, Some, None, Ok, Result, refl, ap, ◌∙◌, arith, append_assoc, append-nil}
 use Rattle.std.proofs.lemmas.Bool.{cond-true, cond-false, and_parts, and_from, not-true, eq-eqb}
 use Rattle.std.proofs.lemmas.Bool.Decides.{nat_tests}
 use Rattle.std.proofs.lemmas.List.Folds.{list_all-append}
@@ -7,11 +7,11 @@ use Rattle.std.specs.List.{list_all}
 use Rattle.std.specs.Option.{option_map, unwrap_or}
 use Rattle.jid_core.specs.Cuts.{before, after}
 use Rattle.jid_core.specs.declared.fault.JidFault.{JidFault}
-use Rattle.jid_core.specs.Preparation.{is_local, is_domain, is_resource, local_of, domain_of, resource_of}
+use Rattle.jid_core.specs.Preparation.{is_local, is_resource, local_of, domain_of, resource_of}
 use Rattle.jid_core.specs.Addresses.{Address, passes, is_prepared, local_text, resource_text, address_text, local_in, domain_in, some_of, part_of, joined, address_of}
 use Rattle.jid_core.proofs.AsciiLemmas.{weaker}
 use Rattle.jid_core.proofs.PreparationLemmas.{is_name_byte, domain-bytes, local_lacks, local_stays, domain_stays, resource_stays}
-use Rattle.jid_core.proofs.AddressLemmas.{IsPrepared, IsPrepared-is_prepared}
+use Rattle.jid_core.proofs.AddressLemmas.{IsPrepared-is_prepared}
 
 -- the byte is not among them
 abbrev pub lacks : ℕ → List ℕ → Bool

@@ -28,7 +28,7 @@ abbrev pub is_refused : Which → ℕ → Bool
 is_refused Local c = is_control c || is_excluded c
 is_refused _ c = is_control c
 
--- how many bytes the characters before the first refused one have
+-- how many bytes the characters before the first refused one have in UTF-8
 abbrev pub fit_len : (ℕ → Bool) → List ℕ → ℕ
 fit_len refused [] = 0
 fit_len refused (c ∷ cs) = if refused c then 0 else len_utf8 c + fit_len refused cs
@@ -37,10 +37,11 @@ fit_len refused (c ∷ cs) = if refused c then 0 else len_utf8 c + fit_len refus
 abbrev pub front_chars : List ℕ → List ℕ
 front_chars bytes = chars (take (utf8_valid_len bytes) bytes)
 
--- the place of the first byte that begins no character that the part may have
+-- the place, unless it is where the bytes end
 abbrev pub unless_all : ℕ → List ℕ → Option ℕ
 unless_all place bytes = if place == length bytes then None else Some place
 
+-- the place of the first byte that begins no character that the part may have
 abbrev pub refused_at : Which → List ℕ → Option ℕ
 refused_at which bytes = unless_all (fit_len (is_refused which) (front_chars bytes)) bytes
 
@@ -88,34 +89,39 @@ abbrev pub unless_bad : Which → Option ℕ → List ℕ → Result (List ℕ) 
 unless_bad which None bytes = unless_long which bytes
 unless_bad which (Some place) bytes = Err (Bad which place)
 
--- RFC 7622, 3.3: once the letters of ASCII are lowered the part is in Normalization Form C, or it is refused as a whole
+-- a text (UTF-8) that is not in Normalization Form C is refused at 0
 abbrev pub unless_nfc : List ℕ → Option ℕ
-unless_nfc bytes = if is_nfc (chars bytes) then None else Some 0
+unless_nfc bytes = if is_utf8 bytes && not (is_nfc (chars bytes)) then Some 0 else None
 
+-- RFC 7622, 3.3: the letters of ASCII are lowered, and what comes of that is in Normalization Form C
 abbrev pub local_of : List ℕ → Result (List ℕ) JidFault
 local_of [] = Err (Empty Local)
 local_of (b ∷ more) =
-    unless_bad Local (option_or (refused_at Local (b ∷ more)) (unless_nfc (str_to_ascii_lowercase (b ∷ more)))) (str_to_ascii_lowercase (b ∷ more))
+    unless_bad Local (option_or (unless_nfc (str_to_ascii_lowercase (b ∷ more))) (refused_at Local (b ∷ more))) (str_to_ascii_lowercase (b ∷ more))
 
--- RFC 7622, 3.4: the part is brought to Normalization Form C
+-- the text in Normalization Form C
 abbrev pub in_nfc : List ℕ → List ℕ
 in_nfc bytes = encode_utf8_all (nfc (chars bytes))
 
+-- RFC 7622, 3.4: the part is brought to Normalization Form C
 abbrev pub resource_of : List ℕ → Result (List ℕ) JidFault
 resource_of [] = Err (Empty Resource)
 resource_of (b ∷ more) = unless_bad Resource (refused_at Resource (b ∷ more)) (in_nfc (b ∷ more))
 
--- RFC 7622, 3.2: one final dot goes, and ToASCII gives labels, or the domain is refused as a whole
+-- RFC 7622, 3.2: a final dot as it was given, U+002E, is no part of the domain
 abbrev pub without_final_dot : List ℕ → List ℕ
 without_final_dot bytes = if slice_index bytes (length bytes - 1) == 46 then take (length bytes - 1) bytes else bytes
 
+-- what ToASCII gives, where that is labels
 abbrev pub in_labels : List ℕ → Option (List ℕ)
 in_labels name = option_and_then (if_passes has_labels) (ascii_form name)
 
+-- a name that is none is refused as a whole
 abbrev pub unless_none : Option (List ℕ) → Result (List ℕ) JidFault
 unless_none None = Err (Bad Domain 0)
 unless_none (Some name) = unless_long Domain name
 
+-- RFC 7622, 3.2.1: internationalized labels are prepared by ToASCII
 abbrev pub domain_of : List ℕ → Result (List ℕ) JidFault
 domain_of [] = Err (Empty Domain)
 domain_of (b ∷ more) = unless_none (in_labels (without_final_dot (b ∷ more)))

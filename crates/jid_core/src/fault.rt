@@ -21,7 +21,8 @@ pub enum JidFault {
     Empty(Which),
     /// The prepared part has more than 1,023 bytes.
     Long(Which),
-    /// The byte at this place of the part is not allowed there. A domain is refused as a whole, at 0.
+    /// The byte at this place of the part is not allowed there. A domain is refused as a whole, at 0, and so is a local part that is not
+    /// in Normalization Form C.
     Bad(Which, usize),
 }
 

@@ -1,15 +1,18 @@
 //! The preparation of the parts of an address (RFC 7622, section 3).
-ghost use Rattle.std.specs.Prelude.{◌≡◌, ◌<◌, Ok, length, string_bytes, IfOk, IfErr, OnOk};
+ghost use Rattle.std.specs.Prelude.{◌≡◌, ◌<◌, not, ◌&&◌, Ok, length, chars, string_bytes, IfOk, IfErr, OnOk};
+ghost use Rattle.std.specs.Str.{is_utf8};
+ghost use Rattle.unicode_normalization.specs.Forms.{is_nfc};
 ghost use Rattle.idna.specs.Errors.{Gives};
 ghost use Rattle.jid_core.specs.declared.fault.JidFault.TheVariants.{Long};
 ghost use Rattle.jid_core.specs.Preparation.{local_of, resource_of, domain_of, unless_none, without_final_dot, has_labels, ascii_form, in_labels, IsCause};
 
 use crate::ascii::{are_labels, is_plain_local, is_plain_resource, lowered};
-use crate::fault::{JidFault, Which};
+use crate::fault::{JidFault, NoMemory, Which};
 use crate::refuse::fit_text;
 use idna::uts46::{DnsLength, Hyphens, Uts46};
 use idna::{AsciiDenyList, Errors};
 use std::alloc::Global;
+use std::str;
 use unicode_normalization::{is_nfc, to_nfc};
 
 /// The most bytes that a prepared part has (RFC 7622, 3.2 to 3.4).
@@ -42,21 +45,31 @@ pub(crate) fn prepared_local(alloc: Global, bytes: &[u8]) -> Result<Vec<u8>, Jid
     Ok(lowered(alloc, bytes)?)
 }
 
+/// Whether the bytes are in Normalization Form C, where they are UTF-8; other bytes pass.
+#[tactic(auto, using(crate::proofs::PreparationLemmas::nfc_of_text, crate::proofs::PreparationLemmas::nfc_of_bytes))]
+fn is_normal(alloc: Global, bytes: &[u8]) -> Result<bool, NoMemory>
+    ensures { IfOk result (λ normal. not normal ≡ (is_utf8 bytes.now && not (is_nfc (chars bytes.now)))) }
+{
+    match str::from_utf8(bytes) {
+        Ok(text) => Ok(is_nfc(alloc, text)?),
+        Err(_) => Ok(true),
+    }
+}
+
 fn local_in_unicode(alloc: Global, bytes: &[u8]) -> Result<Vec<u8>, JidFault>
     requires { 0 < length bytes.now }
     ensures ok { IfOk result (λ p. local_of bytes.now ≡ Ok p.items) }
     ensures fault { IfErr result (IsCause (local_of bytes.now)) }
 {
+    let lower = lowered(alloc, bytes)?;
+    if !is_normal(alloc, lower.as_slice())? {
+        return Err(JidFault::Bad(Which::Local, 0));
+    }
     match fit_text(Which::Local, bytes) {
         Err(place) => Err(JidFault::Bad(Which::Local, place)),
-        Ok(text) => {
-            let mut text = String::from_str(alloc, text)?;
-            text.make_ascii_lowercase();
-            if !is_nfc(alloc, text.as_str())? {
-                return Err(JidFault::Bad(Which::Local, 0));
-            }
-            has_size(Which::Local, text.as_bytes())?;
-            Ok(text.into_bytes())
+        Ok(_) => {
+            has_size(Which::Local, lower.as_slice())?;
+            Ok(lower)
         }
     }
 }

@@ -10,7 +10,8 @@ fn is_refused(which: Which, c: char) -> bool
     ensures { result ≡ is_refused which c }
 {
     c.is_control()
-        || (which == Which::Local && matches!(c, ' ' | '"' | '&' | '\'' | '/' | ':' | '<' | '>' | '@'))
+        || (which == Which::Local
+            && matches!(c, ' ' | '"' | '&' | '\'' | '/' | ':' | '<' | '>' | '@'))
 }
 
 /// How many bytes come before the first refused character.
@@ -45,5 +46,9 @@ pub(crate) fn fit_text(which: Which, bytes: &[u8]) -> Result<&str, usize>
 {
     let text = front(bytes);
     let len = fit_len(which, text);
-    if len == bytes.len() { Ok(text) } else { Err(len) }
+    if len == bytes.len() {
+        Ok(text)
+    } else {
+        Err(len)
+    }
 }

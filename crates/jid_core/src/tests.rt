@@ -120,7 +120,7 @@ fn expect_prepared<R: Abort>(rt: &R, alloc: Global, which: Which, cases: &[Prepa
 // RFC 7622, 3.3 and 3.5. `h` and U+0331 compose to U+1E96, `H` and U+0331 to nothing, and `I` and U+0307 to U+0130.
 #[test]
 fn local_parts_are_prepared(rt: HostRuntime) {
-    let cases: [Prepared; 14] = [
+    let cases: [Prepared; 17] = [
         (b"Al.ICE-1", Ok(b"al.ice-1")),
         (b"foo\\20bar", Ok(b"foo\\20bar")),
         (b"fu\xc3\x9fball", Ok(b"fu\xc3\x9fball")),
@@ -128,7 +128,10 @@ fn local_parts_are_prepared(rt: HostRuntime) {
         (b"I\xcc\x87", Ok(b"i\xcc\x87")),
         (b"H\xcc\xb1", Err(JidFault::Bad(Which::Local, 0))),
         (b"e\xcc\x81", Err(JidFault::Bad(Which::Local, 0))),
-        (b"e\xcc\x81 ", Err(JidFault::Bad(Which::Local, 3))),
+        (b"e\xcc\x81 ", Err(JidFault::Bad(Which::Local, 0))),
+        (b" e\xcc\x81", Err(JidFault::Bad(Which::Local, 0))),
+        (b"\xc3\xa9 ", Err(JidFault::Bad(Which::Local, 2))),
+        (b"e\xcc\x81\xff", Err(JidFault::Bad(Which::Local, 3))),
         (b"ab/c", Err(JidFault::Bad(Which::Local, 2))),
         (b"a\xc2\x85", Err(JidFault::Bad(Which::Local, 1))),
         (b"\xc3\xa9\xff", Err(JidFault::Bad(Which::Local, 2))),
@@ -180,37 +183,67 @@ fn domains_are_prepared(rt: HostRuntime) {
     expect_prepared(&rt, rt.alloc(), Which::Domain, &cases);
 }
 
-// Each place has the byte of this index, in turn.
-fn repeated(bytes: [u8; 3]) -> [u8; 1536] {
+// The fault of a part of so many bytes, which are these three in turn.
+fn fault_of(alloc: Global, which: Which, bytes: [u8; 3], count: usize) -> Option<JidFault> {
     let mut all = [0; 1536];
     for i in 0..1536usize {
         all[i] = bytes[i % 3];
     }
-    all
+    prepare(alloc, which, &all[..count.min(1536)]).err()
 }
 
-// How long a part may be: at most 1,023 bytes once it is prepared, which `e` and U+0301 fall short of, and U+0958 exceeds.
+// At most 1,023 bytes once the part is prepared: `e` and U+0301 become shorter, and U+0958 becomes longer (UAX 15, composition exclusions).
 #[test]
 fn parts_have_a_greatest_length(rt: HostRuntime) {
-    let plain = repeated(*b"aaa");
-    let shrinks = repeated(*b"e\xcc\x81");
-    let grows = repeated(*b"\xe0\xa5\x98");
-    let names = repeated(*b"aa.");
-    let cases: [(Which, &[u8], Option<JidFault>); 11] = [
-        (Which::Local, &plain[..1023], None),
-        (Which::Local, &plain[..1024], Some(JidFault::Long(Which::Local))),
-        (Which::Resource, &plain[..1023], None),
-        (Which::Resource, &plain[..1024], Some(JidFault::Long(Which::Resource))),
-        (Which::Resource, &shrinks[..1533], None),
-        (Which::Resource, &shrinks, Some(JidFault::Long(Which::Resource))),
-        (Which::Resource, &grows[..600], Some(JidFault::Long(Which::Resource))),
-        (Which::Domain, &plain[..63], None),
-        (Which::Domain, &plain[..64], Some(JidFault::Bad(Which::Domain, 0))),
-        (Which::Domain, &names[1..1024], None),
-        (Which::Domain, &names[..1024], Some(JidFault::Long(Which::Domain))),
+    let cases: [(Which, [u8; 3], usize, Option<JidFault>); 11] = [
+        (Which::Local, *b"aaa", 1023, None),
+        (
+            Which::Local,
+            *b"aaa",
+            1024,
+            Some(JidFault::Long(Which::Local)),
+        ),
+        (Which::Resource, *b"aaa", 1023, None),
+        (
+            Which::Resource,
+            *b"aaa",
+            1024,
+            Some(JidFault::Long(Which::Resource)),
+        ),
+        (Which::Resource, *b"e\xcc\x81", 1533, None),
+        (
+            Which::Resource,
+            *b"e\xcc\x81",
+            1536,
+            Some(JidFault::Long(Which::Resource)),
+        ),
+        (
+            Which::Resource,
+            *b"\xe0\xa5\x98",
+            600,
+            Some(JidFault::Long(Which::Resource)),
+        ),
+        (Which::Domain, *b"aaa", 63, None),
+        (
+            Which::Domain,
+            *b"aaa",
+            64,
+            Some(JidFault::Bad(Which::Domain, 0)),
+        ),
+        (Which::Domain, *b"a.a", 1023, None),
+        (
+            Which::Domain,
+            *b"a.a",
+            1024,
+            Some(JidFault::Long(Which::Domain)),
+        ),
     ];
-    for (i, (which, bytes, want)) in cases.iter().enumerate() {
-        assert_eq!(rt; prepare(rt.alloc(), *which, bytes).err(), *want, "case {i}");
+    for (i, (which, bytes, count, want)) in cases.iter().enumerate() {
+        assert_eq!(rt;
+            fault_of(rt.alloc(), *which, *bytes, *count),
+            *want,
+            "case {i}"
+        );
     }
 }
 
