@@ -1,0 +1,4 @@
+pub mod FirstLemmas
+pub mod IndexLemmas
+pub mod ListLemmas
+pub mod NumberLemmas

@@ -1,0 +1,20 @@
+//! The table of a server's connections and sessions: lines and sessions by number, sessions by address,
+//! and the sessions that are to be taken away.
+//!
+//! Only `Table::new` and `Table::reserve` take memory.
+#![tactic(auto)]
+
+mod index;
+pub mod laws;
+mod life;
+mod line;
+mod search;
+mod session;
+mod table;
+#[cfg(test)]
+mod tests;
+
+pub use life::Life;
+pub use line::Line;
+pub use session::Session;
+pub use table::Table;

@@ -1,0 +1,217 @@
+//! A session, as the table keeps it.
+
+ghost use Rattle.std.specs.Prelude.{◌≡◌, ◌||◌, ◌==◌, Some, is_some, unwrap_or, nat_eq, []};
+ghost use Rattle.std.specs.Hash.DefaultHasher as sip;
+ghost use Rattle.jid_core.specs.Addresses.{same_address};
+ghost use Rattle.session_table.specs.Hashes.{address_hash};
+
+use crate::index::Known;
+use crate::life::Life;
+use jid_core::{Jid, Part};
+use sm_queue::SmQueue;
+use sm_resume::{Cause, ResumeId};
+use stanza_tree::{Several, Text};
+use std::alloc::Global;
+use std::hash::{DefaultHasher, Hasher};
+use std::marker::Model;
+
+/// A session, which a binding makes (RFC 6120, 7). The table sees to its number, address, holder, state
+/// and deadline; the rest is its owner's.
+#[derive(Drop)]
+pub struct Session {
+    number: u64,
+    address: Jid,
+    // The address's hash.
+    hash: u64,
+    holder: Option<u32>,
+    state: Life,
+    deadline: Option<u64>,
+    /// The stanzas that wait for its client.
+    pub queue: SmQueue,
+    /// The place of the queue's first stanza in the list of all stanzas of the session.
+    pub given_up: u64,
+    /// The place in that list up to which an acknowledgement was asked for.
+    pub asked_at: u64,
+    /// Whether stream management is enabled (XEP-0198, 3).
+    pub counts: bool,
+    /// The id by which it is resumed, where the client asked for one.
+    pub resume_id: Option<ResumeId>,
+    /// How many of the client's stanzas were acted on.
+    pub acted: u64,
+    /// How many of these came before stream management was enabled.
+    pub base_in: u64,
+    /// The stanza of its presence, while it is available (RFC 6121, 4).
+    pub presence: Option<Text>,
+    /// The priority in that presence (RFC 6121, 4.7.2.3).
+    pub priority: i16,
+    /// To whom it sent directed presence (RFC 6121, 4.6).
+    pub directed: Several<Jid>,
+    /// Whether it asked for its roster, so that changes are pushed to it (RFC 6121, 2.1.6).
+    pub wants_roster: bool,
+    /// How many pushes were queued for it.
+    pub pushes: u64,
+}
+
+impl Model for Session {
+    ghost use Rattle.std.specs.Prelude.{◌≡◌};
+    ghost use Rattle.session_table.specs.Hashes.{address_hash};
+    ghost use Rattle.session_table.specs.Sessions.{SessionRecord};
+
+    ghost Value = { SessionRecord };
+
+    ghost view = { λ s. record { number = s.number; address = s.address; holder = s.holder; state = s.state; deadline = s.deadline; queue = s.queue; given_up = s.given_up; asked_at = s.asked_at; counts = s.counts; resume_id = s.resume_id; acted = s.acted; base_in = s.base_in; presence = s.presence; priority = s.priority; directed = s.directed; wants_roster = s.wants_roster; pushes = s.pushes } };
+
+    ghost invariant = { λ s. s.hash ≡ address_hash s.address };
+}
+
+/// What the table changes of a session.
+#[derive(Clone, Copy, Debug, PartialEq, Eq)]
+pub(crate) enum Change {
+    /// This line holds it.
+    Held(u32),
+    /// No line holds it, and it can be resumed until this moment.
+    Left(u64),
+    /// It has ended.
+    Ended(Cause),
+}
+
+// The bytes of a part that may be absent.
+fn bytes_of(part: &Option<Part>) -> &[u8]
+    ensures { result.now ≡ unwrap_or part.now [] }
+{
+    match part {
+        Some(part) => part.bytes(),
+        None => &[],
+    }
+}
+
+/// The hash of an address's parts.
+#[tactic(auto, unfolding(crate::specs::Hashes::address_hash))]
+pub(crate) fn hash_of(address: &Jid) -> u64
+    ensures { result ≡ address_hash address.now }
+{
+    let mut hasher = DefaultHasher::new();
+    hasher.write(bytes_of(&address.local));
+    hasher.write(b"/");
+    hasher.write(address.domain.bytes());
+    hasher.write(b"/");
+    hasher.write(bytes_of(&address.resource));
+    hasher.finish()
+}
+
+impl Session {
+    ghost use Rattle.session_table.specs.Changes.{change_of};
+    ghost use Rattle.session_table.specs.Sessions.{begun, is_due};
+    ghost use Rattle.session_table.specs.Indexes.{known_of};
+
+    /// The session of this number that line w has bound.
+    pub(crate) fn begin(alloc: Global, number: u64, address: Jid, w: u32) -> Session
+        ensures { result ≡ begun number address w }
+    {
+        Session {
+            number,
+            hash: hash_of(&address),
+            address,
+            holder: Some(w),
+            state: Life::Live,
+            deadline: None,
+            queue: SmQueue::new(alloc),
+            given_up: 0,
+            asked_at: 0,
+            counts: false,
+            resume_id: None,
+            acted: 0,
+            base_in: 0,
+            presence: None,
+            priority: 0,
+            directed: Several::of(Vec::new(alloc)),
+            wants_roster: false,
+            pushes: 0,
+        }
+    }
+
+    /// Its number.
+    pub fn number(&self) -> u64
+        ensures { result ≡ self.now.number }
+    {
+        self.number
+    }
+
+    /// Its full address.
+    pub fn address(&self) -> &Jid
+        ensures { result.now ≡ self.now.address }
+    {
+        &self.address
+    }
+
+    /// The line that holds it.
+    pub fn holder(&self) -> Option<u32>
+        ensures { result ≡ self.now.holder }
+    {
+        self.holder
+    }
+
+    /// Whether it has ended, and why.
+    pub fn state(&self) -> Life
+        ensures { result ≡ self.now.state }
+    {
+        self.state
+    }
+
+    /// The moment until which it can be resumed, in milliseconds since 1970, where no line holds it.
+    pub fn deadline(&self) -> Option<u64>
+        ensures { result ≡ self.now.deadline }
+    {
+        self.deadline
+    }
+
+    pub(crate) fn is_at(&self, address: &Jid) -> bool
+        ensures { result ≡ same_address self.now.address address.now }
+    {
+        self.address.is_same(address)
+    }
+
+    pub(crate) fn is_due(&self, now: u64) -> bool
+        ensures { result ≡ is_due now self.now }
+    {
+        match self.state {
+            Life::Live => self.deadline.is_some_and(|deadline| deadline <= now),
+            Life::Over(_) => true,
+        }
+    }
+
+    /// What the table knows of it under this number.
+    pub(crate) fn known(&self, number: u64) -> Known
+        ensures { result ≡ known_of number self.now }
+    {
+        let wake = match self.state {
+            Life::Live => self.deadline,
+            Life::Over(_) => Some(0),
+        };
+        Known {
+            number,
+            hash: self.hash,
+            wake,
+        }
+    }
+
+    pub(crate) fn change(&mut self, change: Change)
+        ensures { self.new ≡ change_of change self.old }
+    {
+        match change {
+            Change::Held(w) => {
+                self.holder = Some(w);
+                self.deadline = None;
+            }
+            Change::Left(deadline) => {
+                self.holder = None;
+                self.deadline = Some(deadline);
+            }
+            Change::Ended(cause) => {
+                self.state = Life::Over(cause);
+                self.holder = None;
+                self.deadline = None;
+            }
+        }
+    }
+}
