@@ -64,7 +64,7 @@ body-proper words xml some =
       tt,
       tt,
       subst (λ (x : Node-F Node Element). IsJoined false x (λ a. AreJoined a [])) (sym (out-roll-Node (Words words))) (refl, xml, some, tt),
-      (subst IsProperNode (sym (out-roll-Node (Words words))) tt, tt)
+      (subst IsProperNode (sym (out-roll-Node (Words words))) tt, tt),
     )
 
 distinct : (address : List ℕ) → IsDistinct same_name (plain_attr (codes "to") address ∷ plain_attr (codes "type") (codes "headline") ∷ [])
@@ -77,11 +77,11 @@ notice-proper address words to xml some =
       (ascii-name (codes "message") refl, client-text, refl, refl),
       (
         (ascii-name (codes "to") refl, ascii-text [] refl, to, refl, refl),
-        ((ascii-name (codes "type") refl, ascii-text [] refl, ascii-text (codes "headline") refl, refl, refl), tt)
+        ((ascii-name (codes "type") refl, ascii-text [] refl, ascii-text (codes "headline") refl, refl, refl), tt),
       ),
       distinct address,
       subst (λ (x : Node-F Node Element). IsJoined false x (λ a. AreJoined a [])) (sym (out-roll-Node (Child (body_of words)))) tt,
-      (subst IsProperNode (sym (out-roll-Node (Child (body_of words)))) (body-proper words xml some), tt)
+      (subst IsProperNode (sym (out-roll-Node (Child (body_of words)))) (body-proper words xml some), tt),
     )
 
 some-words : (words : List ℕ) → 0 < length words → bytes_eq words [] ≡ false

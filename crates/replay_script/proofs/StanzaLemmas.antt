@@ -114,4 +114,3 @@ element_proper (b ∷ bs) e begins h =
 -- what a proper element is that is not too large
 pub stanza_fits : (e : Element) (st : Stanza) → IsProper e → length (text e) ≤ 196608 → stanza_of e ≡ Some st → StanzaFits st
 stanza_fits e st proper small read = inl (record { element = e; proper = proper; small = small; read = read })
-

@@ -6,8 +6,8 @@ ghost use Rattle.replay_script.specs.Readings.{Gives};
 
 use crate::fault::LineFault;
 use crate::fields::{is_token, is_xml};
-use stanza_model::{MessageForm, Stanza};
 use jid_core::Jid;
+use stanza_model::{MessageForm, Stanza};
 use stanza_tree::{Attr, Element, Name, NoMemory, Node, Several, Text, TextFault, length};
 use std::alloc::Global;
 

@@ -16,5 +16,8 @@ returns-clause-fits c =
     let xml : is_xml c.args.words.now ≡ true = grind (arith, c.is_xml.ensures, c.if-not-is_xml.false) in
     let some : 0 < length c.args.words.now = grind (arith, c.is_empty.ensures, c.if-is_empty.false) in
     let small : length (text c.in_ok-element.element) ≤ 196608 = grind (arith, c.length.ensures, c.if-length-gt-MOST_STANZA.false) in
-    search (rules, subst (λ (e : Element). StanzaFits (Message (Some c.in_ok-to.to) Headline e)) (sym same)
-    (notice_fits c.args.address.now c.args.words.now c.in_ok-to.to token xml some c.in_ok-to.ensures.ok (subst (λ (e : Element). length (text e) ≤ 196608) same small)))
+    search (
+      rules,
+      subst (λ (e : Element). StanzaFits (Message (Some c.in_ok-to.to) Headline e)) (sym same)
+          (notice_fits c.args.address.now c.args.words.now c.in_ok-to.to token xml some c.in_ok-to.ensures.ok (subst (λ (e : Element). length (text e) ≤ 196608) same small)),
+    )
