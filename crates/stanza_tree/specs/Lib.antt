@@ -1,4 +1,5 @@
 pub mod formers
+pub mod Appending
 pub mod Attributes
 pub mod Children
 pub mod Entries

@@ -5,14 +5,30 @@ ghost use Rattle.stanza_tree.specs.declared.frame.Entry.{Entry};
 ghost use Rattle.stanza_tree.specs.Entries.{name_end, frame};
 
 use crate::measure::value_length;
-use crate::several::Several;
-use crate::spell::{value_escape, words_escape};
+use crate::spell::{
+    are_plain_in_value, are_plain_in_words, is_plain_in_value, is_plain_in_words, value_escape,
+    words_escape,
+};
+use crate::text::Text;
 
-/// One stanza that is queued for a session: its address, and its text without the address, each as bytes of UTF-8.
+/// Why an entry is in a queue. A stay is one presence of a session in a room, and a room's order is the list of what it
+/// broadcast; both are numbered.
+#[derive(Clone, Copy, Debug, PartialEq, Eq)]
+pub enum Origin {
+    /// It is for this session alone.
+    Direct,
+    /// It tells a newcomer what the room holds, as the stay in it begins (XEP-0045, 7.2).
+    Opening { room: u64, stay: u64 },
+    /// It is the item of this number of the room's order.
+    Live { room: u64, stay: u64, number: u128 },
+}
+
+/// One stanza that is queued for a session: its address, its text without the address, and why it is there.
 #[derive(Drop)]
 pub struct Entry {
-    pub to: Several<u8>,
-    pub rest: Several<u8>,
+    pub to: Text,
+    pub rest: Text,
+    pub origin: Origin,
 }
 
 /// Appends bytes in room that is there. Takes no memory.
@@ -33,9 +49,20 @@ pub fn append_value(bytes: &[u8], out: &mut Vec<u8>)
     ensures bytes { out.new.items ≡ out.old.items ++ value_text bytes.now }
     ensures capacity { vec_capacity out.old ≤ vec_capacity out.new }
 {
-    for byte in bytes {
-        append(value_escape(byte), out);
+    if are_plain_in_value(bytes) {
+        append(bytes, out);
+        return;
     }
+    let mut from = 0;
+    for (i, byte) in bytes.iter().enumerate() {
+        if is_plain_in_value(*byte) {
+            continue;
+        }
+        append(&bytes[from..i], out);
+        append(value_escape(byte), out);
+        from = i + 1;
+    }
+    append(&bytes[from..], out);
 }
 
 /// Appends bytes as they stand in words. There is room for it.
@@ -44,9 +71,20 @@ pub fn append_words(bytes: &[u8], out: &mut Vec<u8>)
     ensures bytes { out.new.items ≡ out.old.items ++ words_text bytes.now }
     ensures capacity { vec_capacity out.old ≤ vec_capacity out.new }
 {
-    for byte in bytes {
-        append(words_escape(byte), out);
+    if are_plain_in_words(bytes) {
+        append(bytes, out);
+        return;
     }
+    let mut from = 0;
+    for (i, byte) in bytes.iter().enumerate() {
+        if is_plain_in_words(*byte) {
+            continue;
+        }
+        append(&bytes[from..i], out);
+        append(words_escape(byte), out);
+        from = i + 1;
+    }
+    append(&bytes[from..], out);
 }
 
 /// The length of `<` and the name at the front of a text: up to the first space, `/` or `>`.
@@ -68,11 +106,11 @@ pub fn push_frame(entry: &Entry, out: &mut Vec<u8>)
     ensures frame { out.new.items ≡ out.old.items ++ frame entry.now }
     ensures capacity { vec_capacity out.old ≤ vec_capacity out.new }
 {
-    let rest = entry.rest.slice();
+    let rest = entry.rest.bytes();
     let name = name_length(rest);
     append(&rest[..name], out);
     append(b" to='", out);
-    append_value(entry.to.slice(), out);
+    append_value(entry.to.bytes(), out);
     append(b"'", out);
     append(&rest[name..], out);
 }

@@ -14,7 +14,7 @@ pub mod stamp;
 mod tests;
 pub mod text;
 
-pub use frame::{Entry, append, append_value, append_words, frame_length, push_frame};
+pub use frame::{Entry, Origin, append, append_value, append_words, frame_length, push_frame};
 pub use measure::{is_longer, length};
 pub use node::{Attr, Element, Name, Node};
 pub use several::Several;

@@ -4,11 +4,16 @@ ghost use Rattle.std.specs.Fmt.{decimal};
 ghost use Rattle.stanza_tree.specs.Spelling.{words_text, value_text, assigned, declaration, declarations, prefixed, unprefixed, attributes, named, opened, closed, text_under, texts_under, text};
 
 use crate::node::{Attr, Element, Name, Node};
-use crate::spell::{CLIENT_SPACE, is_foreign, value_escape, words_escape};
+use crate::spell::{
+    CLIENT_SPACE, are_plain_in_value, are_plain_in_words, is_foreign, value_escape, words_escape,
+};
 
 fn words_length(bytes: &[u8]) -> u64
     ensures { result ≡ min (list_length (words_text bytes.now)) (2 ^ 64 - 1) }
 {
+    if are_plain_in_words(bytes) {
+        return bytes.len() as u64;
+    }
     let mut sum = 0u64;
     for byte in bytes {
         sum = sum.saturating_add(words_escape(byte).len() as u64);
@@ -19,6 +24,9 @@ fn words_length(bytes: &[u8]) -> u64
 pub(crate) fn value_length(bytes: &[u8]) -> u64
     ensures { result ≡ min (list_length (value_text bytes.now)) (2 ^ 64 - 1) }
 {
+    if are_plain_in_value(bytes) {
+        return bytes.len() as u64;
+    }
     let mut sum = 0u64;
     for byte in bytes {
         sum = sum.saturating_add(value_escape(byte).len() as u64);

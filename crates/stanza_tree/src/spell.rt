@@ -1,5 +1,6 @@
 //! Writes the canonical spelling of an element.
-ghost use Rattle.std.specs.Prelude.{◌≡◌, ◌++◌, ℕ, length, OnOk, OnErr};
+ghost use Rattle.std.specs.Prelude.{◌≡◌, ◌++◌, ◌∷◌, [], ◌↔◌, ℕ, List, length, nat_lt, codes, IsTrue, OnOk, OnErr};
+ghost use Rattle.stanza_tree.specs.Appending.{Keeps};
 ghost use Rattle.std.specs.Fmt.{decimal};
 ghost use Rattle.stanza_tree.specs.Spelling.{escaped_in_words, escaped_in_value, words_text, value_text, assigned, needs_prefix, declaration, declarations, prefixed, unprefixed, attributes, named, opened, closed, text_under, texts_under, text};
 
@@ -40,26 +41,86 @@ pub(crate) fn value_escape(byte: &u8) -> &[u8]
     }
 }
 
-fn push_words(bytes: &[u8], out: &mut Vec<u8>) -> Result<(), NoMemory>
-    ensures { OnOk result (out.new.items ≡ out.old.items ++ words_text bytes.now) }
+/// Whether a byte stands for itself in words.
+#[tactic(auto, unfolding(crate::specs::Spelling::escaped_in_words))]
+pub(crate) fn is_plain_in_words(byte: u8) -> bool
+    ensures { IsTrue result ↔ escaped_in_words byte ≡ byte ∷ [] }
 {
+    // Without branches, so that a test of many bytes looks at several at a time.
+    (byte != b'&') & (byte != b'<') & (byte != b'>') & (byte != b'\n') & (byte != b'\r')
+}
+
+/// Whether all bytes stand for themselves in words.
+pub(crate) fn are_plain_in_words(bytes: &[u8]) -> bool
+    ensures { IsTrue result → words_text bytes.now ≡ bytes.now }
+{
+    let mut escapes = 0u8;
     for byte in bytes {
-        out.extend_from_slice(words_escape(byte))?;
+        escapes = escapes.max(!is_plain_in_words(*byte) as u8);
     }
-    Ok(())
+    escapes == 0
+}
+
+fn push_words(bytes: &[u8], out: &mut Vec<u8>) -> Result<(), NoMemory>
+    ensures ok { OnOk result (out.new.items ≡ out.old.items ++ words_text bytes.now) }
+    ensures kept { Keeps out.old out.new }
+{
+    if are_plain_in_words(bytes) {
+        return out.extend_from_slice(bytes);
+    }
+    let mut from = 0;
+    for (i, byte) in bytes.iter().enumerate() {
+        if is_plain_in_words(*byte) {
+            continue;
+        }
+        out.extend_from_slice(&bytes[from..i])?;
+        out.extend_from_slice(words_escape(byte))?;
+        from = i + 1;
+    }
+    out.extend_from_slice(&bytes[from..])
+}
+
+/// Whether a byte stands for itself in a value that is quoted by `'`.
+#[tactic(auto, unfolding(crate::specs::Spelling::escaped_in_value))]
+pub(crate) fn is_plain_in_value(byte: u8) -> bool
+    ensures { IsTrue result ↔ escaped_in_value byte ≡ byte ∷ [] }
+{
+    (byte != b'\'') & (byte != b'\t') & is_plain_in_words(byte)
+}
+
+/// Whether all bytes stand for themselves in a value that is quoted by `'`.
+pub(crate) fn are_plain_in_value(bytes: &[u8]) -> bool
+    ensures { IsTrue result → value_text bytes.now ≡ bytes.now }
+{
+    let mut escapes = 0u8;
+    for byte in bytes {
+        escapes = escapes.max(!is_plain_in_value(*byte) as u8);
+    }
+    escapes == 0
 }
 
 fn push_value(bytes: &[u8], out: &mut Vec<u8>) -> Result<(), NoMemory>
-    ensures { OnOk result (out.new.items ≡ out.old.items ++ value_text bytes.now) }
+    ensures ok { OnOk result (out.new.items ≡ out.old.items ++ value_text bytes.now) }
+    ensures kept { Keeps out.old out.new }
 {
-    for byte in bytes {
-        out.extend_from_slice(value_escape(byte))?;
+    if are_plain_in_value(bytes) {
+        return out.extend_from_slice(bytes);
     }
-    Ok(())
+    let mut from = 0;
+    for (i, byte) in bytes.iter().enumerate() {
+        if is_plain_in_value(*byte) {
+            continue;
+        }
+        out.extend_from_slice(&bytes[from..i])?;
+        out.extend_from_slice(value_escape(byte))?;
+        from = i + 1;
+    }
+    out.extend_from_slice(&bytes[from..])
 }
 
 pub(crate) fn push_assigned(value: &[u8], out: &mut Vec<u8>) -> Result<(), NoMemory>
-    ensures { OnOk result (out.new.items ≡ out.old.items ++ assigned value.now) }
+    ensures ok { OnOk result (out.new.items ≡ out.old.items ++ assigned value.now) }
+    ensures kept { Keeps out.old out.new }
 {
     out.extend_from_slice(b"='")?;
     push_value(value, out)?;
@@ -67,7 +128,8 @@ pub(crate) fn push_assigned(value: &[u8], out: &mut Vec<u8>) -> Result<(), NoMem
 }
 
 fn push_decimal(number: u64, out: &mut Vec<u8>) -> Result<(), NoMemory>
-    ensures { OnOk result (out.new.items ≡ out.old.items ++ decimal number) }
+    ensures ok { OnOk result (out.new.items ≡ out.old.items ++ decimal number) }
+    ensures kept { Keeps out.old out.new }
 {
     let digits = number.to_string(*out.allocator())?;
     out.extend_from_slice(digits.as_bytes())
@@ -83,7 +145,8 @@ pub(crate) fn is_foreign(attr: &Attr) -> bool
 
 #[tactic(auto, unfolding(crate::specs::Spelling::declaration))]
 fn push_declaration(number: u64, attr: &Attr, out: &mut Vec<u8>) -> Result<(), NoMemory>
-    ensures { OnOk result (out.new.items ≡ out.old.items ++ declaration number attr.now) }
+    ensures ok { OnOk result (out.new.items ≡ out.old.items ++ declaration number attr.now) }
+    ensures kept { Keeps out.old out.new }
 {
     out.extend_from_slice(b" xmlns:n")?;
     push_decimal(number, out)?;
@@ -91,7 +154,8 @@ fn push_declaration(number: u64, attr: &Attr, out: &mut Vec<u8>) -> Result<(), N
 }
 
 pub(crate) fn push_declarations(attrs: &[Attr], out: &mut Vec<u8>) -> Result<(), NoMemory>
-    ensures { OnOk result (out.new.items ≡ out.old.items ++ declarations 0 attrs.now) }
+    ensures ok { OnOk result (out.new.items ≡ out.old.items ++ declarations 0 attrs.now) }
+    ensures kept { Keeps out.old out.new }
 {
     let mut number = 0u64;
     for attr in attrs {
@@ -105,7 +169,8 @@ pub(crate) fn push_declarations(attrs: &[Attr], out: &mut Vec<u8>) -> Result<(),
 
 #[tactic(auto, unfolding(crate::specs::Spelling::prefixed))]
 pub(crate) fn push_prefixed(number: u64, attr: &Attr, out: &mut Vec<u8>) -> Result<(), NoMemory>
-    ensures { OnOk result (out.new.items ≡ out.old.items ++ prefixed number attr.now) }
+    ensures ok { OnOk result (out.new.items ≡ out.old.items ++ prefixed number attr.now) }
+    ensures kept { Keeps out.old out.new }
 {
     out.extend_from_slice(b" n")?;
     push_decimal(number, out)?;
@@ -116,7 +181,8 @@ pub(crate) fn push_prefixed(number: u64, attr: &Attr, out: &mut Vec<u8>) -> Resu
 
 #[tactic(auto, unfolding(crate::specs::Spelling::unprefixed))]
 pub(crate) fn push_unprefixed(attr: &Attr, out: &mut Vec<u8>) -> Result<(), NoMemory>
-    ensures { OnOk result (out.new.items ≡ out.old.items ++ unprefixed attr.now) }
+    ensures ok { OnOk result (out.new.items ≡ out.old.items ++ unprefixed attr.now) }
+    ensures kept { Keeps out.old out.new }
 {
     out.extend_from_slice(b" ")?;
     if !attr.name.space.bytes().is_empty() {
@@ -127,7 +193,8 @@ pub(crate) fn push_unprefixed(attr: &Attr, out: &mut Vec<u8>) -> Result<(), NoMe
 }
 
 fn push_attributes(attrs: &[Attr], out: &mut Vec<u8>) -> Result<(), NoMemory>
-    ensures { OnOk result (out.new.items ≡ out.old.items ++ attributes 0 attrs.now) }
+    ensures ok { OnOk result (out.new.items ≡ out.old.items ++ attributes 0 attrs.now) }
+    ensures kept { Keeps out.old out.new }
 {
     let mut number = 0u64;
     for attr in attrs {
@@ -143,7 +210,8 @@ fn push_attributes(attrs: &[Attr], out: &mut Vec<u8>) -> Result<(), NoMemory>
 
 #[tactic(auto, unfolding(crate::specs::Spelling::named))]
 pub(crate) fn push_name(parent: &[u8], name: &Name, out: &mut Vec<u8>) -> Result<(), NoMemory>
-    ensures { OnOk result (out.new.items ≡ out.old.items ++ named parent.now name.now) }
+    ensures ok { OnOk result (out.new.items ≡ out.old.items ++ named parent.now name.now) }
+    ensures kept { Keeps out.old out.new }
 {
     out.extend_from_slice(b"<")?;
     out.extend_from_slice(name.local.bytes())?;
@@ -161,43 +229,61 @@ fn push_opened(
     attrs: &[Attr],
     out: &mut Vec<u8>,
 ) -> Result<(), NoMemory>
-    ensures { OnOk result (out.new.items ≡ out.old.items ++ opened parent.now name.now attrs.now) }
+    ensures ok { OnOk result (out.new.items ≡ out.old.items ++ opened parent.now name.now attrs.now) }
+    ensures kept { Keeps out.old out.new }
 {
     push_name(parent, name, out)?;
     push_declarations(attrs, out)?;
     push_attributes(attrs, out)
 }
 
-#[tactic(auto, unfolding(crate::specs::Spelling::closed))]
-pub(crate) fn push_closed(local: &[u8], content: &[u8], out: &mut Vec<u8>) -> Result<(), NoMemory>
-    ensures { OnOk result (out.new.items ≡ out.old.items ++ closed local.now content.now) }
+/// Whether children spell anything: a child element does, and words that are not empty.
+fn has_content(nodes: &[Node]) -> bool
+    ensures { (parent : List ℕ) → result ≡ nat_lt 0 (length (texts_under parent nodes.now)) }
 {
-    if content.is_empty() {
-        return out.extend_from_slice(b"/>");
+    for node in nodes {
+        match node {
+            Node::Child(_) => return true,
+            Node::Words(words) if words.bytes().is_empty() => {}
+            Node::Words(_) => return true,
+        }
     }
-    out.extend_from_slice(b">")?;
-    out.extend_from_slice(content)?;
+    false
+}
+
+fn push_end_tag(local: &[u8], out: &mut Vec<u8>) -> Result<(), NoMemory>
+    ensures ok { OnOk result (out.new.items ≡ out.old.items ++ codes "</" ++ local.now ++ codes ">") }
+    ensures kept { Keeps out.old out.new }
+{
     out.extend_from_slice(b"</")?;
     out.extend_from_slice(local)?;
     out.extend_from_slice(b">")
 }
 
+#[tactic(auto, unfolding(crate::specs::Spelling::closed))]
 fn push_element(element: &Element, parent: &[u8], out: &mut Vec<u8>) -> Result<(), NoMemory>
-    ensures { OnOk result (out.new.items ≡ out.old.items ++ text_under parent.now element.now) }
+    ensures ok { OnOk result (out.new.items ≡ out.old.items ++ text_under parent.now element.now) }
+    ensures kept { Keeps out.old out.new }
 {
-    let mut content = Vec::new(*out.allocator());
-    for node in element.children.slice() {
+    let space = element.name.space.bytes();
+    push_opened(parent, &element.name, element.attrs.slice(), out)?;
+    let children = element.children.slice();
+    if !has_content(children) {
+        return out.extend_from_slice(b"/>");
+    }
+    out.extend_from_slice(b">")?;
+    for node in children {
         match node {
-            Node::Child(child) => push_element(child, element.name.space.bytes(), &mut content)?,
-            Node::Words(words) => push_words(words.bytes(), &mut content)?,
+            Node::Child(child) => push_element(child, space, out)?,
+            Node::Words(words) => push_words(words.bytes(), out)?,
         }
     }
-    push_opened(parent, &element.name, element.attrs.slice(), out)?;
-    push_closed(element.name.local.bytes(), content.as_slice(), out)
+    push_end_tag(element.name.local.bytes(), out)
 }
 
-pub(crate) fn push_nodes(nodes: &[Node], parent: &[u8], out: &mut Vec<u8>) -> Result<(), NoMemory>
-    ensures { OnOk result (out.new.items ≡ out.old.items ++ texts_under parent.now nodes.now) }
+fn push_nodes(nodes: &[Node], parent: &[u8], out: &mut Vec<u8>) -> Result<(), NoMemory>
+    ensures ok { OnOk result (out.new.items ≡ out.old.items ++ texts_under parent.now nodes.now) }
+    ensures kept { Keeps out.old out.new }
 {
     for node in nodes {
         match node {
@@ -208,12 +294,29 @@ pub(crate) fn push_nodes(nodes: &[Node], parent: &[u8], out: &mut Vec<u8>) -> Re
     Ok(())
 }
 
-/// Appends the canonical spelling of a top element, whole or not at all. Costs its length at each level of the tree.
+/// Appends the rest of an element after its start tag's attributes.
+#[tactic(auto, unfolding(crate::specs::Spelling::closed))]
+pub(crate) fn push_content(name: &Name, children: &[Node], out: &mut Vec<u8>) -> Result<(), NoMemory>
+    ensures ok { OnOk result (out.new.items ≡ out.old.items ++ closed name.now.local (texts_under name.now.space children.now)) }
+    ensures kept { Keeps out.old out.new }
+{
+    if !has_content(children) {
+        return out.extend_from_slice(b"/>");
+    }
+    out.extend_from_slice(b">")?;
+    push_nodes(children, name.space.bytes(), out)?;
+    push_end_tag(name.local.bytes(), out)
+}
+
+/// Appends the canonical spelling of a top element, whole or not at all. Costs its length.
 pub fn write(element: &Element, out: &mut Vec<u8>) -> Result<(), NoMemory>
     ensures ok { OnOk result (out.new.items ≡ out.old.items ++ text element.now) }
     ensures err { OnErr result (out.new.items ≡ out.old.items) }
 {
-    let mut whole = Vec::new(*out.allocator());
-    push_element(element, CLIENT_SPACE, &mut whole)?;
-    out.extend_from_slice(whole.as_slice())
+    let before = out.len();
+    let done = push_element(element, CLIENT_SPACE, out);
+    if done.is_err() {
+        out.truncate(before);
+    }
+    done
 }

@@ -1,5 +1,6 @@
 //! A stanza as the server hands it on: with the sender's address as its `from`, and without its `to` (RFC 6120, 8.1.2.1).
 ghost use Rattle.std.specs.Prelude.{◌≡◌, ◌++◌, ◌^◌, ◌-◌, false, min, length as list_length, OnOk, OnErr};
+ghost use Rattle.stanza_tree.specs.Appending.{Keeps};
 ghost use Rattle.stanza_tree.specs.Attributes.{is_named};
 ghost use Rattle.stanza_tree.specs.Spelling.{assigned, text};
 ghost use Rattle.stanza_tree.specs.Stamps.{sent_by, from_text, stamped_text};
@@ -10,7 +11,7 @@ use crate::measure::{
 };
 use crate::node::{Attr, Element};
 use crate::spell::{
-    CLIENT_SPACE, is_foreign, push_assigned, push_closed, push_declarations, push_name, push_nodes,
+    CLIENT_SPACE, is_foreign, push_assigned, push_content, push_declarations, push_name,
     push_prefixed, push_unprefixed,
 };
 use crate::text::NoMemory;
@@ -23,14 +24,16 @@ fn is_plain(attr: &Attr, local: &[u8]) -> bool
 }
 
 fn push_from(from: &[u8], out: &mut Vec<u8>) -> Result<(), NoMemory>
-    ensures { OnOk result (out.new.items ≡ out.old.items ++ from_text from.now) }
+    ensures ok { OnOk result (out.new.items ≡ out.old.items ++ from_text from.now) }
+    ensures kept { Keeps out.old out.new }
 {
     out.extend_from_slice(b" from")?;
     push_assigned(from, out)
 }
 
 fn push_stamped(attrs: &[Attr], from: &[u8], out: &mut Vec<u8>) -> Result<(), NoMemory>
-    ensures { OnOk result (out.new.items ≡ out.old.items ++ stamped_text false 0 from.now attrs.now) }
+    ensures ok { OnOk result (out.new.items ≡ out.old.items ++ stamped_text false 0 from.now attrs.now) }
+    ensures kept { Keeps out.old out.new }
 {
     let mut number = 0u64;
     let mut is_stamped = false;
@@ -83,23 +86,27 @@ fn stamped_length(attrs: &[Attr], from: &[u8]) -> u64
     }
 }
 
+fn push_sent(element: &Element, from: &[u8], out: &mut Vec<u8>) -> Result<(), NoMemory>
+    ensures ok { OnOk result (out.new.items ≡ out.old.items ++ text (sent_by from.now element.now)) }
+    ensures kept { Keeps out.old out.new }
+{
+    push_name(CLIENT_SPACE, &element.name, out)?;
+    push_declarations(element.attrs.slice(), out)?;
+    push_stamped(element.attrs.slice(), from, out)?;
+    push_content(&element.name, element.children.slice(), out)
+}
+
 /// Appends the spelling of a stanza sent from this address, without its `to`; whole or not at all. Costs its length.
 pub fn write_sent(element: &Element, from: &[u8], out: &mut Vec<u8>) -> Result<(), NoMemory>
     ensures ok { OnOk result (out.new.items ≡ out.old.items ++ text (sent_by from.now element.now)) }
     ensures err { OnErr result (out.new.items ≡ out.old.items) }
 {
-    let mut content = Vec::new(*out.allocator());
-    push_nodes(
-        element.children.slice(),
-        element.name.space.bytes(),
-        &mut content,
-    )?;
-    let mut whole = Vec::new(*out.allocator());
-    push_name(CLIENT_SPACE, &element.name, &mut whole)?;
-    push_declarations(element.attrs.slice(), &mut whole)?;
-    push_stamped(element.attrs.slice(), from, &mut whole)?;
-    push_closed(element.name.local.bytes(), content.as_slice(), &mut whole)?;
-    out.extend_from_slice(whole.as_slice())
+    let before = out.len();
+    let done = push_sent(element, from, out);
+    if done.is_err() {
+        out.truncate(before);
+    }
+    done
 }
 
 /// The number of bytes of that spelling; 2^64 - 1 stands for more. Costs the size of the tree, and no memory.

@@ -26,14 +26,11 @@ fn attributes(alloc: Global, of: &[Spelt]) -> Result<Several<Attr>, Fail> {
     Ok(Several::of(attrs))
 }
 
-fn several(alloc: Global, bytes: &[u8]) -> Result<Several<u8>, Fail> {
-    Ok(Several::of(Vec::from_slice(alloc, bytes)?))
-}
-
 fn entry_of(alloc: Global, to: &[u8], rest: &[u8]) -> Result<Entry, Fail> {
     Ok(Entry {
-        to: several(alloc, to)?,
-        rest: several(alloc, rest)?,
+        to: Text::of(alloc, to)?,
+        rest: Text::of(alloc, rest)?,
+        origin: Origin::Direct,
     })
 }
 
@@ -327,7 +324,7 @@ fn bytes_are_appended(rt: HostRuntime) -> Result<(), Fail> {
 
 #[test]
 fn lists_are_kept(rt: HostRuntime) -> Result<(), Fail> {
-    let list = several(rt.alloc(), b"xyz")?;
+    let list = Several::of(Vec::from_slice(rt.alloc(), b"xyz")?);
     assert!(rt; list.slice() == b"xyz".as_slice());
     assert!(rt; list.into_vec().as_slice() == b"xyz".as_slice());
     Ok(())

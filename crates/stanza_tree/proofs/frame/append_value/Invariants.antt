@@ -1,10 +1,11 @@
-use Rattle.std.proofs.Common.{◌≡◌, ◌≤◌, ◌+◌, ◌++◌, drop, length, vec_len, vec_capacity}
+use Rattle.std.proofs.Common.{◌≡◌, ◌≤◌, ◌+◌, ◌-◌, ◌++◌, drop, length, slice_range, vec_len, vec_capacity}
 use Rattle.stanza_tree.specs.Spelling.{value_text}
 use Rattle.stanza_tree.proofs.frame.append_value.Given as goal
 
-abbrev pub invariant-loop-byte : goal.invariant-loop-byte
-invariant-loop-byte l = record {
-  room : vec_len l.out + length (value_text (drop l.byte-index l.bytes)) ≤ vec_capacity l.out;
+abbrev pub invariant-loop-i : goal.invariant-loop-i
+invariant-loop-i l = record {
+  within : l.from ≤ l.i;
+  room : vec_len l.out + (l.i - l.from) + length (value_text (drop l.i l.bytes)) ≤ vec_capacity l.out;
   grown : vec_capacity l.fn.out ≤ vec_capacity l.out;
-  joined : l.out.items ++ value_text (drop l.byte-index l.bytes) ≡ l.fn.out.items ++ value_text l.bytes;
+  joined : l.out.items ++ slice_range l.bytes l.from l.i ++ value_text (drop l.i l.bytes) ≡ l.fn.out.items ++ value_text l.bytes;
 }

@@ -1,9 +1,10 @@
 use Rattle.std.proofs.Common.{◌≡◌, ◌++◌, drop}
+use Rattle.stanza_tree.specs.Appending.{Keeps}
 use Rattle.stanza_tree.specs.Spelling.{texts_under}
 use Rattle.stanza_tree.proofs.spell.+push_element.Given as goal
 
 abbrev pub invariant-loop-node : goal.invariant-loop-node
 invariant-loop-node l = record {
-  same : l.node-items ≡ l.element.children;
-  joined : l.content.items ++ texts_under l.element.name.space (drop l.node-index l.node-items) ≡ texts_under l.element.name.space l.node-items;
+  kept : Keeps l.initial.out l.out;
+  joined : l.out.items ++ texts_under l.space (drop l.node-index l.children) ≡ l.initial.out.items ++ texts_under l.space l.children;
 }
