@@ -1,0 +1,5 @@
+pub mod Prefixes
+pub mod Sessions
+pub mod Connections
+pub mod Places
+pub mod Accounts
