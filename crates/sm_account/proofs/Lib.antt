@@ -6,3 +6,7 @@ pub mod Keeps
 pub mod Whole
 pub mod Carried
 pub mod Promises
+pub mod Logs
+pub mod Done
+pub mod Apart
+pub mod StoryStates

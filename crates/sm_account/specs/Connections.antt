@@ -29,31 +29,16 @@ start = record { core = unmade; trace = record { present = opened 0; earlier = [
 abbrev pub connections : {S : Type 0} → Trace S → List (Connection S)
 connections t = t.present ∷ t.earlier
 
+-- nothing went over a connection while the session didn't count
 abbrev pub begun : {S : Type 0} → Trace S → ℕ → Trace S
-begun t c = record t {
-  present = record { number = c; carried = t.present.carried; arrived = t.present.arrived; short = t.present.short };
-}
+begun t c = record t { present = record t.present { number = c } }
 
 abbrev pub carries : {S : Type 0} → Trace S → Option Entry → Trace S
 carries t None = t
-carries t (Some e) = record t {
-  present = record {
-    number = t.present.number;
-    carried = t.present.carried ++ e ∷ [];
-    arrived = t.present.arrived;
-    short = t.present.short;
-  };
-}
+carries t (Some e) = record t { present = record t.present { carried = t.present.carried ++ e ∷ [] } }
 
 abbrev pub arrives : {S : Type 0} → Trace S → S → Bool → Trace S
-arrives t x short = record t {
-  present = record {
-    number = t.present.number;
-    carried = t.present.carried;
-    arrived = t.present.arrived ++ x ∷ [];
-    short = short;
-  };
-}
+arrives t x short = record t { present = record t.present { arrived = t.present.arrived ++ x ∷ []; short = short } }
 
 abbrev pub tells : {S : Type 0} → Trace S → ℕ → Trace S
 tells t n = record t { told = n ∷ t.told }

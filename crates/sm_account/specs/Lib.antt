@@ -3,3 +3,5 @@ pub mod Sessions
 pub mod Connections
 pub mod Places
 pub mod Accounts
+pub mod Logs
+pub mod Stories
