@@ -25,7 +25,8 @@ carries_labels : {S : Type 0} (t : Trace S) (o : Option Entry) → labels (past.
 carries_labels t None = refl
 carries_labels t (Some e) = refl
 
-pub labels_if : {S : Type 0} (b : Bool) (m : Hold) (op : Op S) (s : Session S) → joins op ≡ false → labels (trace_if b m s.core s.trace op) ≡ labels s.trace
+pub labels_if : {S : Type 0} (b : Bool) (m : Hold) (op : Op S) (s : Session S) → joins op ≡ false
+    → labels (trace_if b m s.core s.trace op) ≡ labels s.trace
 labels_if b m (one.Begin c) s is = absurd (true≢false is)
 labels_if b m (one.Resume c h) s is = absurd (true≢false is)
 labels_if true (Held d) one.Pull s is = carries_labels s.trace (one.next_entry s.core)
@@ -57,7 +58,8 @@ labels_if false Away one.End s is = refl
 abbrev pub Joins : {S : Type 0} → Core S → Trace S → Trace S → ℕ → Type 0
 Joins core old new c = (labels new ≡ labels old) ⊎ ((labels new ≡ c ∷ labels old) × (core.hold ≡ Held c))
 
-resumed_labels : {S : Type 0} (s : Session S) (c : ℕ) (o : Option ℕ) → Joins (one.resumed s.core c o) s.trace (past.opens s.trace c o) c
+resumed_labels : {S : Type 0} (s : Session S) (c : ℕ) (o : Option ℕ)
+    → Joins (one.resumed s.core c o) s.trace (past.opens s.trace c o) c
 resumed_labels s c None = inl refl
 resumed_labels s c (Some n) = inr (refl, refl)
 
@@ -70,7 +72,8 @@ resume_labels false (Held d) s c h = inl refl
 resume_labels false Away s c h = inl refl
 resume_labels false Ended s c h = inl refl
 
-pick : {A : Type 0} (b : Bool) (x : A) (xs ys : List A) → (if b then x ∷ (xs ++ ys) else xs ++ ys) ≡ (if b then x ∷ xs else xs) ++ ys
+pick : {A : Type 0} (b : Bool) (x : A) (xs ys : List A)
+    → (if b then x ∷ (xs ++ ys) else xs ++ ys) ≡ (if b then x ∷ xs else xs) ++ ys
 pick true x xs ys = refl
 pick false x xs ys = refl
 
@@ -96,14 +99,16 @@ entries_else d c (e ∷ es) ne =
     ap (λ (b : Bool). if b then e ∷ entries_of c (carried_on d es) else entries_of c (carried_on d es)) (not_same d c (eqb d c) refl ne)
     ∙ entries_else d c es ne
 
-entries_none : {S : Type 0} (c : ℕ) (cs : List (Connection S)) → NotIn c (numbers cs) → entries_of c (all_carried cs) ≡ []
+entries_none : {S : Type 0} (c : ℕ) (cs : List (Connection S)) → NotIn c (numbers cs)
+    → entries_of c (all_carried cs) ≡ []
 entries_none c [] none = refl
 entries_none c (d ∷ ds) none =
     entries_append c (all_carried ds) (carried_on d.number d.carried)
     ∙ (ap (λ (es : List Entry). es ++ entries_of c (carried_on d.number d.carried)) (entries_none c ds none.1)
     ∙ entries_else d.number c d.carried none.0)
 
-stanzas_append : {S : Type 0} (c : ℕ) (xs ys : List (Taken S)) → stanzas_of c (xs ++ ys) ≡ stanzas_of c xs ++ stanzas_of c ys
+stanzas_append : {S : Type 0} (c : ℕ) (xs ys : List (Taken S))
+    → stanzas_of c (xs ++ ys) ≡ stanzas_of c xs ++ stanzas_of c ys
 stanzas_append c [] ys = refl
 stanzas_append {S = S} c (t ∷ ts) ys =
     ap (λ (l : List S). if eqb t.connection c then t.stanza ∷ l else l) (stanzas_append c ts ys)
@@ -121,7 +126,8 @@ stanzas_else d c (x ∷ xs) ne =
     ap (λ (b : Bool). if b then x ∷ stanzas_of c (arrived_on d xs) else stanzas_of c (arrived_on d xs)) (not_same d c (eqb d c) refl ne)
     ∙ stanzas_else d c xs ne
 
-stanzas_none : {S : Type 0} (c : ℕ) (cs : List (Connection S)) → NotIn c (numbers cs) → stanzas_of c (all_arrived cs) ≡ []
+stanzas_none : {S : Type 0} (c : ℕ) (cs : List (Connection S)) → NotIn c (numbers cs)
+    → stanzas_of c (all_arrived cs) ≡ []
 stanzas_none c [] none = refl
 stanzas_none {S = S} c (d ∷ ds) none =
     stanzas_append c (all_arrived ds) (arrived_on d.number d.arrived)
@@ -167,10 +173,12 @@ all_are {S = S} (d ∷ ds) apart = (
 )
 
 -- from the start on
-pub start_given : {S : Type 0} (ops : List (Op S)) → all_carried (connections (run start ops).trace) ≡ log_of gives one.unmade ops
+pub start_given : {S : Type 0} (ops : List (Op S))
+    → all_carried (connections (run start ops).trace) ≡ log_of gives one.unmade ops
 start_given ops = run_given start ops (λ is. (refl, refl)) (λ d is. absurd (cc))
 
-pub start_taken : {S : Type 0} (ops : List (Op S)) → all_arrived (connections (run start ops).trace) ≡ log_of takes one.unmade ops
+pub start_taken : {S : Type 0} (ops : List (Op S))
+    → all_arrived (connections (run start ops).trace) ≡ log_of takes one.unmade ops
 start_taken ops = run_taken start ops (λ is. (refl, refl)) (λ d is. absurd (cc))
 
 pub start_all_are : {S : Type 0} (ops : List (Op S)) → AreDistinct (labels (run start ops).trace)
@@ -183,5 +191,6 @@ start_all_are {S = S} ops apart =
 pub start_acted : {S : Type 0} (ops : List (Op S)) → acted (run start ops).core ≡ log_of does one.unmade ops
 start_acted ops = ap acted (core_of_run start ops) ∙ run_acted one.unmade ops unmade_in_order
 
-pub start_told : {S : Type 0} (ops : List (Op S)) → (run start ops).trace.told ≡ latest_first (log_of answers one.unmade ops) []
+pub start_told : {S : Type 0} (ops : List (Op S))
+    → (run start ops).trace.told ≡ latest_first (log_of answers one.unmade ops) []
 start_told ops = run_told start ops

@@ -51,7 +51,8 @@ resumed_grows : {S : Type 0} (s : Core S) (c : ℕ) (o : Option ℕ) → IsPrefi
 resumed_grows s c None = itself s.queued
 resumed_grows s c (Some n) = itself s.queued
 
-queue_grows : {S : Type 0} (b : Bool) (m : Hold) (s : Core S) (op : Op S) → IsPrefixOf s.queued (core_if b m s op).queued
+queue_grows : {S : Type 0} (b : Bool) (m : Hold) (s : Core S) (op : Op S)
+    → IsPrefixOf s.queued (core_if b m s op).queued
 queue_grows false Away s (one.Begin c) = itself s.queued
 queue_grows true (Held d) s (one.Push e) = pushed_grows s e (has_room (one.waiting s) e)
 queue_grows false (Held d) s (one.Push e) = pushed_grows s e (has_room (one.waiting s) e)
@@ -159,7 +160,8 @@ module _ {S : Type 0} (place number : ℕ) (before : List (Connection S)) where
   pulled s None at on = inl on
   pulled s (Some e) at (counts, same, is, r) = inl (counts, same, is, carry_more r e at)
 
-  acknowledged : (s : Session S) (o : Option ℕ) → IsOn s → Next s (record { core = one.acknowledged s.core o; trace = s.trace })
+  acknowledged : (s : Session S) (o : Option ℕ) → IsOn s
+      → Next s (record { core = one.acknowledged s.core o; trace = s.trace })
   acknowledged s None on = inl on
   acknowledged s (Some n) on = inl on
 
@@ -219,22 +221,26 @@ pub start_in_order : {S : Type 0} (ops : List (Op S)) → IsInOrder (run start o
 start_in_order ops = subst IsInOrder (sym (core_of_run start ops)) (run_in_order one.unmade ops unmade_in_order)
 
 -- a resumption that goes on
-pub resumes : {S : Type 0} (b : Bool) (m : Hold) (s : Session S) (c h n : ℕ) → b ≡ true → (m ≡ Ended → ⊥) → one.named s.core h ≡ Some n
+pub resumes : {S : Type 0} (b : Bool) (m : Hold) (s : Session S) (c h n : ℕ) → b ≡ true → (m ≡ Ended → ⊥)
+    → one.named s.core h ≡ Some n
     → step_if b m s (one.Resume c h) ≡ record { core = one.resumed s.core c (Some n); trace = past.opens s.trace c (Some n) }
 resumes true (Held d) s c h n b live is = rw is refl
 resumes true Away s c h n b live is = rw is refl
 resumes true Ended s c h n b live is = absurd (live refl)
 resumes false m s c h n b live is = absurd (cc)
 
-pub carries_from : {S : Type 0} (ops more : List (Op S)) (c h n : ℕ) → (run start ops).core.counts ≡ true → ((run start ops).core.hold ≡ Ended → ⊥)
+pub carries_from : {S : Type 0} (ops more : List (Op S)) (c h n : ℕ) → (run start ops).core.counts ≡ true
+    → ((run start ops).core.hold ≡ Ended → ⊥)
     → one.named (run start ops).core h ≡ Some n
     → CarriesFrom ((run start ops).core.base_out + n) c (connections (run start ops).trace) (run start (ops ++ one.Resume c h ∷ more))
 carries_from {S = S} ops more c h n counts live is =
     let s : Session S = run start ops in
     let o = start_in_order ops in
     let at = named_within s.core.kept s.core.sent s.core.base_out h n o.queue.began is in
-    let low : s.core.base_out + n ≤ length s.core.queued = omega (arith, at.1, o.queue.began, o.queue.in_order, o.queue.within) in
-    let after = carried (s.core.base_out + n) c (connections s.trace) (record { core = one.resumed s.core c (Some n); trace = past.opens s.trace c (Some n) }) more
+    let low : s.core.base_out + n ≤ length s.core.queued =
+    omega (arith, at.1, o.queue.began, o.queue.in_order, o.queue.within) in
+    let after =
+    carried (s.core.base_out + n) c (connections s.trace) (record { core = one.resumed s.core c (Some n); trace = past.opens s.trace c (Some n) }) more
     (counts, refl, refl, begins (s.core.base_out + n) s.core.queued low) in
     subst (CarriesFrom (s.core.base_out + n) c (connections s.trace))
     (sym (run_append start ops (one.Resume c h ∷ more) ∙ ap (λ (t : Session S). run t more) (resumes s.core.counts s.core.hold s c h n counts live is)))

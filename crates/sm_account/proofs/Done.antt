@@ -12,7 +12,8 @@ use Rattle.sm_account.specs.Places.{IsInOrder}
 use Rattle.sm_account.specs.Logs.{log_of, does_if, does, answers_if, answers, latest_first}
 use Rattle.sm_account.proofs.Places.{step_in_order}
 
-pushed_acted : {S : Type 0} (s : Core S) (e : Entry) (b : Bool) → acted (if b then record s { queued = s.queued ++ e ∷ [] } else one.ended s) ≡ acted s
+pushed_acted : {S : Type 0} (s : Core S) (e : Entry) (b : Bool)
+    → acted (if b then record s { queued = s.queued ++ e ∷ [] } else one.ended s) ≡ acted s
 pushed_acted s e true = refl
 pushed_acted s e false = refl
 
@@ -36,7 +37,8 @@ enabled_acted : {S : Type 0} (s : Core S) → s.counts ≡ false → acted (one.
 enabled_acted {S = S} s is = drop-length s.acts ∙ sym (ap (λ (b : Bool). acted_if b s.base_in s.acts) is)
 
 -- a stanza more
-counted_acted : {S : Type 0} (s : Core S) (x : S) → s.counts ≡ true → s.base_in ≤ length s.acts → acted (one.acted_on s x) ≡ acted s ++ x ∷ []
+counted_acted : {S : Type 0} (s : Core S) (x : S) → s.counts ≡ true → s.base_in ≤ length s.acts
+    → acted (one.acted_on s x) ≡ acted s ++ x ∷ []
 counted_acted s x is low =
     ap (λ (b : Bool). acted_if b s.base_in (s.acts ++ x ∷ [])) is
     ∙ (drop-append-le s.base_in s.acts (x ∷ []) low
@@ -77,7 +79,8 @@ step_acted true (Held d) (one.Short x) s is low = no_more _ _ refl
 step_acted true m op s is low = no_more _ _ refl
 step_acted false m op s is low = no_more _ _ refl
 
-pub run_acted : {S : Type 0} (s : Core S) (ops : List (Op S)) → IsInOrder s → acted (core_run s ops) ≡ acted s ++ log_of does s ops
+pub run_acted : {S : Type 0} (s : Core S) (ops : List (Op S)) → IsInOrder s
+    → acted (core_run s ops) ≡ acted s ++ log_of does s ops
 run_acted s [] o = sym (append-nil (acted s))
 run_acted {S = S} s (op ∷ ops) o =
     run_acted (core_step s op) ops (step_in_order op s o)
@@ -97,7 +100,8 @@ opens_told : {S : Type 0} (t : Trace S) (c : ℕ) (o : Option ℕ) → (past.ope
 opens_told t c None = refl
 opens_told t c (Some n) = refl
 
-step_told : {S : Type 0} (b : Bool) (m : Hold) (op : Op S) (s : Session S) → (trace_if b m s.core s.trace op).told ≡ latest_first (answers_if b m s.core op) s.trace.told
+step_told : {S : Type 0} (b : Bool) (m : Hold) (op : Op S) (s : Session S)
+    → (trace_if b m s.core s.trace op).told ≡ latest_first (answers_if b m s.core op) s.trace.told
 step_told true (Held d) one.Pull s = carries_told s.trace (one.next_entry s.core)
 step_told true (Held d) (one.Resume c h) s = opens_told s.trace c (one.named s.core h)
 step_told true Away (one.Resume c h) s = opens_told s.trace c (one.named s.core h)
@@ -114,7 +118,8 @@ step_told true (Held d) one.Drop s = refl
 step_told true (Held d) one.End s = refl
 step_told b m op s = refl
 
-pub run_told : {S : Type 0} (s : Session S) (ops : List (Op S)) → (run s ops).trace.told ≡ latest_first (log_of answers s.core ops) s.trace.told
+pub run_told : {S : Type 0} (s : Session S) (ops : List (Op S))
+    → (run s ops).trace.told ≡ latest_first (log_of answers s.core ops) s.trace.told
 run_told s [] = refl
 run_told s (op ∷ ops) =
     run_told (step s op) ops

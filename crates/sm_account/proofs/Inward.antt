@@ -28,7 +28,8 @@ up_to_one m n (k ∷ ks) all one = elim one [ inl e ↦ omega (arith, all.0) | i
 
 -- Of the client's stanzas the first were acted on since the session counts. The present connection has place i, and the
 -- client sends on it from `begins i` on.
-pub record Inward {S : Type 0} (stanzas : List S) (begins : ℕ → ℕ) (acts : List S) (base i : ℕ) (arrived : List S) (short : Bool) (told : List ℕ) : Type 0 where
+pub record Inward {S : Type 0} (stanzas : List S) (begins : ℕ → ℕ) (acts : List S) (base i : ℕ) (arrived : List S)
+    (short : Bool) (told : List ℕ) : Type 0 where
   pub early : List S
   pub done : List S
   pub ahead : List S
@@ -40,7 +41,8 @@ pub record Inward {S : Type 0} (stanzas : List S) (begins : ℕ → ℕ) (acts :
   pub known : AllUpTo (length done) told
 
 -- the session begins to count
-pub starts : {S : Type 0} (stanzas : List S) (begins : ℕ → ℕ) (acts : List S) → begins 0 ≡ 0 → Inward stanzas begins acts (length acts) 0 [] false []
+pub starts : {S : Type 0} (stanzas : List S) (begins : ℕ → ℕ) (acts : List S) → begins 0 ≡ 0
+    → Inward stanzas begins acts (length acts) 0 [] false []
 starts stanzas begins acts first = record {
   early = acts;
   done = [];
@@ -53,8 +55,10 @@ starts stanzas begins acts first = record {
   known = tt;
 }
 
-module _ {S : Type 0} {stanzas : List S} {begins : ℕ → ℕ} {acts : List S} {base i : ℕ} {arrived : List S} {short : Bool} {told : List ℕ} (n : Inward stanzas begins acts base i arrived short told) where
-  acts_first : (x : S) (xs : List S) → n.ahead ≡ x ∷ xs → Inward stanzas begins (acts ++ x ∷ []) base i (arrived ++ x ∷ []) short told
+module _ {S : Type 0} {stanzas : List S} {begins : ℕ → ℕ} {acts : List S} {base i : ℕ} {arrived : List S} {short : Bool}
+    {told : List ℕ} (n : Inward stanzas begins acts base i arrived short told) where
+  acts_first : (x : S) (xs : List S) → n.ahead ≡ x ∷ xs
+      → Inward stanzas begins (acts ++ x ∷ []) base i (arrived ++ x ∷ []) short told
   acts_first x xs first = record {
     early = n.early;
     done = n.done ++ x ∷ [];
@@ -68,7 +72,8 @@ module _ {S : Type 0} {stanzas : List S} {begins : ℕ → ℕ} {acts : List S} 
   }
 
   -- the next stanza of the client is acted on
-  pub acts_on : (x : S) → slice_get stanzas (begins i + length arrived) ≡ Some x → short ≡ false → Inward stanzas begins (acts ++ x ∷ []) base i (arrived ++ x ∷ []) short told
+  pub acts_on : (x : S) → slice_get stanzas (begins i + length arrived) ≡ Some x → short ≡ false
+      → Inward stanzas begins (acts ++ x ∷ []) base i (arrived ++ x ∷ []) short told
   acts_on x next whole =
       let none : one_if short ≡ 0 = ap one_if whole in
       let long : begins i + length arrived ≡ length n.done = omega (arith, n.at) in
@@ -111,8 +116,10 @@ module _ {S : Type 0} {stanzas : List S} {begins : ℕ → ℕ} {acts : List S} 
   }
 
   -- the client finds by the server's count from where to send again
-  pub opens : (low high : ℕ) → (low ≡ 0) ⊎ (((j : ℕ) × (j ≤ i) × (low ≡ begins j)) ⊎ IsOneOf low told) → high < low + 2 ^ 32 → begins i + length arrived ≤ high
-      → number low high (count_of (length acts - base)) ≡ Some (begins (i + 1)) → Inward stanzas begins acts base (i + 1) [] false told
+  pub opens : (low high : ℕ) → (low ≡ 0) ⊎ (((j : ℕ) × (j ≤ i) × (low ≡ begins j)) ⊎ IsOneOf low told)
+      → high < low + 2 ^ 32 → begins i + length arrived ≤ high
+      → number low high (count_of (length acts - base)) ≡ Some (begins (i + 1))
+      → Inward stanzas begins acts base (i + 1) [] false told
   opens low high knows near ends place =
       let below : low ≤ length n.done = elim knows [
         | inl none ↦ omega (arith, none)
@@ -124,7 +131,8 @@ module _ {S : Type 0} {stanzas : List S} {begins : ℕ → ℕ} {acts : List S} 
       let above : length n.done ≤ high = omega (arith, n.at) in
       let long : length acts ≡ length n.early + length n.done = rw n.acts_are (length-append n.early n.done) in
       let count : count_of (length n.done) ≡ count_of (length acts - base) = ap count_of (omega (arith, n.base_is)) in
-      let found : number low high (count_of (length acts - base)) ≡ Some (length n.done) = number-is low high _ (length n.done) near (record { low = below; high = above; count = count }) in
+      let found : number low high (count_of (length acts - base)) ≡ Some (length n.done) =
+      number-is low high _ (length n.done) near (record { low = below; high = above; count = count }) in
       let next : begins (i + 1) ≡ length n.done = cc in
       record {
         early = n.early;

@@ -17,7 +17,8 @@ use Rattle.sm_account.proofs.Inward as inn
 use Rattle.sm_account.proofs.Inward.{Inward}
 
 -- a session that never counted
-pub record NeverCounted {S : Type 0} (kept sent : ℕ) (present : Connection S) (earlier : List (Connection S)) (told : List ℕ) (said : ℕ) : Type 0 where
+pub record NeverCounted {S : Type 0} (kept sent : ℕ) (present : Connection S) (earlier : List (Connection S))
+    (told : List ℕ) (said : ℕ) : Type 0 where
   pub carried : present.carried ≡ []
   pub arrived : present.arrived ≡ []
   pub whole : present.short ≡ false
@@ -27,7 +28,8 @@ pub record NeverCounted {S : Type 0} (kept sent : ℕ) (present : Connection S) 
   pub silent : said ≡ 0
 
 abbrev pub Fresh : {S : Type 0} → Session S → ℕ → Type 0
-Fresh s said = (s.core.counts ≡ false) × NeverCounted s.core.kept s.core.sent s.trace.present s.trace.earlier s.trace.told said
+Fresh s said =
+    (s.core.counts ≡ false) × NeverCounted s.core.kept s.core.sent s.trace.present s.trace.earlier s.trace.told said
 
 -- a session that counts
 abbrev pub Counted : {S : Type 0} → Account S → Session S → ℕ → Type 0
@@ -41,7 +43,8 @@ Keeps a s said = Fresh s said ⊎ Counted a s said
 
 -- the number that a count names, where the client may say it
 pub names : {S : Type 0} (a : Account S) (s : Session S) (said v h : ℕ) → IsInOrder s.core → Counted a s said → said ≤ v
-    → v ≤ total a.handles s.trace.earlier + length s.trace.present.carried → count_of v ≡ h → one.named s.core h ≡ Some v
+    → v ≤ total a.handles s.trace.earlier + length s.trace.present.carried → count_of v ≡ h
+    → one.named s.core h ≡ Some v
 names a s said v h o (counts, out, inn) rising low count =
     names_it s.core.queued s.core.kept s.core.sent s.core.asked_at s.core.base_out v h o.queue
     (omega (arith, out.kept_is, out.base_is)) (omega (arith, out.sent_is, out.base_is)) count
@@ -75,7 +78,8 @@ module _ {S : Type 0} (a : Account S) (s : Session S) (said : ℕ) where
     record { carried = f.carried; arrived = f.arrived; whole = f.whole; alone = f.alone; untold = f.untold; level = f.level; silent = f.silent },
   )
 
-  fresh_keeps : (m : Hold) (op : Op S) → a.begins 0 ≡ 0 → IsInOrder s.core → Fresh s said → Keeps a (step_if false m s op) said
+  fresh_keeps : (m : Hold) (op : Op S) → a.begins 0 ≡ 0 → IsInOrder s.core → Fresh s said
+      → Keeps a (step_if false m s op) said
   fresh_keeps Away (one.Begin c) first o f = fresh_begun c f
   fresh_keeps (Held d) (one.Push e) first o f = fresh_pushed e (has_room (one.waiting s.core) e) f
   fresh_keeps (Held d) one.Pull first o f = fresh_pulled (one.next_entry s.core) f
@@ -98,14 +102,17 @@ module _ {S : Type 0} (a : Account S) (s : Session S) (said : ℕ) where
   counted_acknowledged : (h v : ℕ) → IsInOrder s.core → Counted a s said → Acks a s said h v
       → Counted a (with_core (one.acknowledged s.core (one.named s.core h))) v
   counted_acknowledged h v in_order (counts, o, i) says =
-      let is : one.named s.core h ≡ Some v = names a s said v h in_order (counts, o, i) says.rising says.carried says.count in
+      let is : one.named s.core h ≡ Some v =
+      names a s said v h in_order (counts, o, i) says.rising says.carried says.count in
       rw is (counts, out.says o v says.carried says.handled, i)
 
-  counted_resumed : (c h v : ℕ) (o : Option ℕ) → one.named s.core h ≡ o → IsInOrder s.core → Counted a s said → GoesOnIf a s said h v o
+  counted_resumed : (c h v : ℕ) (o : Option ℕ) → one.named s.core h ≡ o → IsInOrder s.core → Counted a s said
+      → GoesOnIf a s said h v o
       → Counted a (record { core = one.resumed s.core c o; trace = past.opens s.trace c o }) v
   counted_resumed c h v None is in_order k e = rw e k
   counted_resumed c h v (Some n) is in_order (counts, o, i) (within, r, e) =
-      let says : one.named s.core h ≡ Some (total_handled a s) = names a s said (total_handled a s) h in_order (counts, o, i) o.said_handled (omega (arith, within)) r.count in
+      let says : one.named s.core h ≡ Some (total_handled a s) =
+      names a s said (total_handled a s) h in_order (counts, o, i) o.said_handled (omega (arith, within)) r.count in
       let same : n ≡ total_handled a s = cc in
       rw (same, e) (
         counts,
@@ -114,7 +121,8 @@ module _ {S : Type 0} (a : Account S) (s : Session S) (said : ℕ) where
             (inn.opens i (a.lowest (present_place s)) (a.highest (present_place s)) r.known r.near r.sent.0 r.begins),
       )
 
-  counted_keeps : (m : Hold) (op : Op S) (v : ℕ) → IsInOrder s.core → Counted a s said → Meets true m a s said op v → Counted a (step_if true m s op) v
+  counted_keeps : (m : Hold) (op : Op S) (v : ℕ) → IsInOrder s.core → Counted a s said → Meets true m a s said op v
+      → Counted a (step_if true m s op) v
   counted_keeps (Held d) (one.Push x) v in_order k e = rw e (counted_pushed x (has_room (one.waiting s.core) x) k)
   counted_keeps Away (one.Push x) v in_order k e = rw e (counted_pushed x (has_room (one.waiting s.core) x) k)
   counted_keeps (Held d) one.Pull v in_order k e = rw e (counted_pulled (one.next_entry s.core) refl k)
@@ -135,7 +143,8 @@ module _ {S : Type 0} (a : Account S) (s : Session S) (said : ℕ) where
 
   keeps_if : (b : Bool) (op : Op S) (v : ℕ) → a.begins 0 ≡ 0 → s.core.counts ≡ b → IsInOrder s.core → Keeps a s said
       → Meets b s.core.hold a s said op v → Keeps a (step_if b s.core.hold s op) v
-  keeps_if false op v first is in_order (inl f) e = rw (fresh_same s.core.hold op v e) (fresh_keeps s.core.hold op first in_order f)
+  keeps_if false op v first is in_order (inl f) e =
+      rw (fresh_same s.core.hold op v e) (fresh_keeps s.core.hold op first in_order f)
   keeps_if false op v first is in_order (inr k) e = let bad : true ≡ false = sym k.0 ∙ is in cc
   keeps_if true op v first is in_order (inl f) e = let bad : true ≡ false = sym is ∙ f.0 in cc
   keeps_if true op v first is in_order (inr k) e = inr (counted_keeps s.core.hold op v in_order k e)
@@ -147,11 +156,13 @@ pub record AtEnd {S : Type 0} (a : Account S) (s : Session S) : Type 0 where
   pub keeps : Keeps a s said
   pub within : IsWithin a s
 
-pub runs : {S : Type 0} (a : Account S) (s : Session S) (said : ℕ) (ops : List (Op S)) → a.begins 0 ≡ 0 → IsInOrder s.core → Keeps a s said
+pub runs : {S : Type 0} (a : Account S) (s : Session S) (said : ℕ) (ops : List (Op S)) → a.begins 0 ≡ 0
+    → IsInOrder s.core → Keeps a s said
     → Follows a s said ops → AtEnd a (run s ops)
 runs a s said [] first o k within = record { said = said; in_order = o; keeps = k; within = within }
 runs a s said (op ∷ ops) first o k (v, meets, rest) =
     runs a (step s op) v ops first (step_in_order op s.core o) (keeps_if a s said s.core.counts op v first refl o k meets) rest
 
 pub starts : {S : Type 0} (a : Account S) → Keeps a start 0
-starts a = inl (refl, record { carried = refl; arrived = refl; whole = refl; alone = refl; untold = refl; level = refl; silent = refl })
+starts a =
+    inl (refl, record { carried = refl; arrived = refl; whole = refl; alone = refl; untold = refl; level = refl; silent = refl })

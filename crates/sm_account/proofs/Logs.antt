@@ -17,7 +17,8 @@ log_append {A = A} tell s (x ∷ xs) ys =
     ∙ sym (append_assoc (tell s x) (log_of tell (core_step s x) xs) (log_of tell (core_run (core_step s x) xs) ys))
 
 -- a session that counts goes on counting
-pushed_counts : {S : Type 0} (s : Core S) (e : Entry) (b : Bool) → s.counts ≡ true → (if b then record s { queued = s.queued ++ e ∷ [] } else one.ended s).counts ≡ true
+pushed_counts : {S : Type 0} (s : Core S) (e : Entry) (b : Bool) → s.counts ≡ true
+    → (if b then record s { queued = s.queued ++ e ∷ [] } else one.ended s).counts ≡ true
 pushed_counts s e true is = is
 pushed_counts s e false is = is
 
@@ -33,7 +34,8 @@ resumed_counts : {S : Type 0} (s : Core S) (c : ℕ) (o : Option ℕ) → s.coun
 resumed_counts s c None is = is
 resumed_counts s c (Some n) is = is
 
-pub counts_stay : {S : Type 0} (m : Hold) (op : Op S) (s : Core S) → s.counts ≡ true → (core_if true m s op).counts ≡ true
+pub counts_stay : {S : Type 0} (m : Hold) (op : Op S) (s : Core S) → s.counts ≡ true
+    → (core_if true m s op).counts ≡ true
 counts_stay (Held d) (one.Push e) s is = pushed_counts s e (has_room (one.waiting s) e) is
 counts_stay Away (one.Push e) s is = pushed_counts s e (has_room (one.waiting s) e) is
 counts_stay (Held d) one.Pull s is = pulled_counts s (one.next_entry s) is
@@ -51,7 +53,8 @@ counts_stay m op s is = is
 abbrev pub IsBare : {S : Type 0} → Session S → Type 0
 IsBare s = s.core.counts ≡ false → (s.trace.present.carried ≡ []) × (s.trace.present.arrived ≡ [])
 
-bare_if : {S : Type 0} (b : Bool) (m : Hold) (op : Op S) (s : Session S) → s.core.counts ≡ b → IsBare s → IsBare (step_if b m s op)
+bare_if : {S : Type 0} (b : Bool) (m : Hold) (op : Op S) (s : Session S) → s.core.counts ≡ b → IsBare s
+    → IsBare (step_if b m s op)
 bare_if true m op s is bare after = absurd (true≢false (sym (counts_stay m op s.core is) ∙ after))
 bare_if false Away (one.Begin c) s is bare after = bare is
 bare_if false m op s is bare after = bare is
@@ -60,30 +63,38 @@ bare_if false m op s is bare after = bare is
 abbrev pub IsNumbered : {S : Type 0} → Session S → Type 0
 IsNumbered s = (d : ℕ) → s.core.hold ≡ Held d → s.trace.present.number ≡ d
 
-pushed_hold : {S : Type 0} (s : Core S) (e : Entry) (d : ℕ) (b : Bool) → (if b then record s { queued = s.queued ++ e ∷ [] } else one.ended s).hold ≡ Held d → s.hold ≡ Held d
+pushed_hold : {S : Type 0} (s : Core S) (e : Entry) (d : ℕ) (b : Bool)
+    → (if b then record s { queued = s.queued ++ e ∷ [] } else one.ended s).hold ≡ Held d → s.hold ≡ Held d
 pushed_hold s e d true is = is
 pushed_hold s e d false is = absurd (cc)
 
-uncounted_hold : {S : Type 0} (s : Core S) (o : Option Entry) (d : ℕ) → (one.pulled_uncounted s o).hold ≡ Held d → s.hold ≡ Held d
+uncounted_hold : {S : Type 0} (s : Core S) (o : Option Entry) (d : ℕ) → (one.pulled_uncounted s o).hold ≡ Held d
+    → s.hold ≡ Held d
 uncounted_hold s None d is = is
 uncounted_hold s (Some e) d is = is
 
-acknowledged_hold : {S : Type 0} (s : Core S) (o : Option ℕ) (d : ℕ) → (one.acknowledged s o).hold ≡ Held d → s.hold ≡ Held d
+acknowledged_hold : {S : Type 0} (s : Core S) (o : Option ℕ) (d : ℕ) → (one.acknowledged s o).hold ≡ Held d
+    → s.hold ≡ Held d
 acknowledged_hold s None d is = absurd (cc)
 acknowledged_hold s (Some n) d is = is
 
-pulled_number : {S : Type 0} (s : Session S) (o : Option Entry) (d : ℕ) → IsNumbered s → (one.pulled s.core o).hold ≡ Held d → (past.carries s.trace o).present.number ≡ d
+pulled_number : {S : Type 0} (s : Session S) (o : Option Entry) (d : ℕ) → IsNumbered s
+    → (one.pulled s.core o).hold ≡ Held d → (past.carries s.trace o).present.number ≡ d
 pulled_number s None d num is = num d is
 pulled_number s (Some e) d num is = num d is
 
-resumed_number : {S : Type 0} (s : Session S) (c : ℕ) (o : Option ℕ) (d : ℕ) → IsNumbered s → (one.resumed s.core c o).hold ≡ Held d → (past.opens s.trace c o).present.number ≡ d
+resumed_number : {S : Type 0} (s : Session S) (c : ℕ) (o : Option ℕ) (d : ℕ) → IsNumbered s
+    → (one.resumed s.core c o).hold ≡ Held d → (past.opens s.trace c o).present.number ≡ d
 resumed_number s c None d num is = num d is
 resumed_number s c (Some n) d num is = cc
 
-pub numbered_if : {S : Type 0} (b : Bool) (m : Hold) (op : Op S) (s : Session S) → s.core.hold ≡ m → IsNumbered s → IsNumbered (step_if b m s op)
+pub numbered_if : {S : Type 0} (b : Bool) (m : Hold) (op : Op S) (s : Session S) → s.core.hold ≡ m → IsNumbered s
+    → IsNumbered (step_if b m s op)
 numbered_if false Away (one.Begin c) s m num d is = cc
-numbered_if true (Held v) (one.Push e) s m num d is = num d (pushed_hold s.core e d (has_room (one.waiting s.core) e) is)
-numbered_if false (Held v) (one.Push e) s m num d is = num d (pushed_hold s.core e d (has_room (one.waiting s.core) e) is)
+numbered_if true (Held v) (one.Push e) s m num d is =
+    num d (pushed_hold s.core e d (has_room (one.waiting s.core) e) is)
+numbered_if false (Held v) (one.Push e) s m num d is =
+    num d (pushed_hold s.core e d (has_room (one.waiting s.core) e) is)
 numbered_if true Away (one.Push e) s m num d is = num d (pushed_hold s.core e d (has_room (one.waiting s.core) e) is)
 numbered_if false (Held v) one.Pull s m num d is = num d (uncounted_hold s.core (one.next_entry s.core) d is)
 numbered_if true (Held v) one.Pull s m num d is = pulled_number s (one.next_entry s.core) d num is
@@ -111,7 +122,8 @@ pub numbered_step : {S : Type 0} (op : Op S) (s : Session S) → IsNumbered s �
 numbered_step op s num = numbered_if s.core.counts s.core.hold op s refl num
 
 -- entries, connection by connection
-carried_more : (c : ℕ) (e : Entry) (es : List Entry) → carried_on c (es ++ e ∷ []) ≡ carried_on c es ++ record { connection = c; entry = e } ∷ []
+carried_more : (c : ℕ) (e : Entry) (es : List Entry)
+    → carried_on c (es ++ e ∷ []) ≡ carried_on c es ++ record { connection = c; entry = e } ∷ []
 carried_more c e [] = refl
 carried_more c e (x ∷ xs) = ap (λ (l : List Given). record { connection = c; entry = x } ∷ l) (carried_more c e xs)
 
@@ -123,11 +135,13 @@ carries_given t d (Some e) is = rw (← is) (
     ∙ sym (append_assoc (all_carried t.earlier) (carried_on t.present.number t.present.carried) (given_of t.present.number (Some e)))
     )
 
-opens_given : {S : Type 0} (t : Trace S) (c : ℕ) (o : Option ℕ) → all_carried (connections (past.opens t c o)) ≡ all_carried (connections t) ++ []
+opens_given : {S : Type 0} (t : Trace S) (c : ℕ) (o : Option ℕ)
+    → all_carried (connections (past.opens t c o)) ≡ all_carried (connections t) ++ []
 opens_given t c None = sym (append-nil _)
 opens_given t c (Some n) = refl
 
-step_given : {S : Type 0} (b : Bool) (m : Hold) (op : Op S) (s : Session S) → (b ≡ false → s.trace.present.carried ≡ []) → s.core.hold ≡ m → IsNumbered s
+step_given : {S : Type 0} (b : Bool) (m : Hold) (op : Op S) (s : Session S) → (b ≡ false → s.trace.present.carried ≡ [])
+    → s.core.hold ≡ m → IsNumbered s
     → all_carried (connections (trace_if b m s.core s.trace op)) ≡ all_carried (connections s.trace) ++ gives_if b m s.core op
 step_given true (Held d) one.Pull s bare is num = carries_given s.trace d (one.next_entry s.core) (num d is)
 step_given true (Held d) (one.Resume c h) s bare is num = opens_given s.trace c (one.named s.core h)
@@ -154,15 +168,19 @@ run_given s (op ∷ ops) bare num =
     ∙ append_assoc (all_carried (connections s.trace)) (gives s.core op) (log_of gives (core_step s.core op) ops))
 
 -- stanzas, connection by connection
-arrived_more : {S : Type 0} (c : ℕ) (x : S) (xs : List S) → arrived_on c (xs ++ x ∷ []) ≡ arrived_on c xs ++ record { connection = c; stanza = x } ∷ []
+arrived_more : {S : Type 0} (c : ℕ) (x : S) (xs : List S)
+    → arrived_on c (xs ++ x ∷ []) ≡ arrived_on c xs ++ record { connection = c; stanza = x } ∷ []
 arrived_more c x [] = refl
-arrived_more {S = S} c x (y ∷ ys) = ap (λ (l : List (Taken S)). record { connection = c; stanza = y } ∷ l) (arrived_more c x ys)
+arrived_more {S = S} c x (y ∷ ys) =
+    ap (λ (l : List (Taken S)). record { connection = c; stanza = y } ∷ l) (arrived_more c x ys)
 
-carries_taken : {S : Type 0} (t : Trace S) (o : Option Entry) → all_arrived (connections (past.carries t o)) ≡ all_arrived (connections t) ++ []
+carries_taken : {S : Type 0} (t : Trace S) (o : Option Entry)
+    → all_arrived (connections (past.carries t o)) ≡ all_arrived (connections t) ++ []
 carries_taken t None = sym (append-nil _)
 carries_taken t (Some e) = sym (append-nil _)
 
-opens_taken : {S : Type 0} (t : Trace S) (c : ℕ) (o : Option ℕ) → all_arrived (connections (past.opens t c o)) ≡ all_arrived (connections t) ++ []
+opens_taken : {S : Type 0} (t : Trace S) (c : ℕ) (o : Option ℕ)
+    → all_arrived (connections (past.opens t c o)) ≡ all_arrived (connections t) ++ []
 opens_taken t c None = sym (append-nil _)
 opens_taken t c (Some n) = refl
 
@@ -173,7 +191,8 @@ arrives_taken {S = S} t d x b is = rw (← is) (
     ∙ sym (append_assoc (all_arrived t.earlier) (arrived_on t.present.number t.present.arrived) (record { connection = t.present.number; stanza = x } ∷ []))
     )
 
-step_taken : {S : Type 0} (b : Bool) (m : Hold) (op : Op S) (s : Session S) → (b ≡ false → s.trace.present.arrived ≡ []) → s.core.hold ≡ m → IsNumbered s
+step_taken : {S : Type 0} (b : Bool) (m : Hold) (op : Op S) (s : Session S) → (b ≡ false → s.trace.present.arrived ≡ [])
+    → s.core.hold ≡ m → IsNumbered s
     → all_arrived (connections (trace_if b m s.core s.trace op)) ≡ all_arrived (connections s.trace) ++ takes_if b m op
 step_taken true (Held d) one.Pull s bare is num = carries_taken s.trace (one.next_entry s.core)
 step_taken true (Held d) (one.Resume c h) s bare is num = opens_taken s.trace c (one.named s.core h)

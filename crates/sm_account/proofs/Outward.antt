@@ -10,7 +10,8 @@ use Rattle.sm_account.specs.Prefixes.{IsPrefixOf}
 
 -- `queued` is what was queued before the session counted, what was handled on the earlier connections, what the present
 -- one carried, and the rest. The client last said that it handled `said`.
-pub record Outward {S : Type 0} (handles : ℕ → ℕ) (queued : List Entry) (kept sent base : ℕ) (carried : List Entry) (earlier : List (Connection S)) (said : ℕ) : Type 0 where
+pub record Outward {S : Type 0} (handles : ℕ → ℕ) (queued : List Entry) (kept sent base : ℕ) (carried : List Entry)
+    (earlier : List (Connection S)) (said : ℕ) : Type 0 where
   pub before : List Entry
   pub rest : List Entry
   pub whole : queued ≡ before ++ (handled_on handles earlier ++ (carried ++ rest))
@@ -22,13 +23,15 @@ pub record Outward {S : Type 0} (handles : ℕ → ℕ) (queued : List Entry) (k
   pub said_handled : said ≤ total handles earlier + handles (length earlier)
 
 -- the element after a front is the first of the rest
-pub next_of : {A : Type 0} → (xs rest : List A) (x : A) → slice_get (xs ++ rest) (length xs) ≡ Some x → (ys : List A) × (rest ≡ x ∷ ys)
+pub next_of : {A : Type 0} → (xs rest : List A) (x : A) → slice_get (xs ++ rest) (length xs) ≡ Some x
+    → (ys : List A) × (rest ≡ x ∷ ys)
 next_of [] [] x is = absurd (cc)
 next_of [] (y ∷ ys) x is = (ys, cc)
 next_of (z ∷ zs) rest x is = next_of zs rest x is
 
 -- the session begins to count
-pub starts : {S : Type 0} (handles : ℕ → ℕ) (queued : List Entry) (sent : ℕ) → sent ≤ length queued → Outward {S = S} handles queued sent sent sent [] [] 0
+pub starts : {S : Type 0} (handles : ℕ → ℕ) (queued : List Entry) (sent : ℕ) → sent ≤ length queued
+    → Outward {S = S} handles queued sent sent sent [] [] 0
 starts handles queued sent low = record {
   before = take sent queued;
   rest = drop sent queued;
@@ -45,10 +48,12 @@ starts handles queued sent low = record {
 joins : (xs ys rest : List Entry) (k : ℕ) → xs ++ (ys ++ rest) ≡ (xs ++ take k ys) ++ (drop k ys ++ rest)
 joins xs ys rest k =
     let whole : take k ys ++ drop k ys ≡ ys = take-append-drop k ys in
-    let moved : take k ys ++ (drop k ys ++ rest) ≡ ys ++ rest = sym (append_assoc (take k ys) (drop k ys) rest) ∙ ap (λ (l : List Entry). l ++ rest) whole in
+    let moved : take k ys ++ (drop k ys ++ rest) ≡ ys ++ rest =
+    sym (append_assoc (take k ys) (drop k ys) rest) ∙ ap (λ (l : List Entry). l ++ rest) whole in
     ap (λ (l : List Entry). xs ++ l) (sym moved) ∙ sym (append_assoc xs (take k ys) (drop k ys ++ rest))
 
-module _ {S : Type 0} {handles : ℕ → ℕ} {queued : List Entry} {kept sent base : ℕ} {carried : List Entry} {earlier : List (Connection S)} {said : ℕ} (o : Outward handles queued kept sent base carried earlier said) where
+module _ {S : Type 0} {handles : ℕ → ℕ} {queued : List Entry} {kept sent base : ℕ} {carried : List Entry}
+    {earlier : List (Connection S)} {said : ℕ} (o : Outward handles queued kept sent base carried earlier said) where
   pub pushes : (x : Entry) → Outward handles (queued ++ x ∷ []) kept sent base carried earlier said
   pushes x = record {
     before = o.before;
@@ -62,7 +67,8 @@ module _ {S : Type 0} {handles : ℕ → ℕ} {queued : List Entry} {kept sent b
     said_handled = o.said_handled;
   }
 
-  pulls_first : (x : Entry) (ys : List Entry) → o.rest ≡ x ∷ ys → Outward handles queued kept (sent + 1) base (carried ++ x ∷ []) earlier said
+  pulls_first : (x : Entry) (ys : List Entry) → o.rest ≡ x ∷ ys
+      → Outward handles queued kept (sent + 1) base (carried ++ x ∷ []) earlier said
   pulls_first x ys first = record {
     before = o.before;
     rest = ys;
@@ -76,7 +82,8 @@ module _ {S : Type 0} {handles : ℕ → ℕ} {queued : List Entry} {kept sent b
   }
 
   -- what is sent next is the first of the rest
-  pub pulls : (x : Entry) → slice_get queued sent ≡ Some x → Outward handles queued kept (sent + 1) base (carried ++ x ∷ []) earlier said
+  pub pulls : (x : Entry) → slice_get queued sent ≡ Some x
+      → Outward handles queued kept (sent + 1) base (carried ++ x ∷ []) earlier said
   pulls x is =
       let front : List Entry = o.before ++ (handled_on handles earlier ++ carried) in
       let long : sent ≡ length front = simp length-append (omega (arith, o.sent_is, o.joined)) in
@@ -87,7 +94,8 @@ module _ {S : Type 0} {handles : ℕ → ℕ} {queued : List Entry} {kept sent b
       pulls_first x tail.0 tail.1
 
   -- the client says how much it handled
-  pub says : (v : ℕ) → v ≤ total handles earlier + length carried → v ≤ total handles earlier + handles (length earlier) → Outward handles queued (base + v) sent base carried earlier v
+  pub says : (v : ℕ) → v ≤ total handles earlier + length carried → v ≤ total handles earlier + handles (length earlier)
+      → Outward handles queued (base + v) sent base carried earlier v
   says v low high = record {
     before = o.before;
     rest = o.rest;
@@ -101,26 +109,31 @@ module _ {S : Type 0} {handles : ℕ → ℕ} {queued : List Entry} {kept sent b
   }
 
 -- the next connection begins after what was handled
-pub opens : {S : Type 0} {handles : ℕ → ℕ} {queued : List Entry} {kept sent base said : ℕ} (c : Connection S) {earlier : List (Connection S)} → handles (length earlier) ≤ length c.carried
+pub opens : {S : Type 0} {handles : ℕ → ℕ} {queued : List Entry} {kept sent base said : ℕ} (c : Connection S) {earlier : List (Connection S)}
+    → handles (length earlier) ≤ length c.carried
     → Outward handles queued kept sent base c.carried earlier said
     → Outward handles queued (base + (total handles earlier + handles (length earlier))) (base + (total handles earlier + handles (length earlier))) base [] (c ∷ earlier) (total handles earlier + handles (length earlier))
-opens {handles = handles} {queued = queued} {kept = kept} {sent = sent} {base = base} c {earlier = earlier} within o = record {
-  before = o.before;
-  rest = drop (handles (length earlier)) c.carried ++ o.rest;
-  whole = o.whole ∙ ap (λ (l : List Entry). o.before ++ l) (joins (handled_on handles earlier) c.carried o.rest (handles (length earlier)));
-  base_is = o.base_is;
-  joined =
-      let long : length (take (handles (length earlier)) c.carried) ≡ handles (length earlier) = grind (arith, common_steps) in
-      simp length-append (omega (arith, o.joined));
-  sent_is = omega (arith, o.base_is);
-  kept_is = omega (arith, o.base_is);
-  said_carried = omega arith;
-  said_handled = omega arith;
-}
+opens {handles = handles} {queued = queued} {kept = kept} {sent = sent} {base = base} c {earlier = earlier} within o =
+    record {
+      before = o.before;
+      rest = drop (handles (length earlier)) c.carried ++ o.rest;
+      whole =
+          o.whole ∙ ap (λ (l : List Entry). o.before ++ l) (joins (handled_on handles earlier) c.carried o.rest (handles (length earlier)));
+      base_is = o.base_is;
+      joined =
+          let long : length (take (handles (length earlier)) c.carried) ≡ handles (length earlier) =
+          grind (arith, common_steps) in
+          simp length-append (omega (arith, o.joined));
+      sent_is = omega (arith, o.base_is);
+      kept_is = omega (arith, o.base_is);
+      said_carried = omega arith;
+      said_handled = omega arith;
+    }
 
 -- what was handled is a prefix of what was queued since the session counts
 pub prefix : {S : Type 0} {handles : ℕ → ℕ} {queued : List Entry} {kept sent base said : ℕ} (c : Connection S) {earlier : List (Connection S)}
-    → Outward handles queued kept sent base c.carried earlier said → IsPrefixOf (handled_on handles (c ∷ earlier)) (drop base queued)
+    → Outward handles queued kept sent base c.carried earlier said
+    → IsPrefixOf (handled_on handles (c ∷ earlier)) (drop base queued)
 prefix {handles = handles} {queued = queued} c {earlier = earlier} o =
     let left : List Entry = drop (handles (length earlier)) c.carried ++ o.rest in
     let split : queued ≡ o.before ++ (handled_on handles (c ∷ earlier) ++ left) =

@@ -40,7 +40,8 @@ moved queued kept sent asked_at base place q low high = record {
       let was : length (drop kept queued) ≡ length queued - kept = length-drop kept queued in
       omega (arith, q.few);
   small =
-      let less : frames_length (drop place queued) ≤ frames_length (drop kept queued) = less_waits kept place queued low in
+      let less : frames_length (drop place queued) ≤ frames_length (drop kept queued) =
+      less_waits kept place queued low in
       omega (arith, q.small);
 }
 
@@ -52,11 +53,14 @@ both false b is = absurd (cc)
 longer : (queued : List Entry) (kept sent asked_at base : ℕ) (e : Entry) → has_room (drop kept queued) e ≡ true
     → QueueIsInOrder queued kept sent asked_at base → QueueIsInOrder (queued ++ e ∷ []) kept sent asked_at base
 longer queued kept sent asked_at base e room q =
-    let rest : drop kept (queued ++ e ∷ []) ≡ drop kept queued ++ e ∷ [] = drop-append-le kept queued (e ∷ []) (omega (arith, q.in_order, q.within)) in
-    let limits = both (nat_lt (length (drop kept queued)) most_waiting) (nat_le (frames_length (drop kept queued) + length (frame e)) most_bytes) room in
+    let rest : drop kept (queued ++ e ∷ []) ≡ drop kept queued ++ e ∷ [] =
+    drop-append-le kept queued (e ∷ []) (omega (arith, q.in_order, q.within)) in
+    let limits =
+    both (nat_lt (length (drop kept queued)) most_waiting) (nat_le (frames_length (drop kept queued) + length (frame e)) most_bytes) room in
     let few = ltb-true _ _ limits.0 in
     let small = leb-true _ _ limits.1 in
-    let sum : frames_length (drop kept queued ++ e ∷ []) ≡ frames_length (drop kept queued) + frames_length (e ∷ []) = sum_by-append (λ e. length (frame e)) (drop kept queued) (e ∷ []) in
+    let sum : frames_length (drop kept queued ++ e ∷ []) ≡ frames_length (drop kept queued) + frames_length (e ∷ []) =
+    sum_by-append (λ e. length (frame e)) (drop kept queued) (e ∷ []) in
     let one : frames_length (e ∷ []) ≡ length (frame e) + 0 = frames_of_cons e [] in
     record {
       began = q.began;
@@ -68,17 +72,20 @@ longer queued kept sent asked_at base e room q =
     }
 
 -- what a count names lies from what is done with to what was sent
-pub named_within : (kept sent base h n : ℕ) → base ≤ kept → number (kept - base) (sent - base) h ≡ Some n → (kept ≤ base + n) × (n ≤ sent - base)
+pub named_within : (kept sent base h n : ℕ) → base ≤ kept → number (kept - base) (sent - base) h ≡ Some n
+    → (kept ≤ base + n) × (n ≤ sent - base)
 named_within kept sent base h n began is =
     let at = number-some (kept - base) (sent - base) h n is in
     (omega (arith, at.low), at.high)
 
 pushed : {S : Type 0} (s : Core S) (e : Entry) (b : Bool) → has_room (one.waiting s) e ≡ b → IsInOrder s
     → IsInOrder (if b then record s { queued = s.queued ++ e ∷ [] } else one.ended s)
-pushed s e true room o = record { queue = longer s.queued s.kept s.sent s.asked_at s.base_out e room o.queue; base_in = o.base_in }
+pushed s e true room o =
+    record { queue = longer s.queued s.kept s.sent s.asked_at s.base_out e room o.queue; base_in = o.base_in }
 pushed s e false room o = record { queue = o.queue; base_in = o.base_in }
 
-pulled_uncounted : {S : Type 0} (s : Core S) (o : Option Entry) → one.next_entry s ≡ o → IsInOrder s → IsInOrder (one.pulled_uncounted s o)
+pulled_uncounted : {S : Type 0} (s : Core S) (o : Option Entry) → one.next_entry s ≡ o → IsInOrder s
+    → IsInOrder (one.pulled_uncounted s o)
 pulled_uncounted s None is o = o
 pulled_uncounted s (Some e) is o = record {
   queue =
@@ -139,20 +146,24 @@ enabled s o =
       base_in = le_refl (length s.acts);
     }
 
-acknowledged : {S : Type 0} (s : Core S) (h : ℕ) (o : Option ℕ) → one.named s h ≡ o → IsInOrder s → IsInOrder (one.acknowledged s o)
+acknowledged : {S : Type 0} (s : Core S) (h : ℕ) (o : Option ℕ) → one.named s h ≡ o → IsInOrder s
+    → IsInOrder (one.acknowledged s o)
 acknowledged s h None is o = record { queue = o.queue; base_in = o.base_in }
 acknowledged s h (Some n) is o =
     let at = named_within s.kept s.sent s.base_out h n o.queue.began is in
     record {
-      queue = moved s.queued s.kept s.sent s.asked_at s.base_out (s.base_out + n) o.queue at.0 (omega (arith, at.1, o.queue.began, o.queue.in_order));
+      queue =
+          moved s.queued s.kept s.sent s.asked_at s.base_out (s.base_out + n) o.queue at.0 (omega (arith, at.1, o.queue.began, o.queue.in_order));
       base_in = o.base_in;
     }
 
-resumed : {S : Type 0} (s : Core S) (c h : ℕ) (o : Option ℕ) → one.named s h ≡ o → IsInOrder s → IsInOrder (one.resumed s c o)
+resumed : {S : Type 0} (s : Core S) (c h : ℕ) (o : Option ℕ) → one.named s h ≡ o → IsInOrder s
+    → IsInOrder (one.resumed s c o)
 resumed s c h None is o = o
 resumed s c h (Some n) is o =
     let at = named_within s.kept s.sent s.base_out h n o.queue.began is in
-    let q = moved s.queued s.kept s.sent s.asked_at s.base_out (s.base_out + n) o.queue at.0 (omega (arith, at.1, o.queue.began, o.queue.in_order)) in
+    let q =
+    moved s.queued s.kept s.sent s.asked_at s.base_out (s.base_out + n) o.queue at.0 (omega (arith, at.1, o.queue.began, o.queue.in_order)) in
     record {
       queue = record {
         began = q.began;
@@ -198,7 +209,8 @@ step_in_order op s o = step_if s.counts s.hold op s o
 
 pub unmade_in_order : {S : Type 0} → IsInOrder {S = S} one.unmade
 unmade_in_order = record {
-  queue = record { began = omega arith; in_order = omega arith; asked = omega arith; within = omega arith; few = omega arith; small = omega arith };
+  queue =
+      record { began = omega arith; in_order = omega arith; asked = omega arith; within = omega arith; few = omega arith; small = omega arith };
   base_in = omega arith;
 }
 

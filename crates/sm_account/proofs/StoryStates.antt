@@ -17,10 +17,12 @@ use Rattle.sm_account.specs.Stories.{notes, notes_sent, reader, stanzas, stanzas
 
 -- a number in a window is the one with its count
 is_number : (q n : ℕ) → n ≤ q → q ≤ 5000 → number 0 q n ≡ Some n
-is_number q n low small = number-is 0 q n n (omega arith) (record { low = omega arith; high = low; count = omega arith })
+is_number q n low small =
+    number-is 0 q n n (omega arith) (record { low = omega arith; high = low; count = omega arith })
 
 -- three notes that a queue has room for
-room : (queued : List Entry) (e : Entry) → length queued ≤ 2 → frames_length queued + length (frame e) ≤ most_bytes → has_room queued e ≡ true
+room : (queued : List Entry) (e : Entry) → length queued ≤ 2 → frames_length queued + length (frame e) ≤ most_bytes
+    → has_room queued e ≡ true
 room queued e few small =
     ap (λ (b : Bool). b && nat_le (frames_length queued + length (frame e)) most_bytes) (lt-ltb (length queued) 5000 (omega arith))
     ∙ le-leb (frames_length queued + length (frame e)) most_bytes small
@@ -76,7 +78,8 @@ module _ (S : Type 0) (c d : ℕ) (n1 n2 n3 : Entry) (fits : frames_length (n1 �
   abbrev last : Session S
   last = at (Held d) (n1 ∷ n2 ∷ n3 ∷ []) 2 3 (over d (n3 ∷ [])) (over c (n1 ∷ n2 ∷ n3 ∷ []) ∷ [])
 
-  pushes : (queued : List Entry) (e : Entry) → has_room queued e ≡ true → step (queuing queued) (Push e) ≡ queuing (queued ++ e ∷ [])
+  pushes : (queued : List Entry) (e : Entry) → has_room queued e ≡ true
+      → step (queuing queued) (Push e) ≡ queuing (queued ++ e ∷ [])
   pushes queued e is =
       ap (λ (b : Bool). record {
         core = if b then having (Held c) (queued ++ e ∷ []) 0 0 else one.ended (having (Held c) queued 0 0);
@@ -96,7 +99,8 @@ module _ (S : Type 0) (c d : ℕ) (n1 n2 n3 : Entry) (fits : frames_length (n1 �
   names_two = is_number 3 2 (omega arith) (omega arith)
 
   resumes : step dropped (Resume d 2) ≡ resumed
-  resumes = ap (λ (o : Option ℕ). record { core = one.resumed dropped.core d o; trace = past.opens dropped.trace d o }) names_two
+  resumes =
+      ap (λ (o : Option ℕ). record { core = one.resumed dropped.core d o; trace = past.opens dropped.trace d o }) names_two
 
   abbrev after_queuing : List (Op S)
   after_queuing = Pull ∷ Pull ∷ Pull ∷ Drop ∷ Resume d 2 ∷ Pull ∷ []
@@ -168,7 +172,8 @@ module _ (S : Type 0) (c d : ℕ) (n1 n2 n3 : Entry) (fits : frames_length (n1 �
   )
 
   last_fits : AllFit reader (connections last.trace)
-  last_fits = (record { within = omega arith; in_order = ([], refl) }, (record { within = omega arith; in_order = ([], refl) }, tt))
+  last_fits =
+      (record { within = omega arith; in_order = ([], refl) }, (record { within = omega arith; in_order = ([], refl) }, tt))
 
   pub notes_are_an_account : IsAccount {S = S} reader (notes c d n1 n2 n3)
   notes_are_an_account = record {
@@ -226,7 +231,8 @@ module _ (S : Type 0) (c d : ℕ) (x1 x2 x3 x4 x5 : S) where
   names_none = is_number 0 0 (omega arith) (omega arith)
 
   goes_on : step cut (Resume d 0) ≡ again
-  goes_on = ap (λ (o : Option ℕ). record { core = one.resumed cut.core d o; trace = past.opens cut.trace d o }) names_none
+  goes_on =
+      ap (λ (o : Option ℕ). record { core = one.resumed cut.core d o; trace = past.opens cut.trace d o }) names_none
 
   stanzas_end : run start (stanzas c d x1 x2 x3 x4 x5) ≡ end
   stanzas_end = ap (λ (s : Session S). run s (Act x4 ∷ Act x5 ∷ [])) goes_on
@@ -276,7 +282,8 @@ module _ (S : Type 0) (c d : ℕ) (x1 x2 x3 x4 x5 : S) where
   )
 
   end_fits : AllFit client (connections end.trace)
-  end_fits = (record { within = omega arith; in_order = ([], refl) }, (record { within = omega arith; in_order = (x4 ∷ x5 ∷ [], refl) }, tt))
+  end_fits =
+      (record { within = omega arith; in_order = ([], refl) }, (record { within = omega arith; in_order = (x4 ∷ x5 ∷ [], refl) }, tt))
 
   pub stanzas_are_an_account : IsAccount client (stanzas c d x1 x2 x3 x4 x5)
   stanzas_are_an_account = record {

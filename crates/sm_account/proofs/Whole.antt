@@ -32,7 +32,8 @@ itself t = record {
 
 module _ {S : Type 0} (t u : Trace S) where
   -- more on the present connection, and then the rest
-  longer : (t' : Trace S) (xs : List Entry) (ys : List S) → t'.earlier ≡ t.earlier → t'.present.carried ≡ t.present.carried ++ xs
+  longer : (t' : Trace S) (xs : List Entry) (ys : List S) → t'.earlier ≡ t.earlier
+      → t'.present.carried ≡ t.present.carried ++ xs
       → t'.present.arrived ≡ t.present.arrived ++ ys → Extends t' u → Extends t u
   longer t' xs ys e f g x = record {
     newer = x.newer;
@@ -40,11 +41,14 @@ module _ {S : Type 0} (t u : Trace S) where
     more_carried = xs ++ x.more_carried;
     more_arrived = ys ++ x.more_arrived;
     all = x.all ∙ ap (λ (l : List (Connection S)). x.newer ++ (x.same ∷ l)) e;
-    carried = x.carried ∙ (ap (λ (l : List Entry). l ++ x.more_carried) f ∙ append_assoc t.present.carried xs x.more_carried);
-    arrived = x.arrived ∙ (ap (λ (l : List S). l ++ x.more_arrived) g ∙ append_assoc t.present.arrived ys x.more_arrived);
+    carried =
+        x.carried ∙ (ap (λ (l : List Entry). l ++ x.more_carried) f ∙ append_assoc t.present.carried xs x.more_carried);
+    arrived =
+        x.arrived ∙ (ap (λ (l : List S). l ++ x.more_arrived) g ∙ append_assoc t.present.arrived ys x.more_arrived);
   }
 
-  alike : (t' : Trace S) → t'.earlier ≡ t.earlier → t'.present.carried ≡ t.present.carried → t'.present.arrived ≡ t.present.arrived
+  alike : (t' : Trace S) → t'.earlier ≡ t.earlier → t'.present.carried ≡ t.present.carried
+      → t'.present.arrived ≡ t.present.arrived
       → Extends t' u → Extends t u
   alike t' e f g x = longer t' [] [] e (f ∙ sym (append-nil _)) (g ∙ sym (append-nil _)) x
 
@@ -55,7 +59,8 @@ module _ {S : Type 0} (t u : Trace S) where
     same = t.present;
     more_carried = [];
     more_arrived = [];
-    all = x.all ∙ (ap (λ (l : List (Connection S)). x.newer ++ (x.same ∷ l)) e ∙ sym (append_assoc x.newer (x.same ∷ []) (t.present ∷ t.earlier)));
+    all =
+        x.all ∙ (ap (λ (l : List (Connection S)). x.newer ++ (x.same ∷ l)) e ∙ sym (append_assoc x.newer (x.same ∷ []) (t.present ∷ t.earlier)));
     carried = sym (append-nil _);
     arrived = sym (append-nil _);
   }
@@ -68,7 +73,8 @@ module _ {S : Type 0} (t u : Trace S) where
   opens c None x = x
   opens c (Some n) x = opened (past.opens t c (Some n)) refl x
 
-step_extends : {S : Type 0} (b : Bool) (m : Hold) (op : Op S) (s : Session S) (u : Trace S) → Extends (trace_if b m s.core s.trace op) u → Extends s.trace u
+step_extends : {S : Type 0} (b : Bool) (m : Hold) (op : Op S) (s : Session S) (u : Trace S)
+    → Extends (trace_if b m s.core s.trace op) u → Extends s.trace u
 step_extends false Away (one.Begin c) s u x = alike s.trace u _ refl refl refl x
 step_extends true (Held d) one.Pull s u x = carries s.trace u (one.next_entry s.core) x
 step_extends true (Held d) one.Ask s u x = alike s.trace u _ refl refl refl x
@@ -84,12 +90,14 @@ extends s [] = itself s.trace
 extends s (op ∷ ops) = step_extends s.core.counts s.core.hold op s (run (step s op) ops).trace (extends (step s op) ops)
 
 -- one of the connections
-fit_at : {S : Type 0} (a : Account S) (newer : List (Connection S)) (c : Connection S) (cs : List (Connection S)) → AllFit a (newer ++ (c ∷ cs)) → Fits a (length cs) c
+fit_at : {S : Type 0} (a : Account S) (newer : List (Connection S)) (c : Connection S) (cs : List (Connection S))
+    → AllFit a (newer ++ (c ∷ cs)) → Fits a (length cs) c
 fit_at a [] c cs all = all.0
 fit_at a (n ∷ newer) c cs all = fit_at a newer c cs all.1
 
 -- the connection before the present one
-fits_before : {S : Type 0} (a : Account S) (t : Trace S) (c : Connection S) (s : Session S) (ops : List (Op S)) → s.trace.earlier ≡ c ∷ t.earlier
+fits_before : {S : Type 0} (a : Account S) (t : Trace S) (c : Connection S) (s : Session S) (ops : List (Op S))
+    → s.trace.earlier ≡ c ∷ t.earlier
     → AllFit a (connections (run s ops).trace) → Fits a (length t.earlier) c
 fits_before {S = S} a t c s ops is all =
     let x = extends s ops in
@@ -100,24 +108,30 @@ fits_before {S = S} a t c s ops is all =
 get_drop : {A : Type 0} (r k : ℕ) (xs : List A) → slice_get (drop r xs) k ≡ slice_get xs (r + k)
 get_drop zero k xs = let e : k ≡ 0 + k = omega arith in ap (slice_get xs) e
 get_drop (suc r) k [] = refl
-get_drop (suc r) k (x ∷ xs) = let e : suc (r + k) ≡ suc r + k = omega arith in get_drop r k xs ∙ ap (slice_get (x ∷ xs)) e
+get_drop (suc r) k (x ∷ xs) =
+    let e : suc (r + k) ≡ suc r + k = omega arith in get_drop r k xs ∙ ap (slice_get (x ∷ xs)) e
 
 get_seam : {A : Type 0} (xs rest : List A) (x : A) → slice_get (xs ++ (x ∷ rest)) (length xs) ≡ Some x
 get_seam [] rest x = refl
 get_seam (y ∷ ys) rest x = get_seam ys rest x
 
 -- the stanza after some of those from place r on
-next_is : {A : Type 0} (xs rest whole : List A) (x : A) (r : ℕ) → xs ++ (x ∷ rest) ≡ drop r whole → slice_get whole (r + length xs) ≡ Some x
-next_is {A} xs rest whole x r e = sym (get_drop r (length xs) whole) ∙ (ap (λ (l : List A). slice_get l (length xs)) (sym e) ∙ get_seam xs rest x)
+next_is : {A : Type 0} (xs rest whole : List A) (x : A) (r : ℕ) → xs ++ (x ∷ rest) ≡ drop r whole
+    → slice_get whole (r + length xs) ≡ Some x
+next_is {A} xs rest whole x r e =
+    sym (get_drop r (length xs) whole) ∙ (ap (λ (l : List A). slice_get l (length xs)) (sym e) ∙ get_seam xs rest x)
 
-arrives_next : {S : Type 0} (a : Account S) (i : ℕ) (before more : List S) (x : S) (c : Connection S) → Fits a i c → c.arrived ≡ (before ++ x ∷ []) ++ more
+arrives_next : {S : Type 0} (a : Account S) (i : ℕ) (before more : List S) (x : S) (c : Connection S) → Fits a i c
+    → c.arrived ≡ (before ++ x ∷ []) ++ more
     → slice_get a.stanzas (a.begins i + length before) ≡ Some x
 arrives_next {S = S} a i before more x c f is =
     next_is before (more ++ f.in_order.0) a.stanzas x (a.begins i)
     (sym (ap (λ (l : List S). l ++ f.in_order.0) is ∙ (append_assoc (before ++ x ∷ []) more f.in_order.0 ∙ append_assoc before (x ∷ []) (more ++ f.in_order.0))) ∙ f.in_order.1)
 
-arrival_is_next : {S : Type 0} (a : Account S) (s s' : Session S) (x : S) (ops : List (Op S)) → s'.trace.earlier ≡ s.trace.earlier
-    → s'.trace.present.arrived ≡ s.trace.present.arrived ++ x ∷ [] → s.trace.present.short ≡ false → AllFit a (connections (run s' ops).trace) → IsNext a s x
+arrival_is_next : {S : Type 0} (a : Account S) (s s' : Session S) (x : S) (ops : List (Op S))
+    → s'.trace.earlier ≡ s.trace.earlier
+    → s'.trace.present.arrived ≡ s.trace.present.arrived ++ x ∷ [] → s.trace.present.short ≡ false
+    → AllFit a (connections (run s' ops).trace) → IsNext a s x
 arrival_is_next {S = S} a s s' x ops alike is whole all =
     let y = extends s' ops in
     let fit = fit_at a y.newer y.same s'.trace.earlier (subst (AllFit a) y.all all) in
@@ -127,23 +141,29 @@ arrival_is_next {S = S} a s s' x ops alike is whole all =
       whole = whole;
     }
 
-resume_meets : {S : Type 0} (a : Account S) (s : Session S) (said c h v : ℕ) (k : Core S) (ops : List (Op S)) (o : Option ℕ) → ResumesIf a s said h v o
-    → AllFit a (connections (run (record { core = k; trace = past.opens s.trace c o }) ops).trace) → GoesOnIf a s said h v o
+resume_meets : {S : Type 0} (a : Account S) (s : Session S) (said c h v : ℕ) (k : Core S) (ops : List (Op S)) (o : Option ℕ)
+    → ResumesIf a s said h v o
+    → AllFit a (connections (run (record { core = k; trace = past.opens s.trace c o }) ops).trace)
+    → GoesOnIf a s said h v o
 resume_meets a s said c h v k ops None e all = e
 resume_meets a s said c h v k ops (Some n) (r, e) all =
     ((fits_before a s.trace s.trace.present (record { core = k; trace = past.opens s.trace c (Some n) }) ops refl all).within, r, e)
 
-meets : {S : Type 0} (b : Bool) (m : Hold) (op : Op S) (a : Account S) (s : Session S) (said v : ℕ) (ops : List (Op S)) → HoldsOf b m a s said op v
+meets : {S : Type 0} (b : Bool) (m : Hold) (op : Op S) (a : Account S) (s : Session S) (said v : ℕ) (ops : List (Op S))
+    → HoldsOf b m a s said op v
     → AllFit a (connections (run (step_if b m s op) ops).trace) → Meets b m a s said op v
 meets true (Held d) (one.Ack h) a s said v ops e all = e
-meets true (Held d) (one.Act x) a s said v ops (e, whole) all = (e, arrival_is_next a s (step_if true (Held d) s (one.Act x)) x ops refl refl whole all)
-meets true (Held d) (one.Short x) a s said v ops (e, whole) all = (e, arrival_is_next a s (step_if true (Held d) s (one.Short x)) x ops refl refl whole all)
+meets true (Held d) (one.Act x) a s said v ops (e, whole) all =
+    (e, arrival_is_next a s (step_if true (Held d) s (one.Act x)) x ops refl refl whole all)
+meets true (Held d) (one.Short x) a s said v ops (e, whole) all =
+    (e, arrival_is_next a s (step_if true (Held d) s (one.Short x)) x ops refl refl whole all)
 meets true (Held d) (one.Resume c h) a s said v ops e all = resume_meets a s said c h v _ ops (one.named s.core h) e all
 meets true Away (one.Resume c h) a s said v ops e all = resume_meets a s said c h v _ ops (one.named s.core h) e all
 meets true m op a s said v ops e all = e
 meets false m op a s said v ops e all = e
 
-pub follows : {S : Type 0} (a : Account S) (s : Session S) (said : ℕ) (ops : List (Op S)) → HoldsOfAll a s said ops → AllFit a (connections (run s ops).trace) → Follows a s said ops
+pub follows : {S : Type 0} (a : Account S) (s : Session S) (said : ℕ) (ops : List (Op S)) → HoldsOfAll a s said ops
+    → AllFit a (connections (run s ops).trace) → Follows a s said ops
 follows a s said [] e all = all.0.within
 follows a s said (op ∷ ops) (v, e, rest) all =
     (v, meets s.core.counts s.core.hold op a s said v ops e all, follows a (step s op) v ops rest all)

@@ -59,7 +59,8 @@ trace_if true Away s t (Resume c h) = opens t c (named s h)
 trace_if counts hold s t op = t
 
 abbrev pub step_if : {S : Type 0} → Bool → Hold → Session S → Op S → Session S
-step_if counts hold s op = record { core = core_if counts hold s.core op; trace = trace_if counts hold s.core s.trace op }
+step_if counts hold s op =
+    record { core = core_if counts hold s.core op; trace = trace_if counts hold s.core s.trace op }
 
 abbrev pub step : {S : Type 0} → Session S → Op S → Session S
 step s op = step_if s.core.counts s.core.hold s op

@@ -101,4 +101,5 @@ AreDistinct (n ∷ ns) = NotIn n ns × AreDistinct ns
 -- each connection carried, and had arrive, what these functions tell of its number
 abbrev pub AllAre : {S : Type 0} → (ℕ → List Entry) → (ℕ → List S) → List (Connection S) → Type 0
 AllAre carried arrived [] = Unit {0}
-AllAre carried arrived (c ∷ cs) = (c.carried ≡ carried c.number) × (c.arrived ≡ arrived c.number) × AllAre carried arrived cs
+AllAre carried arrived (c ∷ cs) =
+    (c.carried ≡ carried c.number) × (c.arrived ≡ arrived c.number) × AllAre carried arrived cs
