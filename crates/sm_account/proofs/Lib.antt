@@ -9,4 +9,5 @@ pub mod Promises
 pub mod Logs
 pub mod Done
 pub mod Apart
-pub mod StoryStates
+pub mod NotesResumed
+pub mod StanzasResumed
