@@ -12,7 +12,7 @@ use Rattle.sm_account.specs.Sessions as one
 use Rattle.sm_account.specs.Sessions.{Hold, Held, Away, Core, Op, Push, Pull, Enable, Drop, Resume, Act, acted, named}
 use Rattle.sm_account.specs.Connections as past
 use Rattle.sm_account.specs.Connections.{Connection, Trace, Session, connections, start, step, run}
-use Rattle.sm_account.specs.Accounts.{AllFit, HoldsOfAll, IsAccount, ResumesIf, handled}
+use Rattle.sm_account.specs.Accounts.{AllConnectionsFit, AllOperationsFit, IsAccount, ResumesIf, handled}
 use Rattle.sm_account.specs.Stories.{notes, notes_sent, reader}
 
 -- a number in a window is the one with its count
@@ -166,7 +166,7 @@ module _ (S : Type 0) (c d : ℕ) (early n1 n2 n3 : Entry) (fits : HaveRoom earl
   )
 
   abbrev Holds : Session S → (said : ℕ) → List (Op S) → Type 0
-  Holds s said ops = HoldsOfAll reader s said ops
+  Holds s said ops = AllOperationsFit reader s said ops
 
   last_holds : Holds (step dropped (Resume d 2)) 2 (Pull ∷ [])
   last_holds = subst (λ (s : Session S). Holds s 2 (Pull ∷ [])) (sym resumes) (2, refl, tt)
@@ -184,7 +184,7 @@ module _ (S : Type 0) (c d : ℕ) (early n1 n2 n3 : Entry) (fits : HaveRoom earl
   early_holds : Holds (step (new []) (Push early)) 0 after_early
   early_holds = subst (λ (s : Session S). Holds s 0 after_early) (sym early_push) (0, refl, (0, refl, (0, refl, one_holds)))
 
-  last_fits : AllFit reader (connections last.trace)
+  last_fits : AllConnectionsFit reader (connections last.trace)
   last_fits = (
     record { within = omega arith; in_order = ([], refl) },
     (record { within = omega arith; in_order = ([], refl) }, tt),
@@ -193,7 +193,7 @@ module _ (S : Type 0) (c d : ℕ) (early n1 n2 n3 : Entry) (fits : HaveRoom earl
   pub notes_are_an_account : IsAccount {S = S} reader (notes c d early n1 n2 n3)
   notes_are_an_account = record {
     first = refl;
-    fits = subst (λ (s : Session S). AllFit reader (connections s.trace)) (sym notes_end) last_fits;
+    fits = subst (λ (s : Session S). AllConnectionsFit reader (connections s.trace)) (sym notes_end) last_fits;
     each = (0, refl, (0, refl, early_holds));
   }
 

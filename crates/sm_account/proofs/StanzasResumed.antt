@@ -4,7 +4,7 @@ use Rattle.sm_account.specs.Sessions as one
 use Rattle.sm_account.specs.Sessions.{Hold, Held, Away, Core, Op, Push, Pull, Enable, Drop, Resume, Act, acted, named}
 use Rattle.sm_account.specs.Connections as past
 use Rattle.sm_account.specs.Connections.{Connection, Trace, Session, connections, start, step, run}
-use Rattle.sm_account.specs.Accounts.{Account, AllFit, HoldsOfAll, IsAccount, ResumesIf}
+use Rattle.sm_account.specs.Accounts.{Account, AllConnectionsFit, AllOperationsFit, IsAccount, ResumesIf}
 use Rattle.sm_account.specs.Stories.{stanzas, stanzas_came, writer}
 use Rattle.sm_account.proofs.NotesResumed.{is_number}
 
@@ -68,14 +68,14 @@ module _ {S : Type 0} (c d : ℕ) (x0 x1 x2 x3 x4 x5 : S) where
     refl,
   )
 
-  end_holds : HoldsOfAll client (step cut (Resume d 0)) 0 (Act x4 ∷ Act x5 ∷ [])
-  end_holds = subst (λ (s : Session S). HoldsOfAll client s 0 (Act x4 ∷ Act x5 ∷ [])) (sym goes_on)
+  end_holds : AllOperationsFit client (step cut (Resume d 0)) 0 (Act x4 ∷ Act x5 ∷ [])
+  end_holds = subst (λ (s : Session S). AllOperationsFit client s 0 (Act x4 ∷ Act x5 ∷ [])) (sym goes_on)
       (0, (refl, refl), (0, (refl, refl), tt))
 
-  cut_holds : HoldsOfAll client cut 0 (Resume d 0 ∷ Act x4 ∷ Act x5 ∷ [])
+  cut_holds : AllOperationsFit client cut 0 (Resume d 0 ∷ Act x4 ∷ Act x5 ∷ [])
   cut_holds = (0, goes_on_holds, end_holds)
 
-  end_fits : AllFit client (connections end.trace)
+  end_fits : AllConnectionsFit client (connections end.trace)
   end_fits = (
     record { within = omega arith; in_order = ([], refl) },
     (record { within = omega arith; in_order = (x4 ∷ x5 ∷ [], refl) }, tt),
@@ -84,7 +84,7 @@ module _ {S : Type 0} (c d : ℕ) (x0 x1 x2 x3 x4 x5 : S) where
   pub stanzas_are_an_account : IsAccount client (stanzas c d x0 x1 x2 x3 x4 x5)
   stanzas_are_an_account = record {
     first = refl;
-    fits = subst (λ (s : Session S). AllFit client (connections s.trace)) (sym stanzas_end) end_fits;
+    fits = subst (λ (s : Session S). AllConnectionsFit client (connections s.trace)) (sym stanzas_end) end_fits;
     each = (
       0,
       refl,

@@ -6,7 +6,7 @@ use Rattle.sm_account.specs.Sessions as one
 use Rattle.sm_account.specs.Sessions.{Hold, Held, Away, Core, Op}
 use Rattle.sm_account.specs.Connections as past
 use Rattle.sm_account.specs.Connections.{Connection, Trace, Session, connections, trace_if, step_if, step, run}
-use Rattle.sm_account.specs.Accounts.{Account, ResumesIf, HoldsOf, HoldsOfAll, Fits, AllFit}
+use Rattle.sm_account.specs.Accounts.{Account, ResumesIf, OperationFits, AllOperationsFit, ConnectionFits, AllConnectionsFit}
 use Rattle.sm_account.proofs.Follows.{IsNext, GoesOnIf, Meets, Follows}
 
 -- the connections of u are those of t, the present one with more on it, and newer ones
@@ -91,19 +91,19 @@ extends s (op ∷ ops) = step_extends s.core.counts s.core.hold op s (run (step 
 
 -- one of the connections
 fit_at : {S : Type 0} (a : Account S) (newer : List (Connection S)) (c : Connection S) (cs : List (Connection S))
-    → AllFit a (newer ++ (c ∷ cs)) → Fits a (length cs) c
+    → AllConnectionsFit a (newer ++ (c ∷ cs)) → ConnectionFits a (length cs) c
 fit_at a [] c cs all = all.0
 fit_at a (n ∷ newer) c cs all = fit_at a newer c cs all.1
 
 -- the connection before the present one
 fits_before : {S : Type 0} (a : Account S) (t : Trace S) (c : Connection S) (s : Session S) (ops : List (Op S))
     → s.trace.earlier ≡ c ∷ t.earlier
-    → AllFit a (connections (run s ops).trace) → Fits a (length t.earlier) c
+    → AllConnectionsFit a (connections (run s ops).trace) → ConnectionFits a (length t.earlier) c
 fits_before {S = S} a t c s ops is all =
     let x = extends s ops in
     let split : connections (run s ops).trace ≡ (x.newer ++ x.same ∷ []) ++ (c ∷ t.earlier) =
     x.all ∙ (ap (λ (cs : List (Connection S)). x.newer ++ (x.same ∷ cs)) is ∙ sym (append_assoc x.newer (x.same ∷ []) (c ∷ t.earlier))) in
-    fit_at a (x.newer ++ x.same ∷ []) c t.earlier (subst (AllFit a) split all)
+    fit_at a (x.newer ++ x.same ∷ []) c t.earlier (subst (AllConnectionsFit a) split all)
 
 get_drop : {A : Type 0} (r k : ℕ) (xs : List A) → slice_get (drop r xs) k ≡ slice_get xs (r + k)
 get_drop zero k xs = let e : k ≡ 0 + k = omega arith in ap (slice_get xs) e
@@ -121,7 +121,7 @@ next_is : {A : Type 0} (xs rest whole : List A) (x : A) (r : ℕ) → xs ++ (x �
 next_is {A} xs rest whole x r e =
     sym (get_drop r (length xs) whole) ∙ (ap (λ (l : List A). slice_get l (length xs)) (sym e) ∙ get_seam xs rest x)
 
-arrives_next : {S : Type 0} (a : Account S) (i : ℕ) (before more : List S) (x : S) (c : Connection S) → Fits a i c
+arrives_next : {S : Type 0} (a : Account S) (i : ℕ) (before more : List S) (x : S) (c : Connection S) → ConnectionFits a i c
     → c.arrived ≡ (before ++ x ∷ []) ++ more
     → slice_get a.stanzas (a.begins i + length before) ≡ Some x
 arrives_next {S = S} a i before more x c f is =
@@ -131,27 +131,27 @@ arrives_next {S = S} a i before more x c f is =
 arrival_is_next : {S : Type 0} (a : Account S) (s s' : Session S) (x : S) (ops : List (Op S))
     → s'.trace.earlier ≡ s.trace.earlier
     → s'.trace.present.arrived ≡ s.trace.present.arrived ++ x ∷ [] → s.trace.present.short ≡ false
-    → AllFit a (connections (run s' ops).trace) → IsNext a s x
+    → AllConnectionsFit a (connections (run s' ops).trace) → IsNext a s x
 arrival_is_next {S = S} a s s' x ops alike is whole all =
     let y = extends s' ops in
-    let fit = fit_at a y.newer y.same s'.trace.earlier (subst (AllFit a) y.all all) in
+    let fit = fit_at a y.newer y.same s'.trace.earlier (subst (AllConnectionsFit a) y.all all) in
     record {
       next = arrives_next a (length s.trace.earlier) s.trace.present.arrived y.more_arrived x y.same
-          (subst (λ (cs : List (Connection S)). Fits a (length cs) y.same) alike fit) (y.arrived ∙ ap (λ (l : List S). l ++ y.more_arrived) is);
+          (subst (λ (cs : List (Connection S)). ConnectionFits a (length cs) y.same) alike fit) (y.arrived ∙ ap (λ (l : List S). l ++ y.more_arrived) is);
       whole = whole;
     }
 
 resume_meets : {S : Type 0} (a : Account S) (s : Session S) (said c h v : ℕ) (k : Core S) (ops : List (Op S)) (o : Option ℕ)
     → ResumesIf a s said h v o
-    → AllFit a (connections (run (record { core = k; trace = past.opens s.trace c o }) ops).trace)
+    → AllConnectionsFit a (connections (run (record { core = k; trace = past.opens s.trace c o }) ops).trace)
     → GoesOnIf a s said h v o
 resume_meets a s said c h v k ops None e all = e
 resume_meets a s said c h v k ops (Some n) (r, e) all =
     ((fits_before a s.trace s.trace.present (record { core = k; trace = past.opens s.trace c (Some n) }) ops refl all).within, r, e)
 
 meets : {S : Type 0} (b : Bool) (m : Hold) (op : Op S) (a : Account S) (s : Session S) (said v : ℕ) (ops : List (Op S))
-    → HoldsOf b m a s said op v
-    → AllFit a (connections (run (step_if b m s op) ops).trace) → Meets b m a s said op v
+    → OperationFits b m a s said op v
+    → AllConnectionsFit a (connections (run (step_if b m s op) ops).trace) → Meets b m a s said op v
 meets true (Held d) (one.Ack h) a s said v ops e all = e
 meets true (Held d) (one.Act x) a s said v ops (e, whole) all =
     (e, arrival_is_next a s (step_if true (Held d) s (one.Act x)) x ops refl refl whole all)
@@ -162,8 +162,8 @@ meets true Away (one.Resume c h) a s said v ops e all = resume_meets a s said c 
 meets true m op a s said v ops e all = e
 meets false m op a s said v ops e all = e
 
-pub follows : {S : Type 0} (a : Account S) (s : Session S) (said : ℕ) (ops : List (Op S)) → HoldsOfAll a s said ops
-    → AllFit a (connections (run s ops).trace) → Follows a s said ops
+pub follows : {S : Type 0} (a : Account S) (s : Session S) (said : ℕ) (ops : List (Op S)) → AllOperationsFit a s said ops
+    → AllConnectionsFit a (connections (run s ops).trace) → Follows a s said ops
 follows a s said [] e all = all.0.within
 follows a s said (op ∷ ops) (v, e, rest) all =
     (v, meets s.core.counts s.core.hold op a s said v ops e all, follows a (step s op) v ops rest all)

@@ -69,6 +69,10 @@ abbrev pub run : {S : Type 0} → Session S → List (Op S) → Session S
 run s [] = s
 run s (op ∷ ops) = run (step s op) ops
 
+-- the session after these operations
+abbrev pub after : {S : Type 0} → List (Op S) → Session S
+after ops = run start ops
+
 -- The connection of this number that came after those before it carries the queue from this place on, without a gap and
 -- without a repetition.
 pub record CarriesFrom {S : Type 0} (place number : ℕ) (before : List (Connection S)) (s : Session S) : Type 0 where

@@ -1,5 +1,5 @@
--- What happens to a session, told operation by operation, and the same told connection by connection. A history that knows
--- nothing of what a session keeps can be held against either.
+-- What happens to a session, told operation by operation, and the same told connection by connection. A history that
+-- knows nothing of what a session keeps can be held against either.
 use Rattle.std.specs.Prelude.{◌≡◌, ℕ, ◌==◌, List, [], ◌∷◌, ◌++◌, length, Option, Some, None, Bool, true, if◌then◌else◌}
 use Rattle.stanza_tree.specs.declared.frame.Entry.{Entry}
 use Rattle.sm_account.specs.Sessions.{Hold, Held, Core, Op, Pull, Ask, Act, Short, next_entry, acted, core_step}

@@ -1,5 +1,5 @@
--- One session as the server has it, and what happens to it. XEP-0198: stanzas are counted both ways, and a session whose
--- connection is lost waits for another one that resumes it. S is the type of what its client sends.
+-- One session as the server has it, and what happens to it. XEP-0198: stanzas are counted both ways, and a session
+-- whose connection is lost waits for another one that resumes it. S is the type of what its client sends.
 use Rattle.std.specs.Prelude.{ℕ, ◌+◌, ◌-◌, List, [], ◌∷◌, ◌++◌, length, drop, slice_get, Option, Some, None, Bool, true, false, if◌then◌else◌}
 use Rattle.stanza_tree.specs.declared.frame.Entry.{Entry}
 use Rattle.sm_counters.specs.Numbers.{count_of, number}
@@ -33,9 +33,9 @@ pub data Op (S : Type 0) : Type 0 where
   Ask : Op S  -- the client sends `r`, and is told the server's count
   Act : (stanza : S) → Op S  -- the client sends a stanza, and it is acted on
   Short : (stanza : S) → Op S  -- the client sends a stanza, and there is no memory to act on it
-  Drop : Op S  -- the connection is lost
+  Drop : Op S  -- the connection is lost; a session that counts may be resumed
   Resume : (connection count : ℕ) → Op S  -- the client sends `resume` on another connection, with its count
-  End : Op S
+  End : Op S  -- the session ends, and can't be resumed
 
 abbrev pub unmade : {S : Type 0} → Core S
 unmade = record {
@@ -120,7 +120,8 @@ resumed s c (Some n) = record s {
   asked_at = s.base_out + n;
 }
 
--- What an operation does, by whether the session counts and what holds it. What stands nowhere here changes nothing.
+-- What an operation does, by whether the session counts and what holds it. What isn't said here changes nothing, as an
+-- Ask and a Short.
 abbrev pub core_if : {S : Type 0} → Bool → Hold → Core S → Op S → Core S
 core_if false Away s (Begin c) = held s c
 core_if counts (Held d) s (Push e) = pushed s e
@@ -146,7 +147,11 @@ abbrev pub core_run : {S : Type 0} → Core S → List (Op S) → Core S
 core_run s [] = s
 core_run s (op ∷ ops) = core_run (core_step s op) ops
 
--- what the server acted on since the session counts
+-- what the client's count counts: all that wasn't sent before the session counted
+abbrev pub counted_entries : {S : Type 0} → Core S → List Entry
+counted_entries s = drop s.base_out s.queued
+
+-- what the server's count counts: all that was acted on since the session counts
 abbrev pub acted_if : {S : Type 0} → Bool → ℕ → List S → List S
 acted_if false base acts = []
 acted_if true base acts = drop base acts
