@@ -90,13 +90,15 @@ entries_append c (g ∷ gs) ys =
 entries_here : (c : ℕ) (es : List Entry) → entries_of c (carried_on c es) ≡ es
 entries_here c [] = refl
 entries_here c (e ∷ es) =
-    ap (λ (b : Bool). if b then e ∷ entries_of c (carried_on c es) else entries_of c (carried_on c es)) (eq-eqb c c refl)
+    let others : List Entry = entries_of c (carried_on c es) in
+    ap (λ (b : Bool). if b then e ∷ others else others) (eq-eqb c c refl)
     ∙ ap (λ (l : List Entry). e ∷ l) (entries_here c es)
 
 entries_else : (d c : ℕ) (es : List Entry) → (d ≡ c → ⊥) → entries_of c (carried_on d es) ≡ []
 entries_else d c [] ne = refl
 entries_else d c (e ∷ es) ne =
-    ap (λ (b : Bool). if b then e ∷ entries_of c (carried_on d es) else entries_of c (carried_on d es)) (not_same d c (eqb d c) refl ne)
+    let others : List Entry = entries_of c (carried_on d es) in
+    ap (λ (b : Bool). if b then e ∷ others else others) (not_same d c (eqb d c) refl ne)
     ∙ entries_else d c es ne
 
 entries_none : {S : Type 0} (c : ℕ) (cs : List (Connection S)) → NotIn c (numbers cs)
@@ -117,13 +119,15 @@ stanzas_append {S = S} c (t ∷ ts) ys =
 stanzas_here : {S : Type 0} (c : ℕ) (xs : List S) → stanzas_of c (arrived_on c xs) ≡ xs
 stanzas_here c [] = refl
 stanzas_here {S = S} c (x ∷ xs) =
-    ap (λ (b : Bool). if b then x ∷ stanzas_of c (arrived_on c xs) else stanzas_of c (arrived_on c xs)) (eq-eqb c c refl)
+    let others : List S = stanzas_of c (arrived_on c xs) in
+    ap (λ (b : Bool). if b then x ∷ others else others) (eq-eqb c c refl)
     ∙ ap (λ (l : List S). x ∷ l) (stanzas_here c xs)
 
 stanzas_else : {S : Type 0} (d c : ℕ) (xs : List S) → (d ≡ c → ⊥) → stanzas_of c (arrived_on d xs) ≡ []
 stanzas_else d c [] ne = refl
-stanzas_else d c (x ∷ xs) ne =
-    ap (λ (b : Bool). if b then x ∷ stanzas_of c (arrived_on d xs) else stanzas_of c (arrived_on d xs)) (not_same d c (eqb d c) refl ne)
+stanzas_else {S = S} d c (x ∷ xs) ne =
+    let others : List S = stanzas_of c (arrived_on d xs) in
+    ap (λ (b : Bool). if b then x ∷ others else others) (not_same d c (eqb d c) refl ne)
     ∙ stanzas_else d c xs ne
 
 stanzas_none : {S : Type 0} (c : ℕ) (cs : List (Connection S)) → NotIn c (numbers cs)
@@ -148,12 +152,14 @@ all_are [] apart = tt
 all_are {S = S} (d ∷ ds) apart = (
   sym (
       entries_append d.number (all_carried ds) (carried_on d.number d.carried)
-      ∙ (ap (λ (es : List Entry). es ++ entries_of d.number (carried_on d.number d.carried)) (entries_none d.number ds apart.0)
+      ∙ (ap (λ (es : List Entry). es ++ entries_of d.number (carried_on d.number d.carried))
+      (entries_none d.number ds apart.0)
       ∙ entries_here d.number d.carried)
       ),
   sym (
       stanzas_append d.number (all_arrived ds) (arrived_on d.number d.arrived)
-      ∙ (ap (λ (xs : List S). xs ++ stanzas_of d.number (arrived_on d.number d.arrived)) (stanzas_none d.number ds apart.0)
+      ∙ (ap (λ (xs : List S). xs ++ stanzas_of d.number (arrived_on d.number d.arrived))
+      (stanzas_none d.number ds apart.0)
       ∙ stanzas_here d.number d.arrived)
       ),
   one_more d.number ds _ _ _ _
@@ -182,11 +188,14 @@ pub start_taken : {S : Type 0} (ops : List (Op S))
 start_taken ops = run_taken start ops (λ is. (refl, refl)) (λ d is. absurd (cc))
 
 pub start_all_are : {S : Type 0} (ops : List (Op S)) → AreDistinct (labels (run start ops).trace)
-    → AllAre (λ c. entries_of c (log_of gives one.unmade ops)) (λ c. stanzas_of c (log_of takes one.unmade ops)) (connections (run start ops).trace)
+    → AllAre (λ c. entries_of c (log_of gives one.unmade ops)) (λ c. stanzas_of c (log_of takes one.unmade ops))
+    (connections (run start ops).trace)
 start_all_are {S = S} ops apart =
     let cs : List (Connection S) = connections (run start ops).trace in
-    subst (λ (gs : List Given). AllAre (λ c. entries_of c gs) (λ c. stanzas_of c (log_of takes one.unmade ops)) cs) (start_given ops)
-    (subst (λ (ts : List (Taken S)). AllAre (λ c. entries_of c (all_carried cs)) (λ c. stanzas_of c ts) cs) (start_taken ops) (all_are cs apart))
+    subst (λ (gs : List Given). AllAre (λ c. entries_of c gs) (λ c. stanzas_of c (log_of takes one.unmade ops)) cs)
+    (start_given ops)
+    (subst (λ (ts : List (Taken S)). AllAre (λ c. entries_of c (all_carried cs)) (λ c. stanzas_of c ts) cs)
+    (start_taken ops) (all_are cs apart))
 
 pub start_acted : {S : Type 0} (ops : List (Op S)) → acted (run start ops).core ≡ log_of does one.unmade ops
 start_acted ops = ap acted (core_of_run start ops) ∙ run_acted one.unmade ops unmade_in_order

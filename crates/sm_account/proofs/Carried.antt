@@ -1,5 +1,5 @@
 -- What a connection carries after a resumption is the queue from the client's count on.
-use Rattle.std.proofs.Common.{◌≡◌, ◌⊎◌, inl, inr, ℕ, ◌+◌, ◌≤◌, List, [], ◌∷◌, ◌++◌, length, take, drop, Option, Some, None, Bool, true, false, refl, sym, ap, ◌∙◌, subst, append_assoc, append-nil, length-append, take-append-drop, arith, if◌then◌else◌}
+use Rattle.std.proofs.Common.{◌≡◌, ◌⊎◌, inl, inr, ℕ, ◌+◌, ◌≤◌, List, [], ◌∷◌, ◌++◌, length, take, drop, Option, Some, None, Bool, true, false, refl, sym, ap, ◌∙◌, subst, append_assoc, length-append, take-append-drop, arith}
 use Rattle.std.proofs.Math.Seq.{drop-append_seam}
 use Rattle.std.proofs.lemmas.Grind.{common_steps}
 use Rattle.std.specs.Prelude.{slice_get}
@@ -8,11 +8,11 @@ use Rattle.sm_queue.specs.Queues.{has_room}
 use Rattle.sm_account.specs.Prefixes.{IsPrefixOf}
 use Rattle.sm_account.specs.Sessions as one
 use Rattle.sm_account.specs.Sessions.{Hold, Held, Away, Ended, Core, Op, core_if, core_step, core_run}
-use Rattle.sm_account.specs.Connections as past
-use Rattle.sm_account.specs.Connections.{Connection, Trace, Session, CarriesFrom, connections, start, step_if, step, run}
+use Rattle.sm_account.specs.Connections.{Connection, Session, CarriesFrom, connections, start, step_if, step, run}
 use Rattle.sm_account.specs.Places.{IsInOrder}
 use Rattle.sm_account.proofs.Places.{named_within, run_in_order, unmade_in_order}
-use Rattle.sm_account.proofs.Outward.{next_of}
+use Rattle.sm_account.proofs.Lists.{further, itself, next_after}
+use Rattle.sm_account.proofs.Steps.{pulled_by, pushed_if, resumed_by, with_core}
 use Rattle.sm_account.proofs.Whole.{extends}
 
 pub core_of_run : {S : Type 0} (s : Session S) (ops : List (Op S)) → (run s ops).core ≡ core_run s.core ops
@@ -24,14 +24,8 @@ run_append s [] ys = refl
 run_append s (x ∷ xs) ys = run_append (step s x) xs ys
 
 -- the queue only grows
-itself : {A : Type 0} (xs : List A) → IsPrefixOf xs xs
-itself xs = ([], append-nil xs)
-
-further : {A : Type 0} (xs ys zs : List A) → IsPrefixOf xs ys → IsPrefixOf ys zs → IsPrefixOf xs zs
-further {A} xs ys zs (r, e) (q, f) = (r ++ q, sym (append_assoc xs r q) ∙ (ap (λ (l : List A). l ++ q) e ∙ f))
-
 pushed_grows : {S : Type 0} (s : Core S) (e : Entry) (b : Bool)
-    → IsPrefixOf s.queued (if b then record s { queued = s.queued ++ e ∷ [] } else one.ended s).queued
+    → IsPrefixOf s.queued (pushed_if s e b).queued
 pushed_grows s e true = (e ∷ [], refl)
 pushed_grows s e false = itself s.queued
 
@@ -120,9 +114,7 @@ module _ {place : ℕ} {queued : List Entry} {sent : ℕ} {carried : List Entry}
       let front : List Entry = r.before ++ carried in
       let long : sent ≡ length front = simp length-append (omega (arith, r.sent_is, r.place_is)) in
       let split : queued ≡ front ++ r.rest = r.whole ∙ simp append_assoc in
-      let there : slice_get (front ++ r.rest) (length front) ≡ Some e =
-      subst (λ (k : ℕ). slice_get (front ++ r.rest) k ≡ Some e) long (subst (λ (l : List Entry). slice_get l sent ≡ Some e) split is) in
-      let tail = next_of front r.rest e there in
+      let tail = next_after queued front r.rest sent e split long is in
       carry_first e tail.0 tail.1
 
   is_run : IsPrefixOf carried (drop place queued)
@@ -151,22 +143,22 @@ module _ {S : Type 0} (place number : ℕ) (before : List (Connection S)) where
   Next s t = IsOn t ⊎ IsLeft s t
 
   pushed : (s : Session S) (e : Entry) (b : Bool) → IsOn s
-      → Next s (record { core = if b then record s.core { queued = s.core.queued ++ e ∷ [] } else one.ended s.core; trace = s.trace })
+      → Next s (with_core s (pushed_if s.core e b))
   pushed s e true (counts, same, is, r) = inl (counts, same, is, queue_more r e)
   pushed s e false on = inl on
 
   pulled : (s : Session S) (o : Option Entry) → one.next_entry s.core ≡ o → IsOn s
-      → Next s (record { core = one.pulled s.core o; trace = past.carries s.trace o })
+      → Next s (pulled_by s o)
   pulled s None at on = inl on
   pulled s (Some e) at (counts, same, is, r) = inl (counts, same, is, carry_more r e at)
 
   acknowledged : (s : Session S) (o : Option ℕ) → IsOn s
-      → Next s (record { core = one.acknowledged s.core o; trace = s.trace })
+      → Next s (with_core s (one.acknowledged s.core o))
   acknowledged s None on = inl on
   acknowledged s (Some n) on = inl on
 
   resumed : (s : Session S) (c : ℕ) (o : Option ℕ) → IsOn s
-      → Next s (record { core = one.resumed s.core c o; trace = past.opens s.trace c o })
+      → Next s (resumed_by s c o)
   resumed s c None on = inl on
   resumed s c (Some n) on = inr (refl, itself s.core.queued)
 
@@ -198,7 +190,8 @@ module _ {S : Type 0} (place number : ℕ) (before : List (Connection S)) where
         one = s.trace.present;
         all =
             x.all
-            ∙ (ap (λ (cs : List (Connection S)). x.newer ++ (x.same ∷ cs)) (earlier ∙ ap (λ (cs : List (Connection S)). s.trace.present ∷ cs) same)
+            ∙ (ap (λ (cs : List (Connection S)). x.newer ++ (x.same ∷ cs))
+            (earlier ∙ ap (λ (cs : List (Connection S)). s.trace.present ∷ cs) same)
             ∙ sym (append_assoc x.newer (x.same ∷ []) (s.trace.present ∷ before)));
         is_it = is;
         carries = still_run r _ (further _ _ _ grows (run_grows t more));
@@ -223,7 +216,7 @@ start_in_order ops = subst IsInOrder (sym (core_of_run start ops)) (run_in_order
 -- a resumption that goes on
 pub resumes : {S : Type 0} (b : Bool) (m : Hold) (s : Session S) (c h n : ℕ) → b ≡ true → (m ≡ Ended → ⊥)
     → one.named s.core h ≡ Some n
-    → step_if b m s (one.Resume c h) ≡ record { core = one.resumed s.core c (Some n); trace = past.opens s.trace c (Some n) }
+    → step_if b m s (one.Resume c h) ≡ resumed_by s c (Some n)
 resumes true (Held d) s c h n b live is = rw is refl
 resumes true Away s c h n b live is = rw is refl
 resumes true Ended s c h n b live is = absurd (live refl)
@@ -232,7 +225,8 @@ resumes false m s c h n b live is = absurd (cc)
 pub carries_from : {S : Type 0} (ops more : List (Op S)) (c h n : ℕ) → (run start ops).core.counts ≡ true
     → ((run start ops).core.hold ≡ Ended → ⊥)
     → one.named (run start ops).core h ≡ Some n
-    → CarriesFrom ((run start ops).core.base_out + n) c (connections (run start ops).trace) (run start (ops ++ one.Resume c h ∷ more))
+    → CarriesFrom ((run start ops).core.base_out + n) c (connections (run start ops).trace)
+    (run start (ops ++ one.Resume c h ∷ more))
 carries_from {S = S} ops more c h n counts live is =
     let s : Session S = run start ops in
     let o = start_in_order ops in
@@ -240,8 +234,9 @@ carries_from {S = S} ops more c h n counts live is =
     let low : s.core.base_out + n ≤ length s.core.queued =
     omega (arith, at.1, o.queue.began, o.queue.in_order, o.queue.within) in
     let after =
-    carried (s.core.base_out + n) c (connections s.trace) (record { core = one.resumed s.core c (Some n); trace = past.opens s.trace c (Some n) }) more
+    carried (s.core.base_out + n) c (connections s.trace) (resumed_by s c (Some n)) more
     (counts, refl, refl, begins (s.core.base_out + n) s.core.queued low) in
     subst (CarriesFrom (s.core.base_out + n) c (connections s.trace))
-    (sym (run_append start ops (one.Resume c h ∷ more) ∙ ap (λ (t : Session S). run t more) (resumes s.core.counts s.core.hold s c h n counts live is)))
+    (sym (run_append start ops (one.Resume c h ∷ more)
+    ∙ ap (λ (t : Session S). run t more) (resumes s.core.counts s.core.hold s c h n counts live is)))
     after

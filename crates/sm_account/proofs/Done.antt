@@ -1,5 +1,5 @@
 -- What a session has acted on, and what its client was told, is what its operations told.
-use Rattle.std.proofs.Common.{◌≡◌, ℕ, ◌≤◌, List, [], ◌∷◌, ◌++◌, length, Option, Some, None, Bool, true, false, refl, sym, ap, ◌∙◌, append_assoc, append-nil, if◌then◌else◌}
+use Rattle.std.proofs.Common.{◌≡◌, ℕ, ◌≤◌, List, [], ◌∷◌, ◌++◌, length, Option, Some, None, Bool, true, false, refl, sym, ap, ◌∙◌, append_assoc, append-nil}
 use Rattle.std.proofs.Math.Seq.{drop-length}
 use Rattle.std.proofs.lemmas.List.{drop-append-le}
 use Rattle.stanza_tree.specs.declared.frame.Entry.{Entry}
@@ -10,10 +10,11 @@ use Rattle.sm_account.specs.Connections as past
 use Rattle.sm_account.specs.Connections.{Trace, Session, trace_if, step, run}
 use Rattle.sm_account.specs.Places.{IsInOrder}
 use Rattle.sm_account.specs.Logs.{log_of, does_if, does, answers_if, answers, latest_first}
+use Rattle.sm_account.proofs.Steps.{pushed_if}
 use Rattle.sm_account.proofs.Places.{step_in_order}
 
 pushed_acted : {S : Type 0} (s : Core S) (e : Entry) (b : Bool)
-    → acted (if b then record s { queued = s.queued ++ e ∷ [] } else one.ended s) ≡ acted s
+    → acted (pushed_if s e b) ≡ acted s
 pushed_acted s e true = refl
 pushed_acted s e false = refl
 

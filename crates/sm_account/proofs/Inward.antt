@@ -1,5 +1,5 @@
 -- What is acted on, against what the client has to send.
-use Rattle.std.proofs.Common.{◌≡◌, ◌⊎◌, inl, inr, ℕ, ◌+◌, ◌-◌, ◌^◌, ◌<◌, ◌≤◌, List, [], ◌∷◌, ◌++◌, length, drop, Some, Bool, true, false, refl, sym, ap, ◌∙◌, subst, append_assoc, append-nil, length-append, le_of_eq, le_refl, arith}
+use Rattle.std.proofs.Common.{◌≡◌, ◌⊎◌, inl, inr, ℕ, ◌+◌, ◌-◌, ◌^◌, ◌<◌, ◌≤◌, List, [], ◌∷◌, ◌++◌, length, drop, Some, Bool, true, false, refl, sym, ap, ◌∙◌, append_assoc, append-nil, length-append, le_of_eq, le_refl, arith}
 use Rattle.std.proofs.lemmas.Bool.{cases_lt}
 use Rattle.std.proofs.Math.Seq.{drop-append_seam}
 use Rattle.std.specs.Prelude.{slice_get}
@@ -7,7 +7,7 @@ use Rattle.sm_counters.specs.Numbers.{count_of, number}
 use Rattle.sm_counters.proofs.CountLaws.{number-is}
 use Rattle.sm_account.specs.Accounts.{IsOneOf}
 use Rattle.sm_account.specs.Prefixes.{IsPrefixOf}
-use Rattle.sm_account.proofs.Outward.{next_of}
+use Rattle.sm_account.proofs.Lists.{next_after}
 
 abbrev pub one_if : Bool → ℕ
 one_if false = 0
@@ -77,9 +77,7 @@ module _ {S : Type 0} {stanzas : List S} {begins : ℕ → ℕ} {acts : List S} 
   acts_on x next whole =
       let none : one_if short ≡ 0 = ap one_if whole in
       let long : begins i + length arrived ≡ length n.done = omega (arith, n.at) in
-      let there : slice_get (n.done ++ n.ahead) (length n.done) ≡ Some x =
-      subst (λ (k : ℕ). slice_get (n.done ++ n.ahead) k ≡ Some x) long (subst (λ (l : List S). slice_get l (begins i + length arrived) ≡ Some x) n.stanzas_are next) in
-      let tail = next_of n.done n.ahead x there in
+      let tail = next_after stanzas n.done n.ahead (begins i + length arrived) x n.stanzas_are long next in
       acts_first x tail.0 tail.1
 
   -- it arrives, and there is no memory to act on it

@@ -1,14 +1,14 @@
 -- What holds of a session and an account after each operation.
-use Rattle.std.proofs.Common.{◌≡◌, ◌⊎◌, inl, inr, ℕ, ◌+◌, ◌≤◌, List, [], ◌∷◌, ◌++◌, length, Option, Some, None, Bool, true, false, refl, sym, ◌∙◌, subst, if◌then◌else◌, arith}
+use Rattle.std.proofs.Common.{◌≡◌, ◌⊎◌, inl, inr, ℕ, ◌+◌, ◌≤◌, List, [], ◌∷◌, length, Option, Some, None, Bool, true, false, refl, sym, ◌∙◌, subst, arith}
 use Rattle.stanza_tree.specs.declared.frame.Entry.{Entry}
 use Rattle.sm_counters.specs.Numbers.{count_of}
 use Rattle.sm_queue.specs.Queues.{has_room}
 use Rattle.sm_account.specs.Sessions as one
 use Rattle.sm_account.specs.Sessions.{Hold, Held, Away, Core, Op}
-use Rattle.sm_account.specs.Connections as past
 use Rattle.sm_account.specs.Connections.{Connection, Session, start, step_if, step, run}
 use Rattle.sm_account.specs.Accounts.{Account, Acks, total, present_place, total_handled}
 use Rattle.sm_account.specs.Places.{IsInOrder}
+use Rattle.sm_account.proofs.Steps.{pulled_by, pushed_if, resumed_by, with_core}
 use Rattle.sm_account.proofs.Places.{names_it, step_in_order}
 use Rattle.sm_account.proofs.Follows.{IsWithin, GoesOnIf, Meets, Follows}
 use Rattle.sm_account.proofs.Outward as out
@@ -35,8 +35,10 @@ Fresh s said =
 abbrev pub Counted : {S : Type 0} → Account S → Session S → ℕ → Type 0
 Counted a s said =
     (s.core.counts ≡ true)
-    × Outward a.handles s.core.queued s.core.kept s.core.sent s.core.base_out s.trace.present.carried s.trace.earlier said
-    × Inward a.stanzas a.begins s.core.acts s.core.base_in (present_place s) s.trace.present.arrived s.trace.present.short s.trace.told
+    × Outward a.handles s.core.queued s.core.kept s.core.sent s.core.base_out
+    s.trace.present.carried s.trace.earlier said
+    × Inward a.stanzas a.begins s.core.acts s.core.base_in (present_place s)
+    s.trace.present.arrived s.trace.present.short s.trace.told
 
 abbrev pub Keeps : {S : Type 0} → Account S → Session S → ℕ → Type 0
 Keeps a s said = Fresh s said ⊎ Counted a s said
@@ -50,22 +52,27 @@ names a s said v h o (counts, out, inn) rising low count =
     (omega (arith, out.kept_is, out.base_is)) (omega (arith, out.sent_is, out.base_is)) count
 
 module _ {S : Type 0} (a : Account S) (s : Session S) (said : ℕ) where
-  abbrev with_core : Core S → Session S
-  with_core k = record { core = k; trace = s.trace }
-
   fresh_pushed : (e : Entry) (b : Bool) → Fresh s said
-      → Keeps a (with_core (if b then record s.core { queued = s.core.queued ++ e ∷ [] } else one.ended s.core)) said
+      → Keeps a (with_core s (pushed_if s.core e b)) said
   fresh_pushed e true f = inl f
   fresh_pushed e false f = inl f
 
-  fresh_pulled : (o : Option Entry) → Fresh s said → Keeps a (with_core (one.pulled_uncounted s.core o)) said
+  fresh_pulled : (o : Option Entry) → Fresh s said → Keeps a (with_core s (one.pulled_uncounted s.core o)) said
   fresh_pulled None f = inl f
   fresh_pulled (Some e) (counts, f) = inl (
     counts,
-    record { carried = f.carried; arrived = f.arrived; whole = f.whole; alone = f.alone; untold = f.untold; level = refl; silent = f.silent },
+    record {
+      carried = f.carried;
+      arrived = f.arrived;
+      whole = f.whole;
+      alone = f.alone;
+      untold = f.untold;
+      level = refl;
+      silent = f.silent;
+    },
   )
 
-  fresh_enabled : a.begins 0 ≡ 0 → IsInOrder s.core → Fresh s said → Keeps a (with_core (one.enabled s.core)) said
+  fresh_enabled : a.begins 0 ≡ 0 → IsInOrder s.core → Fresh s said → Keeps a (with_core s (one.enabled s.core)) said
   fresh_enabled first o (counts, f) = inr (
     refl,
     rw (f.carried, f.alone, f.silent) (out.starts a.handles s.core.queued s.core.sent o.queue.within),
@@ -75,7 +82,15 @@ module _ {S : Type 0} (a : Account S) (s : Session S) (said : ℕ) where
   fresh_begun : (c : ℕ) → Fresh s said → Keeps a (step_if false Away s (one.Begin c)) said
   fresh_begun c (counts, f) = inl (
     counts,
-    record { carried = f.carried; arrived = f.arrived; whole = f.whole; alone = f.alone; untold = f.untold; level = f.level; silent = f.silent },
+    record {
+      carried = f.carried;
+      arrived = f.arrived;
+      whole = f.whole;
+      alone = f.alone;
+      untold = f.untold;
+      level = f.level;
+      silent = f.silent;
+    },
   )
 
   fresh_keeps : (m : Hold) (op : Op S) → a.begins 0 ≡ 0 → IsInOrder s.core → Fresh s said
@@ -90,17 +105,17 @@ module _ {S : Type 0} (a : Account S) (s : Session S) (said : ℕ) where
   fresh_keeps m op first o f = inl f
 
   counted_pushed : (e : Entry) (b : Bool) → Counted a s said
-      → Counted a (with_core (if b then record s.core { queued = s.core.queued ++ e ∷ [] } else one.ended s.core)) said
+      → Counted a (with_core s (pushed_if s.core e b)) said
   counted_pushed e true (counts, o, i) = (counts, out.pushes o e, i)
   counted_pushed e false k = k
 
   counted_pulled : (o : Option Entry) → one.next_entry s.core ≡ o → Counted a s said
-      → Counted a (record { core = one.pulled s.core o; trace = past.carries s.trace o }) said
+      → Counted a (pulled_by s o) said
   counted_pulled None is k = k
   counted_pulled (Some e) is (counts, o, i) = (counts, out.pulls o e is, i)
 
   counted_acknowledged : (h v : ℕ) → IsInOrder s.core → Counted a s said → Acks a s said h v
-      → Counted a (with_core (one.acknowledged s.core (one.named s.core h))) v
+      → Counted a (with_core s (one.acknowledged s.core (one.named s.core h))) v
   counted_acknowledged h v in_order (counts, o, i) says =
       let is : one.named s.core h ≡ Some v =
       names a s said v h in_order (counts, o, i) says.rising says.carried says.count in
@@ -108,7 +123,7 @@ module _ {S : Type 0} (a : Account S) (s : Session S) (said : ℕ) where
 
   counted_resumed : (c h v : ℕ) (o : Option ℕ) → one.named s.core h ≡ o → IsInOrder s.core → Counted a s said
       → GoesOnIf a s said h v o
-      → Counted a (record { core = one.resumed s.core c o; trace = past.opens s.trace c o }) v
+      → Counted a (resumed_by s c o) v
   counted_resumed c h v None is in_order k e = rw e k
   counted_resumed c h v (Some n) is in_order (counts, o, i) (within, r, e) =
       let says : one.named s.core h ≡ Some (total_handled a s) =
@@ -116,7 +131,7 @@ module _ {S : Type 0} (a : Account S) (s : Session S) (said : ℕ) where
       let same : n ≡ total_handled a s = cc in
       rw (same, e) (
         counts,
-        out.opens s.trace.present within o,
+        out.opens s.trace.present o within,
         subst (λ (j : ℕ). Inward a.stanzas a.begins s.core.acts s.core.base_in j [] false s.trace.told) (omega arith)
             (inn.opens i (a.lowest (present_place s)) (a.highest (present_place s)) r.known r.near r.sent.0 r.begins),
       )
@@ -161,8 +176,20 @@ pub runs : {S : Type 0} (a : Account S) (s : Session S) (said : ℕ) (ops : List
     → Follows a s said ops → AtEnd a (run s ops)
 runs a s said [] first o k within = record { said = said; in_order = o; keeps = k; within = within }
 runs a s said (op ∷ ops) first o k (v, meets, rest) =
-    runs a (step s op) v ops first (step_in_order op s.core o) (keeps_if a s said s.core.counts op v first refl o k meets) rest
+    runs a (step s op) v ops first (step_in_order op s.core o)
+    (keeps_if a s said s.core.counts op v first refl o k meets) rest
 
 pub starts : {S : Type 0} (a : Account S) → Keeps a start 0
 starts a =
-    inl (refl, record { carried = refl; arrived = refl; whole = refl; alone = refl; untold = refl; level = refl; silent = refl })
+    inl (
+      refl,
+      record {
+        carried = refl;
+        arrived = refl;
+        whole = refl;
+        alone = refl;
+        untold = refl;
+        level = refl;
+        silent = refl;
+      },
+    )

@@ -1,3 +1,5 @@
+pub mod Lists
+pub mod Steps
 pub mod Places
 pub mod Outward
 pub mod Inward

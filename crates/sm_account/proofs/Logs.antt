@@ -1,5 +1,5 @@
 -- What a session's connections carried, and what arrived on them, is what its operations told.
-use Rattle.std.proofs.Common.{◌≡◌, ℕ, List, [], ◌∷◌, ◌++◌, Option, Some, None, Bool, true, false, refl, sym, ap, ◌∙◌, append_assoc, append-nil, true≢false, if◌then◌else◌}
+use Rattle.std.proofs.Common.{◌≡◌, ℕ, List, [], ◌∷◌, ◌++◌, Option, Some, None, Bool, true, false, refl, sym, ap, ◌∙◌, append_assoc, append-nil, true≢false}
 use Rattle.stanza_tree.specs.declared.frame.Entry.{Entry}
 use Rattle.sm_queue.specs.Queues.{has_room}
 use Rattle.sm_account.specs.Sessions as one
@@ -7,6 +7,7 @@ use Rattle.sm_account.specs.Sessions.{Hold, Held, Away, Core, Op, core_if, core_
 use Rattle.sm_account.specs.Connections as past
 use Rattle.sm_account.specs.Connections.{Trace, Session, connections, trace_if, step_if, step, run}
 use Rattle.sm_account.specs.Logs.{Given, Taken, log_of, given_of, gives_if, gives, takes_if, takes, carried_on, all_carried, arrived_on, all_arrived}
+use Rattle.sm_account.proofs.Steps.{pushed_if}
 
 -- a log of some operations and then others
 pub log_append : {S A : Type 0} (tell : Core S → Op S → List A) (s : Core S) (xs ys : List (Op S))
@@ -18,7 +19,7 @@ log_append {A = A} tell s (x ∷ xs) ys =
 
 -- a session that counts goes on counting
 pushed_counts : {S : Type 0} (s : Core S) (e : Entry) (b : Bool) → s.counts ≡ true
-    → (if b then record s { queued = s.queued ++ e ∷ [] } else one.ended s).counts ≡ true
+    → (pushed_if s e b).counts ≡ true
 pushed_counts s e true is = is
 pushed_counts s e false is = is
 
@@ -64,7 +65,7 @@ abbrev pub IsNumbered : {S : Type 0} → Session S → Type 0
 IsNumbered s = (d : ℕ) → s.core.hold ≡ Held d → s.trace.present.number ≡ d
 
 pushed_hold : {S : Type 0} (s : Core S) (e : Entry) (d : ℕ) (b : Bool)
-    → (if b then record s { queued = s.queued ++ e ∷ [] } else one.ended s).hold ≡ Held d → s.hold ≡ Held d
+    → (pushed_if s e b).hold ≡ Held d → s.hold ≡ Held d
 pushed_hold s e d true is = is
 pushed_hold s e d false is = absurd (cc)
 
@@ -132,7 +133,8 @@ carries_given : {S : Type 0} (t : Trace S) (d : ℕ) (o : Option Entry) → t.pr
 carries_given t d None is = sym (append-nil _)
 carries_given t d (Some e) is = rw (← is) (
     ap (λ (l : List Given). all_carried t.earlier ++ l) (carried_more t.present.number e t.present.carried)
-    ∙ sym (append_assoc (all_carried t.earlier) (carried_on t.present.number t.present.carried) (given_of t.present.number (Some e)))
+    ∙ sym (append_assoc (all_carried t.earlier) (carried_on t.present.number t.present.carried)
+    (given_of t.present.number (Some e)))
     )
 
 opens_given : {S : Type 0} (t : Trace S) (c : ℕ) (o : Option ℕ)
@@ -142,7 +144,8 @@ opens_given t c (Some n) = refl
 
 step_given : {S : Type 0} (b : Bool) (m : Hold) (op : Op S) (s : Session S) → (b ≡ false → s.trace.present.carried ≡ [])
     → s.core.hold ≡ m → IsNumbered s
-    → all_carried (connections (trace_if b m s.core s.trace op)) ≡ all_carried (connections s.trace) ++ gives_if b m s.core op
+    → all_carried (connections (trace_if b m s.core s.trace op))
+    ≡ all_carried (connections s.trace) ++ gives_if b m s.core op
 step_given true (Held d) one.Pull s bare is num = carries_given s.trace d (one.next_entry s.core) (num d is)
 step_given true (Held d) (one.Resume c h) s bare is num = opens_given s.trace c (one.named s.core h)
 step_given true Away (one.Resume c h) s bare is num = opens_given s.trace c (one.named s.core h)
@@ -164,7 +167,8 @@ pub run_given : {S : Type 0} (s : Session S) (ops : List (Op S)) → IsBare s �
 run_given s [] bare num = sym (append-nil _)
 run_given s (op ∷ ops) bare num =
     run_given (step s op) ops (bare_step op s bare) (numbered_step op s num)
-    ∙ (ap (λ (l : List Given). l ++ log_of gives (core_step s.core op) ops) (step_given s.core.counts s.core.hold op s (λ is. (bare is).0) refl num)
+    ∙ (ap (λ (l : List Given). l ++ log_of gives (core_step s.core op) ops)
+    (step_given s.core.counts s.core.hold op s (λ is. (bare is).0) refl num)
     ∙ append_assoc (all_carried (connections s.trace)) (gives s.core op) (log_of gives (core_step s.core op) ops))
 
 -- stanzas, connection by connection
@@ -185,10 +189,12 @@ opens_taken t c None = sym (append-nil _)
 opens_taken t c (Some n) = refl
 
 arrives_taken : {S : Type 0} (t : Trace S) (d : ℕ) (x : S) (b : Bool) → t.present.number ≡ d
-    → all_arrived (connections (past.arrives t x b)) ≡ all_arrived (connections t) ++ record { connection = d; stanza = x } ∷ []
+    → all_arrived (connections (past.arrives t x b))
+    ≡ all_arrived (connections t) ++ record { connection = d; stanza = x } ∷ []
 arrives_taken {S = S} t d x b is = rw (← is) (
     ap (λ (l : List (Taken S)). all_arrived t.earlier ++ l) (arrived_more t.present.number x t.present.arrived)
-    ∙ sym (append_assoc (all_arrived t.earlier) (arrived_on t.present.number t.present.arrived) (record { connection = t.present.number; stanza = x } ∷ []))
+    ∙ sym (append_assoc (all_arrived t.earlier) (arrived_on t.present.number t.present.arrived)
+    (record { connection = t.present.number; stanza = x } ∷ []))
     )
 
 step_taken : {S : Type 0} (b : Bool) (m : Hold) (op : Op S) (s : Session S) → (b ≡ false → s.trace.present.arrived ≡ [])
@@ -215,5 +221,6 @@ pub run_taken : {S : Type 0} (s : Session S) (ops : List (Op S)) → IsBare s �
 run_taken s [] bare num = sym (append-nil _)
 run_taken {S = S} s (op ∷ ops) bare num =
     run_taken (step s op) ops (bare_step op s bare) (numbered_step op s num)
-    ∙ (ap (λ (l : List (Taken S)). l ++ log_of takes (core_step s.core op) ops) (step_taken s.core.counts s.core.hold op s (λ is. (bare is).1) refl num)
+    ∙ (ap (λ (l : List (Taken S)). l ++ log_of takes (core_step s.core op) ops)
+    (step_taken s.core.counts s.core.hold op s (λ is. (bare is).1) refl num)
     ∙ append_assoc (all_arrived (connections s.trace)) (takes s.core op) (log_of takes (core_step s.core op) ops))

@@ -1,5 +1,5 @@
 -- The session of the notes, state by state: a state is written out, so that nothing is computed twice.
-use Rattle.std.proofs.Common.{◌≡◌, inl, ℕ, ◌+◌, ◌≤◌, List, [], ◌∷◌, ◌++◌, length, Option, Some, Bool, true, false, refl, sym, ap, ◌∙◌, subst, arith, if◌then◌else◌}
+use Rattle.std.proofs.Common.{◌≡◌, inl, ℕ, ◌+◌, ◌≤◌, List, [], ◌∷◌, ◌++◌, length, Some, Bool, true, false, refl, sym, ap, ◌∙◌, subst, arith, if◌then◌else◌}
 use Rattle.std.specs.Prelude.{◌&&◌, nat_le}
 use Rattle.std.proofs.lemmas.Bool.{le-leb, lt-ltb}
 use Rattle.stanza_tree.specs.declared.frame.Entry.{Entry}
@@ -10,10 +10,10 @@ use Rattle.sm_queue.specs.Queues.{frames_length, has_room, most_bytes}
 use Rattle.sm_queue.proofs.WholeLemmas.{frames_of_cons}
 use Rattle.sm_account.specs.Sessions as one
 use Rattle.sm_account.specs.Sessions.{Hold, Held, Away, Core, Op, Push, Pull, Enable, Drop, Resume, Act, acted, named}
-use Rattle.sm_account.specs.Connections as past
-use Rattle.sm_account.specs.Connections.{Connection, Trace, Session, connections, start, step, run}
+use Rattle.sm_account.specs.Connections.{Connection, Session, connections, start, step, run}
 use Rattle.sm_account.specs.Accounts.{AllConnectionsFit, AllOperationsFit, IsAccount, ResumesIf, handled}
 use Rattle.sm_account.specs.Stories.{notes, notes_sent, reader}
+use Rattle.sm_account.proofs.Steps.{resumed_by}
 
 -- a number in a window is the one with its count
 pub is_number : (q n : ℕ) → n ≤ q → q ≤ 5000 → number 0 q n ≡ Some n
@@ -133,10 +133,7 @@ module _ (S : Type 0) (c d : ℕ) (early n1 n2 n3 : Entry) (fits : HaveRoom earl
   names_two = is_number 3 2 (omega arith) (omega arith)
 
   resumes : step dropped (Resume d 2) ≡ resumed
-  resumes = ap (λ (o : Option ℕ). record {
-    core = one.resumed dropped.core d o;
-    trace = past.opens dropped.trace d o;
-  }) names_two
+  resumes = ap (resumed_by dropped d) names_two
 
   abbrev after_queuing : List (Op S)
   after_queuing = Pull ∷ Pull ∷ Pull ∷ Drop ∷ Resume d 2 ∷ Pull ∷ []
@@ -179,10 +176,12 @@ module _ (S : Type 0) (c d : ℕ) (early n1 n2 n3 : Entry) (fits : HaveRoom earl
   two_hold = subst (λ (s : Session S). Holds s 0 (Push n3 ∷ after_queuing)) (sym second_push) (0, refl, full_holds)
 
   one_holds : Holds (step (queuing []) (Push n1)) 0 (Push n2 ∷ Push n3 ∷ after_queuing)
-  one_holds = subst (λ (s : Session S). Holds s 0 (Push n2 ∷ Push n3 ∷ after_queuing)) (sym first_push) (0, refl, two_hold)
+  one_holds = subst (λ (s : Session S). Holds s 0 (Push n2 ∷ Push n3 ∷ after_queuing)) (sym first_push)
+      (0, refl, two_hold)
 
   early_holds : Holds (step (new []) (Push early)) 0 after_early
-  early_holds = subst (λ (s : Session S). Holds s 0 after_early) (sym early_push) (0, refl, (0, refl, (0, refl, one_holds)))
+  early_holds = subst (λ (s : Session S). Holds s 0 after_early) (sym early_push)
+      (0, refl, (0, refl, (0, refl, one_holds)))
 
   last_fits : AllConnectionsFit reader (connections last.trace)
   last_fits = (
@@ -202,4 +201,3 @@ module _ (S : Type 0) (c d : ℕ) (early n1 n2 n3 : Entry) (fits : HaveRoom earl
 
   pub notes_are_handled : handled {S = S} reader (run start (notes c d early n1 n2 n3)) ≡ n1 ∷ n2 ∷ n3 ∷ []
   notes_are_handled = ap (handled reader) notes_end
-

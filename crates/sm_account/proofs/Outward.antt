@@ -1,10 +1,11 @@
 -- What is carried and handled, against what is queued.
-use Rattle.std.proofs.Common.{◌≡◌, ℕ, ◌+◌, ◌≤◌, List, [], ◌∷◌, ◌++◌, length, take, drop, Some, refl, sym, ap, ◌∙◌, subst, append_assoc, length-append, take-append-drop, arith}
+use Rattle.std.proofs.Common.{◌≡◌, ℕ, ◌+◌, ◌≤◌, List, [], ◌∷◌, ◌++◌, length, take, drop, Some, refl, sym, ap, ◌∙◌, append_assoc, length-append, take-append-drop, arith}
 use Rattle.std.proofs.Math.Seq.{drop-append_seam}
 use Rattle.std.proofs.lemmas.Grind.{common_steps}
 use Rattle.std.specs.Prelude.{slice_get}
 use Rattle.stanza_tree.specs.declared.frame.Entry.{Entry}
 use Rattle.sm_account.specs.Connections.{Connection}
+use Rattle.sm_account.proofs.Lists.{next_after}
 use Rattle.sm_account.specs.Accounts.{total, handled_on}
 use Rattle.sm_account.specs.Prefixes.{IsPrefixOf}
 
@@ -21,13 +22,6 @@ pub record Outward {S : Type 0} (handles : ℕ → ℕ) (queued : List Entry) (k
   pub kept_is : kept ≡ length before + said
   pub said_carried : said ≤ total handles earlier + length carried
   pub said_handled : said ≤ total handles earlier + handles (length earlier)
-
--- the element after a front is the first of the rest
-pub next_of : {A : Type 0} → (xs rest : List A) (x : A) → slice_get (xs ++ rest) (length xs) ≡ Some x
-    → (ys : List A) × (rest ≡ x ∷ ys)
-next_of [] [] x is = absurd (cc)
-next_of [] (y ∷ ys) x is = (ys, cc)
-next_of (z ∷ zs) rest x is = next_of zs rest x is
 
 -- the session begins to count
 pub starts : {S : Type 0} (handles : ℕ → ℕ) (queued : List Entry) (sent : ℕ) → sent ≤ length queued
@@ -88,9 +82,7 @@ module _ {S : Type 0} {handles : ℕ → ℕ} {queued : List Entry} {kept sent b
       let front : List Entry = o.before ++ (handled_on handles earlier ++ carried) in
       let long : sent ≡ length front = simp length-append (omega (arith, o.sent_is, o.joined)) in
       let split : queued ≡ front ++ o.rest = o.whole ∙ simp append_assoc in
-      let there : slice_get (front ++ o.rest) (length front) ≡ Some x =
-      subst (λ (k : ℕ). slice_get (front ++ o.rest) k ≡ Some x) long (subst (λ (l : List Entry). slice_get l sent ≡ Some x) split is) in
-      let tail = next_of front o.rest x there in
+      let tail = next_after queued front o.rest sent x split long is in
       pulls_first x tail.0 tail.1
 
   -- the client says how much it handled
@@ -108,34 +100,38 @@ module _ {S : Type 0} {handles : ℕ → ℕ} {queued : List Entry} {kept sent b
     said_handled = high;
   }
 
--- the next connection begins after what was handled
-pub opens : {S : Type 0} {handles : ℕ → ℕ} {queued : List Entry} {kept sent base said : ℕ} (c : Connection S) {earlier : List (Connection S)}
-    → handles (length earlier) ≤ length c.carried
-    → Outward handles queued kept sent base c.carried earlier said
-    → Outward handles queued (base + (total handles earlier + handles (length earlier))) (base + (total handles earlier + handles (length earlier))) base [] (c ∷ earlier) (total handles earlier + handles (length earlier))
-opens {handles = handles} {queued = queued} {kept = kept} {sent = sent} {base = base} c {earlier = earlier} within o =
-    record {
-      before = o.before;
-      rest = drop (handles (length earlier)) c.carried ++ o.rest;
-      whole =
-          o.whole ∙ ap (λ (l : List Entry). o.before ++ l) (joins (handled_on handles earlier) c.carried o.rest (handles (length earlier)));
-      base_is = o.base_is;
-      joined =
-          let long : length (take (handles (length earlier)) c.carried) ≡ handles (length earlier) =
-          grind (arith, common_steps) in
-          simp length-append (omega (arith, o.joined));
-      sent_is = omega (arith, o.base_is);
-      kept_is = omega (arith, o.base_is);
-      said_carried = omega arith;
-      said_handled = omega arith;
-    }
+module _ {S : Type 0} {handles : ℕ → ℕ} {queued : List Entry} {kept sent base said : ℕ} (c : Connection S)
+    {earlier : List (Connection S)} (o : Outward handles queued kept sent base c.carried earlier said) where
+  -- how many of its entries were handled, and how many of all
+  abbrev here : ℕ
+  here = handles (length earlier)
 
--- what was handled is a prefix of what was queued since the session counts
-pub prefix : {S : Type 0} {handles : ℕ → ℕ} {queued : List Entry} {kept sent base said : ℕ} (c : Connection S) {earlier : List (Connection S)}
-    → Outward handles queued kept sent base c.carried earlier said
-    → IsPrefixOf (handled_on handles (c ∷ earlier)) (drop base queued)
-prefix {handles = handles} {queued = queued} c {earlier = earlier} o =
-    let left : List Entry = drop (handles (length earlier)) c.carried ++ o.rest in
-    let split : queued ≡ o.before ++ (handled_on handles (c ∷ earlier) ++ left) =
-    o.whole ∙ ap (λ (l : List Entry). o.before ++ l) (joins (handled_on handles earlier) c.carried o.rest (handles (length earlier))) in
-    (left, sym (rw (split, o.base_is) (drop-append_seam o.before _)))
+  abbrev handled_now : ℕ
+  handled_now = total handles earlier + here
+
+  abbrev left : List Entry
+  left = drop here c.carried ++ o.rest
+
+  split : queued ≡ o.before ++ (handled_on handles (c ∷ earlier) ++ left)
+  split = o.whole ∙ ap (λ (l : List Entry). o.before ++ l) (joins (handled_on handles earlier) c.carried o.rest here)
+
+  -- the next connection begins after what was handled
+  pub opens : here ≤ length c.carried
+      → Outward handles queued (base + handled_now) (base + handled_now) base [] (c ∷ earlier) handled_now
+  opens within = record {
+    before = o.before;
+    rest = left;
+    whole = split;
+    base_is = o.base_is;
+    joined =
+        let long : length (take here c.carried) ≡ here = grind (arith, common_steps) in
+        simp length-append (omega (arith, o.joined));
+    sent_is = omega (arith, o.base_is);
+    kept_is = omega (arith, o.base_is);
+    said_carried = omega arith;
+    said_handled = omega arith;
+  }
+
+  -- what was handled is a prefix of what was queued since the session counts
+  pub prefix : IsPrefixOf (handled_on handles (c ∷ earlier)) (drop base queued)
+  prefix = (left, sym (rw (split, o.base_is) (drop-append_seam o.before _)))

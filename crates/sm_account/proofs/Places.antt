@@ -1,5 +1,5 @@
 -- Each operation keeps the places of a session in order and its queue within the limits.
-use Rattle.std.proofs.Common.{◌≡◌, ℕ, zero, suc, ◌+◌, ◌-◌, ◌^◌, ◌<◌, ◌≤◌, List, [], ◌∷◌, ◌++◌, length, drop, Option, Some, None, Bool, true, false, refl, le_refl, length-append, length-drop, arith, if◌then◌else◌}
+use Rattle.std.proofs.Common.{◌≡◌, ℕ, zero, suc, ◌+◌, ◌-◌, ◌^◌, ◌<◌, ◌≤◌, List, [], ◌∷◌, ◌++◌, length, drop, Option, Some, None, Bool, true, false, refl, le_refl, length-append, length-drop, arith}
 use Rattle.std.specs.Prelude.{◌&&◌, nat_lt, nat_le}
 use Rattle.std.proofs.lemmas.Bool.{ltb-true, leb-true}
 use Rattle.std.proofs.lemmas.List.{drop-append-le}
@@ -13,6 +13,7 @@ use Rattle.sm_queue.specs.Queues.{frames_length, has_room, most_bytes, most_wait
 use Rattle.sm_queue.proofs.WholeLemmas.{frames_of_cons}
 use Rattle.sm_account.specs.Sessions as one
 use Rattle.sm_account.specs.Sessions.{Hold, Held, Away, Ended, Core, Op, core_if, core_step, core_run}
+use Rattle.sm_account.proofs.Steps.{pushed_if}
 use Rattle.sm_account.specs.Places.{QueueIsInOrder, IsInOrder}
 
 -- less waits from a later place on
@@ -56,7 +57,8 @@ longer queued kept sent asked_at base e room q =
     let rest : drop kept (queued ++ e ∷ []) ≡ drop kept queued ++ e ∷ [] =
     drop-append-le kept queued (e ∷ []) (omega (arith, q.in_order, q.within)) in
     let limits =
-    both (nat_lt (length (drop kept queued)) most_waiting) (nat_le (frames_length (drop kept queued) + length (frame e)) most_bytes) room in
+    both (nat_lt (length (drop kept queued)) most_waiting)
+    (nat_le (frames_length (drop kept queued) + length (frame e)) most_bytes) room in
     let few = ltb-true _ _ limits.0 in
     let small = leb-true _ _ limits.1 in
     let sum : frames_length (drop kept queued ++ e ∷ []) ≡ frames_length (drop kept queued) + frames_length (e ∷ []) =
@@ -79,7 +81,7 @@ named_within kept sent base h n began is =
     (omega (arith, at.low), at.high)
 
 pushed : {S : Type 0} (s : Core S) (e : Entry) (b : Bool) → has_room (one.waiting s) e ≡ b → IsInOrder s
-    → IsInOrder (if b then record s { queued = s.queued ++ e ∷ [] } else one.ended s)
+    → IsInOrder (pushed_if s e b)
 pushed s e true room o =
     record { queue = longer s.queued s.kept s.sent s.asked_at s.base_out e room o.queue; base_in = o.base_in }
 pushed s e false room o = record { queue = o.queue; base_in = o.base_in }
@@ -98,7 +100,8 @@ pulled_uncounted s (Some e) is o = record {
         few = o.queue.few;
         small = o.queue.small;
       } in
-      moved s.queued s.kept (s.sent + 1) s.asked_at s.base_out (s.sent + 1) q (omega (arith, o.queue.in_order)) (le_refl (s.sent + 1));
+      moved s.queued s.kept (s.sent + 1) s.asked_at s.base_out (s.sent + 1) q
+      (omega (arith, o.queue.in_order)) (le_refl (s.sent + 1));
   base_in = o.base_in;
 }
 
@@ -153,7 +156,8 @@ acknowledged s h (Some n) is o =
     let at = named_within s.kept s.sent s.base_out h n o.queue.began is in
     record {
       queue =
-          moved s.queued s.kept s.sent s.asked_at s.base_out (s.base_out + n) o.queue at.0 (omega (arith, at.1, o.queue.began, o.queue.in_order));
+          moved s.queued s.kept s.sent s.asked_at s.base_out (s.base_out + n) o.queue at.0
+          (omega (arith, at.1, o.queue.began, o.queue.in_order));
       base_in = o.base_in;
     }
 
@@ -163,7 +167,8 @@ resumed s c h None is o = o
 resumed s c h (Some n) is o =
     let at = named_within s.kept s.sent s.base_out h n o.queue.began is in
     let q =
-    moved s.queued s.kept s.sent s.asked_at s.base_out (s.base_out + n) o.queue at.0 (omega (arith, at.1, o.queue.began, o.queue.in_order)) in
+    moved s.queued s.kept s.sent s.asked_at s.base_out (s.base_out + n) o.queue at.0
+    (omega (arith, at.1, o.queue.began, o.queue.in_order)) in
     record {
       queue = record {
         began = q.began;
@@ -210,7 +215,14 @@ step_in_order op s o = step_if s.counts s.hold op s o
 pub unmade_in_order : {S : Type 0} → IsInOrder {S = S} one.unmade
 unmade_in_order = record {
   queue =
-      record { began = omega arith; in_order = omega arith; asked = omega arith; within = omega arith; few = omega arith; small = omega arith };
+      record {
+        began = omega arith;
+        in_order = omega arith;
+        asked = omega arith;
+        within = omega arith;
+        few = omega arith;
+        small = omega arith;
+      };
   base_in = omega arith;
 }
 

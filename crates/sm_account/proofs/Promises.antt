@@ -62,4 +62,5 @@ pub goes_on : {S : Type 0} (a : Account S) (ops : List (Op S)) (c : ℕ) → IsA
     ≡ (run start ops).core.base_out + total_handled a (run start ops)
 goes_on {S = S} a ops c is counts live =
     ap (λ (s : Session S). s.core.sent)
-    (resumes (run start ops).core.counts (run start ops).core.hold (run start ops) c _ _ counts live (count_is_named a ops is counts))
+    (resumes (run start ops).core.counts (run start ops).core.hold (run start ops) c _ _ counts live
+    (count_is_named a ops is counts))

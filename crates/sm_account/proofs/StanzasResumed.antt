@@ -1,11 +1,10 @@
 -- The session of the stanzas, state by state.
-use Rattle.std.proofs.Common.{◌≡◌, inl, ℕ, List, [], ◌∷◌, Option, Some, true, false, refl, sym, ap, subst, arith}
-use Rattle.sm_account.specs.Sessions as one
-use Rattle.sm_account.specs.Sessions.{Hold, Held, Away, Core, Op, Push, Pull, Enable, Drop, Resume, Act, acted, named}
-use Rattle.sm_account.specs.Connections as past
-use Rattle.sm_account.specs.Connections.{Connection, Trace, Session, connections, start, step, run}
+use Rattle.std.proofs.Common.{◌≡◌, inl, ℕ, List, [], ◌∷◌, Some, true, false, refl, sym, ap, subst, arith}
+use Rattle.sm_account.specs.Sessions.{Hold, Held, Away, Core, Resume, Act, acted, named}
+use Rattle.sm_account.specs.Connections.{Connection, Session, connections, start, step, run}
 use Rattle.sm_account.specs.Accounts.{Account, AllConnectionsFit, AllOperationsFit, IsAccount, ResumesIf}
 use Rattle.sm_account.specs.Stories.{stanzas, stanzas_came, writer}
+use Rattle.sm_account.proofs.Steps.{resumed_by}
 use Rattle.sm_account.proofs.NotesResumed.{is_number}
 
 module _ {S : Type 0} (c d : ℕ) (x0 x1 x2 x3 x4 x5 : S) where
@@ -50,7 +49,7 @@ module _ {S : Type 0} (c d : ℕ) (x0 x1 x2 x3 x4 x5 : S) where
   names_none = is_number 0 0 (omega arith) (omega arith)
 
   goes_on : step cut (Resume d 0) ≡ again
-  goes_on = ap (λ (o : Option ℕ). record { core = one.resumed cut.core d o; trace = past.opens cut.trace d o }) names_none
+  goes_on = ap (resumed_by cut d) names_none
 
   stanzas_end : run start (stanzas c d x0 x1 x2 x3 x4 x5) ≡ end
   stanzas_end = ap (λ (s : Session S). run s (Act x4 ∷ Act x5 ∷ [])) goes_on

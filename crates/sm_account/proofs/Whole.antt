@@ -1,5 +1,5 @@
 -- From what an account says of whole connections to what it says of each operation at its turn.
-use Rattle.std.proofs.Common.{◌≡◌, ℕ, zero, suc, ◌+◌, List, [], ◌∷◌, ◌++◌, length, drop, Option, Some, None, Bool, true, false, refl, sym, ap, ◌∙◌, subst, append_assoc, append-nil, arith}
+use Rattle.std.proofs.Common.{◌≡◌, ℕ, ◌+◌, List, [], ◌∷◌, ◌++◌, length, Option, Some, None, Bool, true, false, refl, sym, ap, ◌∙◌, subst, append_assoc, append-nil}
 use Rattle.std.specs.Prelude.{slice_get}
 use Rattle.stanza_tree.specs.declared.frame.Entry.{Entry}
 use Rattle.sm_account.specs.Sessions as one
@@ -7,6 +7,7 @@ use Rattle.sm_account.specs.Sessions.{Hold, Held, Away, Core, Op}
 use Rattle.sm_account.specs.Connections as past
 use Rattle.sm_account.specs.Connections.{Connection, Trace, Session, connections, trace_if, step_if, step, run}
 use Rattle.sm_account.specs.Accounts.{Account, ResumesIf, OperationFits, AllOperationsFit, ConnectionFits, AllConnectionsFit}
+use Rattle.sm_account.proofs.Lists.{get_after}
 use Rattle.sm_account.proofs.Follows.{IsNext, GoesOnIf, Meets, Follows}
 
 -- the connections of u are those of t, the present one with more on it, and newer ones
@@ -60,7 +61,9 @@ module _ {S : Type 0} (t u : Trace S) where
     more_carried = [];
     more_arrived = [];
     all =
-        x.all ∙ (ap (λ (l : List (Connection S)). x.newer ++ (x.same ∷ l)) e ∙ sym (append_assoc x.newer (x.same ∷ []) (t.present ∷ t.earlier)));
+        x.all
+        ∙ (ap (λ (l : List (Connection S)). x.newer ++ (x.same ∷ l)) e
+        ∙ sym (append_assoc x.newer (x.same ∷ []) (t.present ∷ t.earlier)));
     carried = sym (append-nil _);
     arrived = sym (append-nil _);
   }
@@ -102,31 +105,21 @@ fits_before : {S : Type 0} (a : Account S) (t : Trace S) (c : Connection S) (s :
 fits_before {S = S} a t c s ops is all =
     let x = extends s ops in
     let split : connections (run s ops).trace ≡ (x.newer ++ x.same ∷ []) ++ (c ∷ t.earlier) =
-    x.all ∙ (ap (λ (cs : List (Connection S)). x.newer ++ (x.same ∷ cs)) is ∙ sym (append_assoc x.newer (x.same ∷ []) (c ∷ t.earlier))) in
+    x.all
+    ∙ (ap (λ (cs : List (Connection S)). x.newer ++ (x.same ∷ cs)) is
+    ∙ sym (append_assoc x.newer (x.same ∷ []) (c ∷ t.earlier))) in
     fit_at a (x.newer ++ x.same ∷ []) c t.earlier (subst (AllConnectionsFit a) split all)
 
-get_drop : {A : Type 0} (r k : ℕ) (xs : List A) → slice_get (drop r xs) k ≡ slice_get xs (r + k)
-get_drop zero k xs = let e : k ≡ 0 + k = omega arith in ap (slice_get xs) e
-get_drop (suc r) k [] = refl
-get_drop (suc r) k (x ∷ xs) =
-    let e : suc (r + k) ≡ suc r + k = omega arith in get_drop r k xs ∙ ap (slice_get (x ∷ xs)) e
-
-get_seam : {A : Type 0} (xs rest : List A) (x : A) → slice_get (xs ++ (x ∷ rest)) (length xs) ≡ Some x
-get_seam [] rest x = refl
-get_seam (y ∷ ys) rest x = get_seam ys rest x
-
--- the stanza after some of those from place r on
-next_is : {A : Type 0} (xs rest whole : List A) (x : A) (r : ℕ) → xs ++ (x ∷ rest) ≡ drop r whole
-    → slice_get whole (r + length xs) ≡ Some x
-next_is {A} xs rest whole x r e =
-    sym (get_drop r (length xs) whole) ∙ (ap (λ (l : List A). slice_get l (length xs)) (sym e) ∙ get_seam xs rest x)
-
-arrives_next : {S : Type 0} (a : Account S) (i : ℕ) (before more : List S) (x : S) (c : Connection S) → ConnectionFits a i c
+arrives_next : {S : Type 0} (a : Account S) (i : ℕ) (before more : List S) (x : S) (c : Connection S)
+    → ConnectionFits a i c
     → c.arrived ≡ (before ++ x ∷ []) ++ more
     → slice_get a.stanzas (a.begins i + length before) ≡ Some x
 arrives_next {S = S} a i before more x c f is =
-    next_is before (more ++ f.in_order.0) a.stanzas x (a.begins i)
-    (sym (ap (λ (l : List S). l ++ f.in_order.0) is ∙ (append_assoc (before ++ x ∷ []) more f.in_order.0 ∙ append_assoc before (x ∷ []) (more ++ f.in_order.0))) ∙ f.in_order.1)
+    get_after before (more ++ f.in_order.0) a.stanzas x (a.begins i)
+    (sym (ap (λ (l : List S). l ++ f.in_order.0) is
+    ∙ (append_assoc (before ++ x ∷ []) more f.in_order.0
+    ∙ append_assoc before (x ∷ []) (more ++ f.in_order.0)))
+    ∙ f.in_order.1)
 
 arrival_is_next : {S : Type 0} (a : Account S) (s s' : Session S) (x : S) (ops : List (Op S))
     → s'.trace.earlier ≡ s.trace.earlier
@@ -137,17 +130,21 @@ arrival_is_next {S = S} a s s' x ops alike is whole all =
     let fit = fit_at a y.newer y.same s'.trace.earlier (subst (AllConnectionsFit a) y.all all) in
     record {
       next = arrives_next a (length s.trace.earlier) s.trace.present.arrived y.more_arrived x y.same
-          (subst (λ (cs : List (Connection S)). ConnectionFits a (length cs) y.same) alike fit) (y.arrived ∙ ap (λ (l : List S). l ++ y.more_arrived) is);
+          (subst (λ (cs : List (Connection S)). ConnectionFits a (length cs) y.same) alike fit)
+          (y.arrived ∙ ap (λ (l : List S). l ++ y.more_arrived) is);
       whole = whole;
     }
 
-resume_meets : {S : Type 0} (a : Account S) (s : Session S) (said c h v : ℕ) (k : Core S) (ops : List (Op S)) (o : Option ℕ)
+resume_meets : {S : Type 0} (a : Account S) (s : Session S) (said c h v : ℕ) (k : Core S) (ops : List (Op S))
+    (o : Option ℕ)
     → ResumesIf a s said h v o
     → AllConnectionsFit a (connections (run (record { core = k; trace = past.opens s.trace c o }) ops).trace)
     → GoesOnIf a s said h v o
 resume_meets a s said c h v k ops None e all = e
-resume_meets a s said c h v k ops (Some n) (r, e) all =
-    ((fits_before a s.trace s.trace.present (record { core = k; trace = past.opens s.trace c (Some n) }) ops refl all).within, r, e)
+resume_meets {S = S} a s said c h v k ops (Some n) (r, e) all =
+    let t : Session S = record { core = k; trace = past.opens s.trace c (Some n) } in
+    let before = fits_before a s.trace s.trace.present t ops refl all in
+    (before.within, r, e)
 
 meets : {S : Type 0} (b : Bool) (m : Hold) (op : Op S) (a : Account S) (s : Session S) (said v : ℕ) (ops : List (Op S))
     → OperationFits b m a s said op v
@@ -162,7 +159,8 @@ meets true Away (one.Resume c h) a s said v ops e all = resume_meets a s said c 
 meets true m op a s said v ops e all = e
 meets false m op a s said v ops e all = e
 
-pub follows : {S : Type 0} (a : Account S) (s : Session S) (said : ℕ) (ops : List (Op S)) → AllOperationsFit a s said ops
+pub follows : {S : Type 0} (a : Account S) (s : Session S) (said : ℕ) (ops : List (Op S))
+    → AllOperationsFit a s said ops
     → AllConnectionsFit a (connections (run s ops).trace) → Follows a s said ops
 follows a s said [] e all = all.0.within
 follows a s said (op ∷ ops) (v, e, rest) all =

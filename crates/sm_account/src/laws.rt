@@ -55,6 +55,6 @@ pub fn logs_agree<S>()
     ensures acted { (ops : List (Op S)) → acted (after ops).core ≡ log_of log.does unmade ops }
     ensures told { (ops : List (Op S)) → (after ops).trace.told ≡ latest_first (log_of log.answers unmade ops) [] }
     ensures each { (ops : List (Op S)) → AreDistinct (numbers (connections (after ops).trace))
-        → AllAre (λ c. log.entries_of c (log_of log.gives unmade ops)) (λ c. log.stanzas_of c (log_of log.takes unmade ops))
-        (connections (after ops).trace) }
+        → AllAre (λ c. log.entries_of c (log_of log.gives unmade ops))
+        (λ c. log.stanzas_of c (log_of log.takes unmade ops)) (connections (after ops).trace) }
 {}

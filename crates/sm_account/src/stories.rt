@@ -10,8 +10,8 @@ ghost use Rattle.sm_account.specs.Accounts.{IsAccount, handled};
 ghost use Rattle.sm_account.specs.Stories.{notes, notes_sent, reader};
 ghost use Rattle.sm_account.specs.Stories.{stanzas, stanzas_came, stanzas_until_drop, writer};
 
-/// Three notes are sent, the client handles two, and the connection is lost. The resumption says 2, the third note alone
-/// is sent again, and all three are handled.
+/// Three notes are sent, the client handles two, and the connection is lost. The resumption says 2, the third note
+/// alone is sent again, and all three are handled.
 pub fn resumes_after_a_drop<S>()
     ensures account { (c d : ℕ) (early one two three : Entry)
         → frames_length (early ∷ one ∷ two ∷ three ∷ []) ≤ most_bytes
