@@ -9,69 +9,11 @@ use Rattle.sm_account.specs.Prefixes.{IsPrefixOf}
 use Rattle.sm_account.specs.Sessions as one
 use Rattle.sm_account.specs.Sessions.{Hold, Held, Away, Ended, Core, Op, core_if, core_step, core_run}
 use Rattle.sm_account.specs.Connections.{Connection, Session, CarriesFrom, connections, start, step_if, step, run}
-use Rattle.sm_account.specs.Places.{IsInOrder}
-use Rattle.sm_account.proofs.Places.{named_within, run_in_order, unmade_in_order}
+use Rattle.sm_account.proofs.Places.{named_within}
 use Rattle.sm_account.proofs.Lists.{further, itself, next_after}
 use Rattle.sm_account.proofs.Steps.{pulled_by, pushed_if, resumed_by, with_core}
 use Rattle.sm_account.proofs.Whole.{extends}
-
-pub core_of_run : {S : Type 0} (s : Session S) (ops : List (Op S)) → (run s ops).core ≡ core_run s.core ops
-core_of_run s [] = refl
-core_of_run s (op ∷ ops) = core_of_run (step s op) ops
-
-pub run_append : {S : Type 0} (s : Session S) (xs ys : List (Op S)) → run s (xs ++ ys) ≡ run (run s xs) ys
-run_append s [] ys = refl
-run_append s (x ∷ xs) ys = run_append (step s x) xs ys
-
--- the queue only grows
-pushed_grows : {S : Type 0} (s : Core S) (e : Entry) (b : Bool)
-    → IsPrefixOf s.queued (pushed_if s e b).queued
-pushed_grows s e true = (e ∷ [], refl)
-pushed_grows s e false = itself s.queued
-
-uncounted_grows : {S : Type 0} (s : Core S) (o : Option Entry) → IsPrefixOf s.queued (one.pulled_uncounted s o).queued
-uncounted_grows s None = itself s.queued
-uncounted_grows s (Some e) = itself s.queued
-
-pulled_grows : {S : Type 0} (s : Core S) (o : Option Entry) → IsPrefixOf s.queued (one.pulled s o).queued
-pulled_grows s None = itself s.queued
-pulled_grows s (Some e) = itself s.queued
-
-acknowledged_grows : {S : Type 0} (s : Core S) (o : Option ℕ) → IsPrefixOf s.queued (one.acknowledged s o).queued
-acknowledged_grows s None = itself s.queued
-acknowledged_grows s (Some n) = itself s.queued
-
-resumed_grows : {S : Type 0} (s : Core S) (c : ℕ) (o : Option ℕ) → IsPrefixOf s.queued (one.resumed s c o).queued
-resumed_grows s c None = itself s.queued
-resumed_grows s c (Some n) = itself s.queued
-
-queue_grows : {S : Type 0} (b : Bool) (m : Hold) (s : Core S) (op : Op S)
-    → IsPrefixOf s.queued (core_if b m s op).queued
-queue_grows false Away s (one.Begin c) = itself s.queued
-queue_grows true (Held d) s (one.Push e) = pushed_grows s e (has_room (one.waiting s) e)
-queue_grows false (Held d) s (one.Push e) = pushed_grows s e (has_room (one.waiting s) e)
-queue_grows true Away s (one.Push e) = pushed_grows s e (has_room (one.waiting s) e)
-queue_grows false (Held d) s one.Pull = uncounted_grows s (one.next_entry s)
-queue_grows true (Held d) s one.Pull = pulled_grows s (one.next_entry s)
-queue_grows true (Held d) s one.Request = itself s.queued
-queue_grows false (Held d) s one.Enable = itself s.queued
-queue_grows true (Held d) s (one.Ack h) = acknowledged_grows s (one.named s h)
-queue_grows true (Held d) s (one.Act x) = itself s.queued
-queue_grows false (Held d) s (one.Act x) = itself s.queued
-queue_grows true (Held d) s one.Drop = itself s.queued
-queue_grows false (Held d) s one.Drop = itself s.queued
-queue_grows true (Held d) s (one.Resume c h) = resumed_grows s c (one.named s h)
-queue_grows true Away s (one.Resume c h) = resumed_grows s c (one.named s h)
-queue_grows true (Held d) s one.End = itself s.queued
-queue_grows false (Held d) s one.End = itself s.queued
-queue_grows true Away s one.End = itself s.queued
-queue_grows true m s op = itself s.queued
-queue_grows false m s op = itself s.queued
-
-run_grows : {S : Type 0} (s : Session S) (ops : List (Op S)) → IsPrefixOf s.core.queued (run s ops).core.queued
-run_grows s [] = itself s.core.queued
-run_grows s (op ∷ ops) =
-    further _ _ _ (queue_grows s.core.counts s.core.hold s.core op) (run_grows (step s op) ops)
+use Rattle.sm_account.proofs.Grows.{run_append, run_grows, start_in_order}
 
 -- what is carried is the queue from this place up to what was sent
 record Runs (place : ℕ) (queued : List Entry) (sent : ℕ) (carried : List Entry) : Type 0 where
@@ -209,9 +151,6 @@ module _ {S : Type 0} (place number : ℕ) (before : List (Connection S)) where
     | inl still ↦ carried (step s op) more still
     | inr gone ↦ left s (step s op) more on gone
   ]
-
-pub start_in_order : {S : Type 0} (ops : List (Op S)) → IsInOrder (run start ops).core
-start_in_order ops = subst IsInOrder (sym (core_of_run start ops)) (run_in_order one.unmade ops unmade_in_order)
 
 -- a resumption that goes on
 pub resumes : {S : Type 0} (b : Bool) (m : Hold) (s : Session S) (c h n : ℕ) → b ≡ true → (m ≡ Ended → ⊥)

@@ -1,6 +1,6 @@
 use Rattle.sm_account.specs.Connections.{start}
-use Rattle.sm_account.proofs.Apart.{start_acted, start_all_are, start_given, start_taken, start_told}
-use Rattle.sm_account.proofs.Carried.{core_of_run}
+use Rattle.sm_account.proofs.Histories.{start_acted, start_all_are, start_given, start_taken, start_told}
+use Rattle.sm_account.proofs.Grows.{core_of_run}
 use Rattle.sm_account.proofs.laws.logs_agree.Goals as goal
 
 pub returns-clause-core : goal.returns-clause-core

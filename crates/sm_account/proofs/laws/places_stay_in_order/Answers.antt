@@ -1,4 +1,4 @@
-use Rattle.sm_account.proofs.Carried.{start_in_order}
+use Rattle.sm_account.proofs.Grows.{start_in_order}
 use Rattle.sm_account.proofs.laws.places_stay_in_order.Goals as goal
 
 pub returns : goal.returns
