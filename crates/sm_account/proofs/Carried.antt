@@ -1,8 +1,8 @@
 -- What a connection carries after a resumption is the queue from the client's count on.
-use Rattle.std.proofs.Common.{◌≡◌, ◌⊎◌, inl, inr, ℕ, ◌+◌, ◌≤◌, List, [], ◌∷◌, ◌++◌, length, take, drop, Option, Some, None, Bool, true, false, refl, sym, ap, ◌∙◌, subst, append_assoc, length-append, take-append-drop, arith}
+use Rattle.std.proofs.Common.{◌≡◌, ◌⊎◌, inl, inr, List, [], ◌∷◌, ◌++◌, Option, Some, None, Bool, true, false, refl, sym, ap, ◌∙◌, subst, append_assoc, length-append, take-append-drop, arith}
 use Rattle.std.proofs.Math.Seq.{drop-append_seam}
 use Rattle.std.proofs.lemmas.Grind.{common_steps}
-use Rattle.std.specs.Prelude.{slice_get}
+use Rattle.std.specs.Prelude.{ℕ, ◌+◌, ◌≤◌, length, take, drop, slice_get}
 use Rattle.stanza_tree.specs.declared.frame.Entry.{Entry}
 use Rattle.sm_queue.specs.Queues.{has_room}
 use Rattle.sm_account.specs.Prefixes.{IsPrefixOf}

@@ -1,8 +1,8 @@
 -- What is acted on, against what the client has to send.
-use Rattle.std.proofs.Common.{◌≡◌, ◌⊎◌, inl, inr, ℕ, ◌+◌, ◌-◌, ◌^◌, ◌<◌, ◌≤◌, List, [], ◌∷◌, ◌++◌, length, drop, Some, Bool, true, false, refl, sym, ap, ◌∙◌, append_assoc, append-nil, length-append, le_of_eq, le_refl, arith}
+use Rattle.std.proofs.Common.{◌≡◌, ◌⊎◌, inl, inr, List, [], ◌∷◌, ◌++◌, Some, Bool, true, false, refl, sym, ap, ◌∙◌, append_assoc, append-nil, length-append, le_of_eq, le_refl, arith}
 use Rattle.std.proofs.lemmas.Bool.{cases_lt}
 use Rattle.std.proofs.Math.Seq.{drop-append_seam}
-use Rattle.std.specs.Prelude.{slice_get}
+use Rattle.std.specs.Prelude.{ℕ, ◌+◌, ◌-◌, ◌^◌, ◌<◌, ◌≤◌, length, drop, slice_get}
 use Rattle.sm_counters.specs.Numbers.{count_of, number}
 use Rattle.sm_counters.proofs.CountLaws.{number-is}
 use Rattle.sm_account.specs.Accounts.{IsOneOf}

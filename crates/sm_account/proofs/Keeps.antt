@@ -27,8 +27,8 @@ pub record NeverCounted {S : Type 0} (kept sent : ℕ) (present : Connection S) 
   pub level : kept ≡ sent
   pub silent : said ≡ 0
 
-abbrev pub Fresh : {S : Type 0} → Session S → ℕ → Type 0
-Fresh s said =
+abbrev pub Uncounted : {S : Type 0} → Session S → ℕ → Type 0
+Uncounted s said =
     (s.core.counts ≡ false) × NeverCounted s.core.kept s.core.sent s.trace.present s.trace.earlier s.trace.told said
 
 -- a session that counts
@@ -41,7 +41,7 @@ Counted a s said =
     s.trace.present.arrived s.trace.present.short s.trace.told
 
 abbrev pub Keeps : {S : Type 0} → Account S → Session S → ℕ → Type 0
-Keeps a s said = Fresh s said ⊎ Counted a s said
+Keeps a s said = Uncounted s said ⊎ Counted a s said
 
 -- the number that a count names, where the client may say it
 pub names : {S : Type 0} (a : Account S) (s : Session S) (said v h : ℕ) → IsInOrder s.core → Counted a s said → said ≤ v
@@ -52,14 +52,14 @@ names a s said v h o (counts, out, inn) rising low count =
     (omega (arith, out.kept_is, out.base_is)) (omega (arith, out.sent_is, out.base_is)) count
 
 module _ {S : Type 0} (a : Account S) (s : Session S) (said : ℕ) where
-  fresh_pushed : (e : Entry) (b : Bool) → Fresh s said
+  uncounted_pushed : (e : Entry) (b : Bool) → Uncounted s said
       → Keeps a (with_core s (pushed_if s.core e b)) said
-  fresh_pushed e true f = inl f
-  fresh_pushed e false f = inl f
+  uncounted_pushed e true f = inl f
+  uncounted_pushed e false f = inl f
 
-  fresh_pulled : (o : Option Entry) → Fresh s said → Keeps a (with_core s (one.pulled_uncounted s.core o)) said
-  fresh_pulled None f = inl f
-  fresh_pulled (Some e) (counts, f) = inl (
+  uncounted_pulled : (o : Option Entry) → Uncounted s said → Keeps a (with_core s (one.pulled_uncounted s.core o)) said
+  uncounted_pulled None f = inl f
+  uncounted_pulled (Some e) (counts, f) = inl (
     counts,
     record {
       carried = f.carried;
@@ -72,15 +72,15 @@ module _ {S : Type 0} (a : Account S) (s : Session S) (said : ℕ) where
     },
   )
 
-  fresh_enabled : a.begins 0 ≡ 0 → IsInOrder s.core → Fresh s said → Keeps a (with_core s (one.enabled s.core)) said
-  fresh_enabled first o (counts, f) = inr (
+  uncounted_enabled : a.begins 0 ≡ 0 → IsInOrder s.core → Uncounted s said → Keeps a (with_core s (one.enabled s.core)) said
+  uncounted_enabled first o (counts, f) = inr (
     refl,
     rw (f.carried, f.alone, f.silent) (out.starts a.handles s.core.queued s.core.sent o.queue.within),
     rw (f.arrived, f.whole, f.alone, f.untold) (inn.starts a.stanzas a.begins s.core.acts first),
   )
 
-  fresh_begun : (c : ℕ) → Fresh s said → Keeps a (step_if false Away s (one.Begin c)) said
-  fresh_begun c (counts, f) = inl (
+  uncounted_begun : (c : ℕ) → Uncounted s said → Keeps a (step_if false Away s (one.Begin c)) said
+  uncounted_begun c (counts, f) = inl (
     counts,
     record {
       carried = f.carried;
@@ -93,16 +93,16 @@ module _ {S : Type 0} (a : Account S) (s : Session S) (said : ℕ) where
     },
   )
 
-  fresh_keeps : (m : Hold) (op : Op S) → a.begins 0 ≡ 0 → IsInOrder s.core → Fresh s said
+  uncounted_keeps : (m : Hold) (op : Op S) → a.begins 0 ≡ 0 → IsInOrder s.core → Uncounted s said
       → Keeps a (step_if false m s op) said
-  fresh_keeps Away (one.Begin c) first o f = fresh_begun c f
-  fresh_keeps (Held d) (one.Push e) first o f = fresh_pushed e (has_room (one.waiting s.core) e) f
-  fresh_keeps (Held d) one.Pull first o f = fresh_pulled (one.next_entry s.core) f
-  fresh_keeps (Held d) one.Enable first o f = fresh_enabled first o f
-  fresh_keeps (Held d) (one.Act x) first o f = inl f
-  fresh_keeps (Held d) one.Drop first o f = inl f
-  fresh_keeps (Held d) one.End first o f = inl f
-  fresh_keeps m op first o f = inl f
+  uncounted_keeps Away (one.Begin c) first o f = uncounted_begun c f
+  uncounted_keeps (Held d) (one.Push e) first o f = uncounted_pushed e (has_room (one.waiting s.core) e) f
+  uncounted_keeps (Held d) one.Pull first o f = uncounted_pulled (one.next_entry s.core) f
+  uncounted_keeps (Held d) one.Enable first o f = uncounted_enabled first o f
+  uncounted_keeps (Held d) (one.Act x) first o f = inl f
+  uncounted_keeps (Held d) one.Drop first o f = inl f
+  uncounted_keeps (Held d) one.End first o f = inl f
+  uncounted_keeps m op first o f = inl f
 
   counted_pushed : (e : Entry) (b : Bool) → Counted a s said
       → Counted a (with_core s (pushed_if s.core e b)) said
@@ -153,13 +153,13 @@ module _ {S : Type 0} (a : Account S) (s : Session S) (said : ℕ) where
   counted_keeps Away one.End v in_order k e = rw e k
   counted_keeps m op v in_order k e = rw e k
 
-  fresh_same : (m : Hold) (op : Op S) (v : ℕ) → Meets false m a s said op v → v ≡ said
-  fresh_same m op v e = e
+  uncounted_same : (m : Hold) (op : Op S) (v : ℕ) → Meets false m a s said op v → v ≡ said
+  uncounted_same m op v e = e
 
   keeps_if : (b : Bool) (op : Op S) (v : ℕ) → a.begins 0 ≡ 0 → s.core.counts ≡ b → IsInOrder s.core → Keeps a s said
       → Meets b s.core.hold a s said op v → Keeps a (step_if b s.core.hold s op) v
   keeps_if false op v first is in_order (inl f) e =
-      rw (fresh_same s.core.hold op v e) (fresh_keeps s.core.hold op first in_order f)
+      rw (uncounted_same s.core.hold op v e) (uncounted_keeps s.core.hold op first in_order f)
   keeps_if false op v first is in_order (inr k) e = let bad : true ≡ false = sym k.0 ∙ is in cc
   keeps_if true op v first is in_order (inl f) e = let bad : true ≡ false = sym is ∙ f.0 in cc
   keeps_if true op v first is in_order (inr k) e = inr (counted_keeps s.core.hold op v in_order k e)

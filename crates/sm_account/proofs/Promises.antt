@@ -9,7 +9,7 @@ use Rattle.sm_account.specs.Prefixes.{IsPrefixOf}
 use Rattle.sm_account.proofs.Places.{unmade_in_order}
 use Rattle.sm_account.proofs.Outward as out
 use Rattle.sm_account.proofs.Inward as inn
-use Rattle.sm_account.proofs.Keeps.{AtEnd, Keeps, Fresh, names, runs, starts}
+use Rattle.sm_account.proofs.Keeps.{AtEnd, Keeps, Uncounted, names, runs, starts}
 use Rattle.sm_account.proofs.Carried.{resumes}
 use Rattle.sm_account.proofs.Whole.{follows}
 
@@ -21,7 +21,7 @@ take_none zero es e = refl
 take_none (suc k) [] e = refl
 take_none (suc k) (x ∷ xs) e = absurd (cc)
 
-handled_none : {S : Type 0} (a : Account S) (s : Session S) (said : ℕ) → Fresh s said → handled a s ≡ []
+handled_none : {S : Type 0} (a : Account S) (s : Session S) (said : ℕ) → Uncounted s said → handled a s ≡ []
 handled_none a s said f = rw (f.1.carried, f.1.alone) (take_none (a.handles 0) [] refl)
 
 handled_is : {S : Type 0} (a : Account S) (s : Session S) (said : ℕ) → Keeps a s said

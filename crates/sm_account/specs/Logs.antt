@@ -19,7 +19,7 @@ abbrev pub log_of : {S A : Type 0} → (Core S → Op S → List A) → Core S �
 log_of tell s [] = []
 log_of tell s (op ∷ ops) = tell s op ++ log_of tell (core_step s op) ops
 
--- While the session counts: the entry that Pull gives,
+-- the entry that a Pull gives while the session counts
 abbrev pub given_of : ℕ → Option Entry → List Given
 given_of c None = []
 given_of c (Some e) = record { connection = c; entry = e } ∷ []
@@ -31,7 +31,7 @@ gives_if counts hold s op = []
 abbrev pub gives : {S : Type 0} → Core S → Op S → List Given
 gives s op = gives_if s.counts s.hold s op
 
--- the stanza that arrives, acted on or not,
+-- the stanza that arrives while it counts, acted on or not
 abbrev pub takes_if : {S : Type 0} → Bool → Hold → Op S → List (Taken S)
 takes_if true (Held c) (Act x) = record { connection = c; stanza = x } ∷ []
 takes_if true (Held c) (Short x) = record { connection = c; stanza = x } ∷ []
@@ -40,7 +40,7 @@ takes_if counts hold op = []
 abbrev pub takes : {S : Type 0} → Core S → Op S → List (Taken S)
 takes s op = takes_if s.counts s.hold op
 
--- the stanza that is acted on,
+-- the stanza that is acted on while it counts
 abbrev pub does_if : {S : Type 0} → Bool → Hold → Op S → List S
 does_if true (Held c) (Act x) = x ∷ []
 does_if counts hold op = []
@@ -48,7 +48,7 @@ does_if counts hold op = []
 abbrev pub does : {S : Type 0} → Core S → Op S → List S
 does s op = does_if s.counts s.hold op
 
--- and the number that an Ask is told.
+-- the number that an Ask is told while it counts
 abbrev pub answers_if : {S : Type 0} → Bool → Hold → Core S → Op S → List ℕ
 answers_if true (Held c) s Ask = length (acted s) ∷ []
 answers_if counts hold s op = []
