@@ -60,7 +60,7 @@ pub first_is : (P : SessionRecord → Type 0) (test : SessionRecord → Bool) �
     → ((x : SessionRecord) → test x ≡ true → P x) → (t : TableRecord) → Rises 0 t.sessions t.made
     → IsFirst P t (first_that test t.sessions)
 first_is P test to from t rises = record {
-  holds = by (first_that test t.sessions) refl;
+  found = by (first_that test t.sessions) refl;
   least = λ s there. (first_least test s 0 t.made t.sessions rises (and_carry (lookup (nat_eq s) t.sessions) to there)).1;
 }
   where

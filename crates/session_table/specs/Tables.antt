@@ -129,5 +129,5 @@ first_due now sessions = first_that (is_due now) sessions
 
 -- of the sessions of which this holds the answer is the one of the least number, or none where there is none
 pub record IsFirst (P : SessionRecord → Type 0) (t : TableRecord) (answer : Option ℕ) : Type 0 where
-  pub holds : IfSome answer (λ s. IsThereWith s P t)
+  pub found : IfSome answer (λ s. IsThereWith s P t)
   pub least : (s : ℕ) → IsThereWith s P t → IsSomeAnd answer (λ n. n ≤ s)

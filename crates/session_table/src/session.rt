@@ -59,7 +59,25 @@ impl Model for Session {
 
     ghost Value = { SessionRecord };
 
-    ghost view = { λ s. record { number = s.number; address = s.address; holder = s.holder; state = s.state; deadline = s.deadline; queue = s.queue; given_up = s.given_up; asked_at = s.asked_at; counts = s.counts; resume_id = s.resume_id; acted = s.acted; base_in = s.base_in; presence = s.presence; priority = s.priority; directed = s.directed; wants_roster = s.wants_roster; pushes = s.pushes } };
+    ghost view = { λ s. record {
+      number = s.number;
+      address = s.address;
+      holder = s.holder;
+      state = s.state;
+      deadline = s.deadline;
+      queue = s.queue;
+      given_up = s.given_up;
+      asked_at = s.asked_at;
+      counts = s.counts;
+      resume_id = s.resume_id;
+      acted = s.acted;
+      base_in = s.base_in;
+      presence = s.presence;
+      priority = s.priority;
+      directed = s.directed;
+      wants_roster = s.wants_roster;
+      pushes = s.pushes;
+    } };
 
     ghost invariant = { λ s. s.hash ≡ address_hash s.address };
 }

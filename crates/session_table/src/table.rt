@@ -1,6 +1,6 @@
 //! The table.
 
-ghost use Rattle.std.specs.Prelude.{◌≡◌, ◌<◌, ◌≤◌, ◌+◌, ◌-◌, ◌^◌, length, min, true, false, IfOk, OnOk};
+ghost use Rattle.std.specs.Prelude.{◌≡◌, ◌<◌, ◌≤◌, ◌+◌, ◌-◌, ◌^◌, length, min, true, false, IfOk, IsOk, OnOk};
 ghost use Rattle.std.specs.Borrow.{sem};
 ghost use Rattle.std.specs.Option.{option_copied, option_copied_mut};
 
@@ -27,16 +27,23 @@ pub struct Table {
 }
 
 impl Model for Table {
-    ghost use Rattle.std.specs.Prelude.{◌≡◌, false, ◌-◌, ◌^◌, min};
+    ghost use Rattle.std.specs.Prelude.{◌-◌, ◌^◌, min};
     ghost use Rattle.indexmap.specs.IndexMap.{spare};
-    ghost use Rattle.session_table.specs.Serving.{Serves};
-    ghost use Rattle.session_table.specs.Tables.{Rises, TableRecord};
+    ghost use Rattle.session_table.specs.Serving.{IsIndexed};
+    ghost use Rattle.session_table.specs.Tables.{TableRecord};
 
     ghost Value = { TableRecord };
 
-    ghost view = { λ t. record { lines = t.lines.items; opened = t.opened; made = t.made; sessions = t.sessions.entries; spare = min (min (spare t.sessions) (spare t.index.places)) (2 ^ 64 - 1 - t.made) } };
+    // There is room where both maps have room and a number is left.
+    ghost view = { λ t. record {
+      lines = t.lines.items;
+      opened = t.opened;
+      made = t.made;
+      sessions = t.sessions.entries;
+      spare = min (min (spare t.sessions) (spare t.index.places)) (2 ^ 64 - 1 - t.made);
+    } };
 
-    ghost invariant = { λ t. Rises 0 t.sessions.entries t.made × Serves t.index t.sessions.entries };
+    ghost invariant = { λ t. IsIndexed t.index t.sessions.entries t.made };
 }
 
 impl Table {
@@ -64,6 +71,7 @@ impl Table {
     /// whatever the answer is.
     pub fn reserve(&mut self) -> Result<(), NoMemory>
         ensures room { OnOk result (0 < self.new.spare) }
+        ensures succeeds { 0 < self.old.spare → IsOk result }
         ensures keeps_room { self.old.spare ≤ self.new.spare }
         ensures same { self.new ≡ record self.old { spare = self.new.spare } }
     {

@@ -1,6 +1,6 @@
 //! The queue, and how it moves on by counts (XEP-0198, 4 and 5).
 
-ghost use Rattle.std.specs.Prelude.{◌≡◌, ℕ, ◌+◌, ◌-◌, ◌^◌, ◌<◌, ◌≤◌, ◌++◌, ◌∷◌, [], true, List, length, min, drop, slice_get, IsSome, ◌↔◌, OnOk, IfOk, IfErr};
+ghost use Rattle.std.specs.Prelude.{◌≡◌, ℕ, ◌+◌, ◌-◌, ◌^◌, ◌<◌, ◌≤◌, ◌++◌, ◌∷◌, [], true, List, length, min, drop, slice_get, IsSome, ◌↔◌, IsOk, OnOk, IfOk, IfErr};
 ghost use Rattle.std.specs.Option.{option_copied};
 ghost use Rattle.std.specs.Result.{result_ok};
 ghost use Rattle.std.specs.VecDeque.{deque_capacity};
@@ -22,8 +22,8 @@ pub const MAX_WAITING_ENTRIES: usize = 5000;
 /// How many bytes the frames of those that wait may have, 4 MiB: 512 full queues take 2 GiB.
 pub const MAX_WAITING_BYTES: u64 = 4_194_304;
 
-// How many stanzas an empty queue keeps room for, about 4 KiB: what a client that keeps up needs
-// between two acknowledgements.
+// How many stanzas an empty queue keeps room for, 7 KiB: more than a client that keeps up needs between
+// two acknowledgements.
 const MAX_IDLE_ROOM: usize = 64;
 
 /// Why a client's count was refused: it is none of those from `kept` to `sent` (XEP-0198, 4). All three
@@ -87,6 +87,7 @@ impl SmQueue {
     /// the answer is.
     pub fn reserve(&mut self, entries: usize) -> Result<(), NoMemory>
         ensures spare { OnOk result (entries ≤ spare self.new) }
+        ensures succeeds { entries ≤ spare self.old → IsOk result }
         ensures keeps_room { self.old.room ≤ self.new.room }
         ensures same { self.new ≡ record self.old { room = self.new.room } }
         ensures whole { (all : List Entry) (base kept sent : ℕ) → StandsFor all base kept sent self.old

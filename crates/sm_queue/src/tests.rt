@@ -160,6 +160,7 @@ fn queues_follow_counts(rt: HostRuntime) -> Result<(), Fail> {
     ];
     for (start, cases) in stories {
         let mut queue = SmQueue::starting(rt.alloc(), Count(start));
+        queue.reserve(4)?;
         for (i, case) in cases.iter().enumerate() {
             check(&rt, rt.alloc(), &mut queue, i, case)?;
         }

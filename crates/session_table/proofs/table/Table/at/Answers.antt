@@ -9,5 +9,5 @@ returns-clause-first c =
     let a = c.args.address.now in
     let P : Option ℕ → Type 0 = λ answer. IsFirst (λ x. x.address ≡ a) c.args.self.now answer in
     let Q : TableRecord → Type 0 = λ t. IsFirst (λ x. x.address ≡ a) t (number_at a t.sessions) in
-    let first = subst Q c.self.view_is (first_at_address a (the_view c.self.inside) c.self.invariant.0) in
+    let first = subst Q c.self.view_is (first_at_address a (the_view c.self.inside) c.self.invariant.rises) in
     subst P (sym (c.find_at.ensures ∙ ap (λ (t : TableRecord). number_at a t.sessions) c.self.view_is)) first

@@ -9,7 +9,7 @@ use Rattle.session_table.proofs.table.Table.bind.Goals as goal
 pub add-requires-2-clause-new : goal.add-requires-2-clause-new
 add-requires-2-clause-new c =
     let inside = c.self.inside in
-    number_is_new 0 inside.made (inside.made + 1) inside.sessions.entries c.self.invariant.0 (omega arith)
+    number_is_new 0 inside.made (inside.made + 1) inside.sessions.entries c.self.invariant.rises (omega arith)
 
 pub invariant_of-self : goal.invariant_of-self
 invariant_of-self c =
@@ -19,10 +19,10 @@ invariant_of-self c =
     let s = c.begin.result in
     let is = ap (known_of number) c.begin.ensures
     ∙ ap (λ (hash : ℕ). record { number = number; hash = hash; wake = None }) (sym c.hash_of.ensures) in
-    let entries = sym c.add-2.ensures.entries in (
-      subst (λ (l : List (ℕ × SessionRecord)). Rises 0 l number) entries (rises_added 0 inside.made es s c.self.invariant.0),
-      subst (Serves c.add.new.self) entries (c.add.ensures.serves es s c.settle.ensures.serves is),
-    )
+    let entries = sym c.add-2.ensures.entries in record {
+      rises = subst (λ (l : List (ℕ × SessionRecord)). Rises 0 l number) entries (rises_added 0 inside.made es s c.self.invariant.rises);
+      serves = subst (Serves c.add.new.self) entries (c.add.ensures.serves es s c.settle.ensures.serves is);
+    }
 
 pub returns-clause-keeps_room : goal.returns-clause-keeps_room
 returns-clause-keeps_room c =

@@ -8,10 +8,10 @@ use Rattle.session_table.proofs.table.Table.remove.Goals as goal
 pub invariant_of-self : goal.invariant_of-self
 invariant_of-self c =
     let inside = c.self.inside in
-    let es = inside.sessions.entries in (
-      subst (λ (l : List (ℕ × SessionRecord)). Rises 0 l inside.made) (sym c.take_out.ensures.entries)
-          (rises_removed c.args.s 0 inside.made es c.self.invariant.0),
-      serves_without c.settle.new.self c.forget.new.self es c.take_out.new.sessions.entries c.args.s c.in-Some.hash
+    let es = inside.sessions.entries in record {
+      rises = subst (λ (l : List (ℕ × SessionRecord)). Rises 0 l inside.made) (sym c.take_out.ensures.entries)
+          (rises_removed c.args.s 0 inside.made es c.self.invariant.rises);
+      serves = serves_without c.settle.new.self c.forget.new.self es c.take_out.new.sessions.entries c.args.s c.in-Some.hash
           c.settle.ensures.serves (sym c.in-Some.is ∙ c.take_out.ensures.hash) c.take_out.ensures.entries
-          c.forget.ensures.serves,
-    )
+          c.forget.ensures.serves;
+    }

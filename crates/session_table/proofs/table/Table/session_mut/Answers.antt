@@ -13,28 +13,28 @@ pub invariant_of-self-lent : goal.invariant_of-self-lent
 invariant_of-self-lent c =
     let s = c.args.s in
     let inside = c.self.inside in
-    let rises = c.self.invariant.0 in
+    let rises = c.self.invariant.rises in
     let lends = c.get_mut.follows in
     let entries : (w : SessionRecord) → changed_in s (λ _. w) inside.sessions.entries ≡ (lends.lender w).entries =
     λ w. sym ((lends.holds w).0 ∙ set_is_changed s 0 inside.made w inside.sessions.entries rises) in
     let same = sym (ap (λ m. m.entries) lends.holds-at-none) in
     λ _. (
-      λ w. (
-        subst (λ (es : List (ℕ × SessionRecord)). Rises 0 es inside.made) (entries w)
-            (rises_changed s 0 inside.made (λ _. w) inside.sessions.entries rises),
-        subst (Serves c.lend.new.self) (entries w) (c.lend.ensures.serves w),
-      ),
-      (
-        subst (λ (es : List (ℕ × SessionRecord)). Rises 0 es inside.made) same rises,
-        subst (Serves c.lend.new.self) same c.lend.ensures.still,
-      ),
+      λ w. record {
+        rises = subst (λ (es : List (ℕ × SessionRecord)). Rises 0 es inside.made) (entries w)
+            (rises_changed s 0 inside.made (λ _. w) inside.sessions.entries rises);
+        serves = subst (Serves c.lend.new.self) (entries w) (c.lend.ensures.serves w);
+      },
+      record {
+        rises = subst (λ (es : List (ℕ × SessionRecord)). Rises 0 es inside.made) same rises;
+        serves = subst (Serves c.lend.new.self) same c.lend.ensures.still;
+      },
     )
 
 pub returns : goal.returns
 returns c =
     let s = c.args.s in
     let inside = c.self.inside in
-    let rises = c.self.invariant.0 in
+    let rises = c.self.invariant.rises in
     let lends = c.get_mut.follows in
     let room = c.lend.ensures.room in
     let limit = 2 ^ 64 - 1 - inside.made in
