@@ -5,7 +5,7 @@ use Rattle.turn_lock.specs.declared.rule.Stage.TheVariants.{Idle, Waits, Works}
 use Rattle.turn_lock.specs.declared.tokens.Pass.{Pass}
 use Rattle.turn_lock.specs.declared.lock.Turnstile.{Turnstile}
 use Rattle.turn_lock.specs.Views.{pass_view}
-use Rattle.turn_lock.specs.Histories.{places}
+use Rattle.turn_lock.specs.Histories.{IsStory, places}
 
 module _ {T E R : Type 0} where
   abbrev pub number_of : Pass T E R → ℕ
@@ -30,6 +30,10 @@ module _ {T E R : Type 0} where
   -- the lock's root, which no turn changes
   abbrev pub root_of : (T → R) → Turnstile T E R → R
   root_of root lock = root lock.table.shared.key.first.value
+
+  -- what the pass has seen is the story of some value that has the lock's root
+  abbrev pub SeesStory : (T → List E) → (T → R) → Turnstile T E R → Pass T E R → Type 0
+  SeesStory story root lock p = IsStory story root (root_of root lock) (seen p)
 
   -- how many passes the lock has
   abbrev pub passes_of : Turnstile T E R → ℕ

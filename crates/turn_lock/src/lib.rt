@@ -7,15 +7,12 @@
 #![tactic(auto)]
 
 mod lock;
-mod rule;
+pub mod rule;
 mod story;
 #[cfg(test)]
 mod tests;
 mod tokens;
 
 pub use lock::Turnstile;
-pub use rule::{
-    Claim, CopySeen, DealNumber, Draw, Look, OneHistory, PassOn, Peek, Stage, TakeIn, Terms, View,
-};
 pub use story::Storied;
 pub use tokens::{NoMemory, Pass, Spent, Turn};

@@ -34,6 +34,12 @@ returns-clause-history g c =
     let told = passed _ g.T.Storied.line _ c.args.pass.now.number g.T.Storied.story _ _ _ _ _ c.requires.turn.1.1 c.exchange-slot.ensures.3 c.fetch_add.ensures.2 in
     ap (λ m. m.0.seen) told.0
 
+pub returns-clause-told : goal.returns-clause-told
+returns-clause-told g c =
+    let told = passed _ g.T.Storied.line _ c.args.pass.now.number g.T.Storied.story _ _ _ _ _ c.requires.turn.1.1
+        c.exchange-slot.ensures.3 c.fetch_add.ensures.2 in
+    (c.args.turn.value, sym (ap (λ m. m.0.seen) told.0), c.requires.root)
+
 pub returns-clause-mine : goal.returns-clause-mine
 returns-clause-mine g c =
     let told = passed _ g.T.Storied.line _ c.args.pass.now.number g.T.Storied.story _ _ _ _ _ c.requires.turn.1.1 c.exchange-slot.ensures.3 c.fetch_add.ensures.2 in
