@@ -6,6 +6,7 @@
 //! `meet` hands on what was seen, and `close` gives the value back. Only `start` takes memory.
 #![tactic(auto)]
 
+pub mod laws;
 mod lock;
 pub mod rule;
 mod story;

@@ -1,0 +1,46 @@
+//! What follows from the contracts of several calls: the contract is the law, and the body is empty.
+
+ghost use Rattle.std.specs.Prelude.{◌≡◌, ◌<◌, ◌↔◌, ◌⊎◌, ℕ, List, length, map, slice_get, Some, All, Contains};
+ghost use Rattle.turn_lock.specs.declared.tokens.Pass.{Pass};
+ghost use Rattle.turn_lock.specs.Histories.{StartsWith};
+ghost use Rattle.turn_lock.specs.Passes.{number_of, seen, mine};
+ghost use Rattle.turn_lock.specs.Calls.{entries_of, entries_at, StandsAt, Enters, Leaves, OneTurn, Closes};
+
+/// A pass's own places are those, in what it has seen, of all entries whose line is its number.
+pub fn own_places_are_of_the_number<T, E, R>()
+    ensures places { (line : E → ℕ) (p : Pass T E R) (i : ℕ)
+        → Contains (mine line p) i ↔ StandsAt line (number_of p) (seen p) i }
+    ensures entries { (line : E → ℕ) (p : Pass T E R)
+        → entries_at (seen p) (mine line p) ≡ map Some (entries_of line (number_of p) (seen p)) }
+{}
+
+/// In the list that `close` gives, the entries of a number are those that stand at its pass's own places, and each
+/// entry stands at a place of one of the passes.
+pub fn closed_entries_stand_at_own_places<T, E, R>()
+    ensures places { (line : E → ℕ) (passes : List (Pass T E R)) (log : List E) → Closes line passes log
+        → All (λ p. (i : ℕ) → Contains (mine line p) i ↔ StandsAt line (number_of p) log i) passes }
+    ensures entries { (line : E → ℕ) (passes : List (Pass T E R)) (log : List E) → Closes line passes log
+        → All (λ p. entries_at log (mine line p) ≡ map Some (entries_of line (number_of p) log)) passes }
+    ensures whose { (line : E → ℕ) (passes : List (Pass T E R)) (log : List E) → Closes line passes log
+        → (i : ℕ) → i < length log → (p : Pass T E R) × Contains passes p × Contains (mine line p) i }
+{}
+
+/// There is one history: of what two passes have seen, one is a beginning of the other.
+pub fn passes_have_seen_one_history<T, E, R>()
+    ensures { (line : E → ℕ) (passes : List (Pass T E R)) (log : List E) → Closes line passes log
+        → All (λ p. All (λ q. StartsWith (seen p) (seen q) ⊎ StartsWith (seen q) (seen p)) passes) passes }
+{}
+
+/// A turn, from `enter` to `leave`, adds one entry of its pass after all that stood before, and its place to the
+/// pass's own. Only a pass without the mark has one.
+pub fn a_turn_adds_one_entry<T, E, R>()
+    ensures { (line : E → ℕ) (old held new : Pass T E R) (log : List E) → Enters line old held
+        → Leaves line held new log → OneTurn line old new }
+{}
+
+/// After a meeting, the next turn of `into` stands behind all that `from` had seen, and so behind all of its entries.
+pub fn turns_after_a_meeting_stand_later<T, E, R>()
+    ensures { (line : E → ℕ) (from into new : Pass T E R) → StartsWith (seen into) (seen from)
+        → (turn : OneTurn line into new)
+        → StartsWith turn.before (seen from) × All (λ i. i < length turn.before) (mine line from) }
+{}
