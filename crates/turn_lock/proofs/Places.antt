@@ -135,12 +135,24 @@ module _ {T E R : Type 0} where
     closed_by_someone passes log c i less =
         let e : E = get_or log i (first_of log less) in
         let its = pass_of passes (line e) (c.lines i (first_of log less) less) in
-        let own = All-contains (λ p. (i : ℕ) → Contains (mine line p) i ↔ StandsAt line (number_of p) log i)
-            passes its.0 (closed_places passes log c) its.1 in
+        let Its : Pass T E R → Type 0 = λ p. (i : ℕ) → Contains (mine line p) i ↔ StandsAt line (number_of p) log i in
+        let own = All-contains Its passes its.0 (closed_places passes log c) its.1 in
         (its.0, its.1, (own i).1 (e, slice_get-get_or log i (first_of log less) less, sym its.2)) where
           first_of : (l : List E) → i < length l → E
           first_of [] none = absurd (omega arith)
           first_of (x ∷ xs) some = x
+
+    pub closed_by_one : (passes : List (Pass T E R)) (log : List E) → Closes line passes log
+        → (p q : Pass T E R) (i : ℕ) → Contains passes p → Contains passes q
+        → Contains (mine line p) i → Contains (mine line q) i → number_of p ≡ number_of q
+    closed_by_one passes log c p q i has has' left right =
+        let own = closed_places passes log c in
+        let Its : Pass T E R → Type 0 = λ p. (i : ℕ) → Contains (mine line p) i ↔ StandsAt line (number_of p) log i in
+        let first = (All-contains Its passes p own has i).0 left in
+        let second = (All-contains Its passes q own has' i).0 right in
+        let both : Some first.0 ≡ Some second.0 = sym first.1 ∙ second.1 in
+        let same : first.0 ≡ second.0 = cc in
+        sym first.2 ∙ (ap line same ∙ second.2)
 
     pub one_history : (passes : List (Pass T E R)) (log : List E) → Closes line passes log
         → All (λ p. All (λ q. StartsWith (seen p) (seen q) ⊎ StartsWith (seen q) (seen p)) passes) passes
@@ -154,27 +166,32 @@ module _ {T E R : Type 0} where
             passes c.history)
         passes c.history
 
-    pub one_turn : (old held new : Pass T E R) (log : List E) → Enters line old held → Leaves line held new log
-        → OneTurn line old new
-    one_turn old held new log enters leaves = record {
-      before = seen held;
-      entry = leaves.one.0;
-      number = leaves.number ∙ enters.number;
-      own = leaves.one.2 ∙ enters.number;
-      sight = enters.history;
-      adds = leaves.history ∙ leaves.one.1;
-      mine = leaves.mine ∙ ap (λ (l : List ℕ). l ++ length (seen held) ∷ []) enters.mine;
-      unmarked = (enters.unmarked.0, leaves.refused ∙ enters.unmarked.1);
-    }
+    pub one_turn : (old held new : Pass T E R) (before after : List E) → Enters line old held before
+        → Leaves line held new after → OneTurn line old new before after
+    one_turn old held new before after enters leaves =
+        let same : before ≡ seen held = enters.story in record {
+          sight = subst (λ (l : List E). StartsWith l (seen old)) (sym same) enters.history;
+          one = (
+            leaves.one.0,
+            leaves.one.1 ∙ ap (λ (l : List E). l ++ leaves.one.0 ∷ []) (sym same),
+            leaves.one.2 ∙ enters.number,
+          );
+          number = leaves.number ∙ enters.number;
+          history = leaves.history;
+          mine = leaves.mine ∙ (ap (λ (l : List ℕ). l ++ length (seen held) ∷ []) enters.mine
+              ∙ ap (λ (l : List E). mine line old ++ length l ∷ []) (sym same));
+          unmarked = (enters.unmarked.0, leaves.refused ∙ enters.unmarked.1);
+        }
 
-    pub later_turn : (from into new : Pass T E R) → StartsWith (seen into) (seen from) → (turn : OneTurn line into new)
-        → StartsWith turn.before (seen from) × All (λ i. i < length turn.before) (mine line from)
-    later_turn from into new met turn =
-        let sight = starts_through turn.before (seen into) (seen from) turn.sight met in
-        let long = length-starts turn.before (seen from) sight in
+    pub later_turn : (from into new : Pass T E R) (before after : List E) → StartsWith (seen into) (seen from)
+        → OneTurn line into new before after
+        → StartsWith before (seen from) × All (λ i. i < length before) (mine line from)
+    later_turn from into new before after met turn =
         let n = number_of from in
-        let below : (i : ℕ) → StandsAt line n (seen from) i → i < length turn.before =
+        let sight = starts_through before (seen into) (seen from) turn.sight met in
+        let long = length-starts before (seen from) sight in
+        let below : (i : ℕ) → StandsAt line n (seen from) i → i < length before =
             λ i at. let within = slice_get_within (seen from) i at.0 at.1 in omega arith in
-        (sight, all_of (λ i. i < length turn.before) (mine line from)
-            (each_map (StandsAt line n (seen from)) (λ i. i < length turn.before) below (mine line from)
+        (sight, all_of (λ i. i < length before) (mine line from)
+            (each_map (StandsAt line n (seen from)) (λ i. i < length before) below (mine line from)
             (stands_at_each line n (seen from))))

@@ -19,8 +19,9 @@ module _ {E : Type 0} where
   StandsAt line n log i = (e : E) × (slice_get log i ≡ Some e) × (line e ≡ n)
 
 module _ {T E R : Type 0} (line : E → ℕ) where
-  -- `enter`, where it gives a turn
-  pub record Enters (old new : Pass T E R) : Type 0 where
+  -- `enter`, where it gives a turn, whose value stands for this list
+  pub record Enters (old new : Pass T E R) (log : List E) : Type 0 where
+    pub story : log ≡ seen new
     pub number : number_of new ≡ number_of old
     pub history : StartsWith (seen new) (seen old)
     pub mine : mine line new ≡ mine line old
@@ -34,14 +35,13 @@ module _ {T E R : Type 0} (line : E → ℕ) where
     pub mine : mine line new ≡ mine line old ++ length (seen old) ∷ []
     pub refused : refused new ≡ refused old
 
-  -- One turn, from `enter` to `leave`: an entry of the pass, after all that stood before.
-  pub record OneTurn (old new : Pass T E R) : Type 0 where
-    pub before : List E
-    pub entry : E
-    pub number : number_of new ≡ number_of old
-    pub own : line entry ≡ number_of old
+  -- One turn, from `enter` to `leave`, of a value that stands for `before` and then for `after`: it begins with what
+  -- the pass had seen, and gets one entry of the pass.
+  pub record OneTurn (old new : Pass T E R) (before after : List E) : Type 0 where
     pub sight : StartsWith before (seen old)
-    pub adds : seen new ≡ before ++ entry ∷ []
+    pub one : AddsOne line (number_of old) before after
+    pub number : number_of new ≡ number_of old
+    pub history : seen new ≡ after
     pub mine : mine line new ≡ mine line old ++ length before ∷ []
     pub unmarked : (refused old ≡ false) × (refused new ≡ false)
 

@@ -14,8 +14,8 @@ pub fn own_places_are_of_the_number<T, E, R>()
         → entries_at (seen p) (mine line p) ≡ map Some (entries_of line (number_of p) (seen p)) }
 {}
 
-/// In the list that `close` gives, the entries of a number are those that stand at its pass's own places, and each
-/// entry stands at a place of one of the passes.
+/// In the list that `close` gives, the entries of a number are those that stand at its pass's own places. Each entry
+/// stands at a place of one of the passes, and of no pass with another number.
 pub fn closed_entries_stand_at_own_places<T, E, R>()
     ensures places { (line : E → ℕ) (passes : List (Pass T E R)) (log : List E) → Closes line passes log
         → All (λ p. (i : ℕ) → Contains (mine line p) i ↔ StandsAt line (number_of p) log i) passes }
@@ -23,6 +23,9 @@ pub fn closed_entries_stand_at_own_places<T, E, R>()
         → All (λ p. entries_at log (mine line p) ≡ map Some (entries_of line (number_of p) log)) passes }
     ensures whose { (line : E → ℕ) (passes : List (Pass T E R)) (log : List E) → Closes line passes log
         → (i : ℕ) → i < length log → (p : Pass T E R) × Contains passes p × Contains (mine line p) i }
+    ensures alone { (line : E → ℕ) (passes : List (Pass T E R)) (log : List E) → Closes line passes log
+        → (p q : Pass T E R) (i : ℕ) → Contains passes p → Contains passes q
+        → Contains (mine line p) i → Contains (mine line q) i → number_of p ≡ number_of q }
 {}
 
 /// There is one history: of what two passes have seen, one is a beginning of the other.
@@ -31,16 +34,16 @@ pub fn passes_have_seen_one_history<T, E, R>()
         → All (λ p. All (λ q. StartsWith (seen p) (seen q) ⊎ StartsWith (seen q) (seen p)) passes) passes }
 {}
 
-/// A turn, from `enter` to `leave`, adds one entry of its pass after all that stood before, and its place to the
-/// pass's own. Only a pass without the mark has one.
+/// A turn, from `enter` to `leave`, is of a value that stands for a list that begins with what the pass had seen. It
+/// adds one entry of the pass at its end, and that place to the pass's own. Only a pass without the mark has one.
 pub fn a_turn_adds_one_entry<T, E, R>()
-    ensures { (line : E → ℕ) (old held new : Pass T E R) (log : List E) → Enters line old held
-        → Leaves line held new log → OneTurn line old new }
+    ensures { (line : E → ℕ) (old held new : Pass T E R) (before after : List E) → Enters line old held before
+        → Leaves line held new after → OneTurn line old new before after }
 {}
 
 /// After a meeting, the next turn of `into` stands behind all that `from` had seen, and so behind all of its entries.
 pub fn turns_after_a_meeting_stand_later<T, E, R>()
-    ensures { (line : E → ℕ) (from into new : Pass T E R) → StartsWith (seen into) (seen from)
-        → (turn : OneTurn line into new)
-        → StartsWith turn.before (seen from) × All (λ i. i < length turn.before) (mine line from) }
+    ensures { (line : E → ℕ) (from into new : Pass T E R) (before after : List E) → StartsWith (seen into) (seen from)
+        → OneTurn line into new before after
+        → StartsWith before (seen from) × All (λ i. i < length before) (mine line from) }
 {}
