@@ -16,7 +16,9 @@ use Rattle.turn_lock.specs.Views.{ticket_of, has_value, tickets, leaves, bit, ei
 use Rattle.turn_lock.specs.Histories.{Each, StartsWith, IsStory, places, Knows, IsHome, IsOut, Kept, Sound}
 use Rattle.turn_lock.specs.Steps.{peeked, drew, looked, passed_on}
 use Rattle.turn_lock.proofs.Sums.{true_or_false, set_present, only_one, total-append, total-set, one_within, two_within, total-alone, total-le, bit_same, times_of_none, length-fresh, fresh_with, fresh_without}
-use Rattle.turn_lock.proofs.Stories.{each_map, each_append, each_left, each_right, starts_itself, starts_longer, starts_nothing, starts_before, length-starts, places_of_own, claims_of_others, fresh_are_right}
+use Rattle.turn_lock.proofs.Stories.{each_map, each_append, each_left, each_right}
+use Rattle.turn_lock.proofs.Stories.{starts_itself, starts_longer, starts_nothing, starts_before, length-starts}
+use Rattle.turn_lock.proofs.Stories.{places_of_own, claims_of_others, fresh_are_right}
 
 at_least : (m n : ℕ) → (m ≤ n) ⊎ (n < m)
 at_least m n = dite (dec_le m n) (λ yes. inl yes) (λ no. inr (omega arith))
@@ -240,7 +242,10 @@ module _ {T E R : Type 0} (story : T → List E) (line : E → ℕ) (root : T �
         },
         ((λ low. absurd (omega arith)), (λ h. refl), known, sight, told),
       ))
-      (λ low. let w : V = record v { stage = MayDraw; drawn = n } in (
+      (λ low.
+      let unmarked : v.refused ≡ false =
+      ⊎_elim (λ yes. let late = own.refused yes in absurd (omega arith)) (λ no. no) (true_or_false v.refused) in
+      let w : V = record v { stage = MayDraw; drawn = n } in (
         w,
         keeps,
         tt,
@@ -262,7 +267,13 @@ module _ {T E R : Type 0} (story : T → List E) (line : E → ℕ) (root : T �
           };
           value = stays s k id v w s.words at free refl;
         },
-        ((λ h. (refl, ⊎_elim (λ yes. let late = own.refused yes in absurd (omega arith)) (λ no. no) (true_or_false v.refused))), (λ high. absurd (omega arith)), known, sight, told),
+        (
+          (λ h. (refl, unmarked)),
+          (λ high. absurd (omega arith)),
+          known,
+          sight,
+          told,
+        ),
       ))
       (at_least (2 ^ 63) n)
 

@@ -1,5 +1,7 @@
 -- What stands at the places of a line, and what the calls say together.
-use Rattle.std.proofs.Common.{◌≡◌, ◌≢◌, ◌⊎◌, ℕ, zero, suc, ◌<◌, Bool, true, false, cond, eqb, List, [], ◌∷◌, ◌++◌, map, drop, length, get_or, sym, refl, ap, ◌∙◌, subst, inl, inr, ⊎_elim, arith, eq-eqb, ne_eqb, All, None, Some}
+use Rattle.std.proofs.Common.{◌≡◌, ◌⊎◌, ℕ, zero, suc, ◌<◌, Bool, true, false, cond, eqb, All, None, Some}
+use Rattle.std.proofs.Common.{List, [], ◌∷◌, ◌++◌, map, drop, length, get_or}
+use Rattle.std.proofs.Common.{sym, refl, ap, ◌∙◌, subst, inl, inr, ⊎_elim, arith, eq-eqb, ne_eqb}
 use Rattle.std.proofs.lemmas.List.{get_or-map}
 use Rattle.std.proofs.lemmas.List.Elements.{All-contains, All-weaker, Contains-append_right}
 use Rattle.std.proofs.lemmas.Option.{get_or_from_slice_get, slice_get_within, slice_get-get_or}
@@ -53,7 +55,7 @@ module _ {E : Type 0} (line : E → ℕ) (n : ℕ) where
   stands_at_each (e ∷ es) =
       let P : ℕ → Type 0 = StandsAt line n (e ∷ es) in
       let later : Each P (places line n 1 es) = subst (Each P) (sym (places-suc 0 es))
-          (each_suc P (places line n 0 es) (stands_at_each es)) in
+      (each_suc P (places line n 0 es) (stands_at_each es)) in
       let first : Bool → List ℕ = λ b. if_so b 0 (places line n 1 es) in
       dite (ℕ_discrete (line e) n)
       (λ same. subst (Each P) (sym (ap first (eq-eqb (line e) n same))) ((e, refl, same), later))
@@ -75,7 +77,8 @@ module _ {E : Type 0} (line : E → ℕ) (n : ℕ) where
       let is : Some x ≡ Some at.0 = at.1 in
       let same : x ≡ at.0 = cc in
       let first : Bool → List ℕ = λ b. if_so b 0 (places line n 1 xs) in
-      subst (λ (l : List ℕ). Contains l 0) (sym (ap first (eq-eqb (line x) n (ap line same ∙ at.2)))) (here 0 (places line n 1 xs))
+      let own : eqb (line x) n ≡ true = eq-eqb (line x) n (ap line same ∙ at.2) in
+      subst (λ (l : List ℕ). Contains l 0) (sym (ap first own)) (here 0 (places line n 1 xs))
   contains_place (x ∷ xs) (suc i) at = contains_later (eqb (line x) n) (places line n 1 xs) (suc i)
       (subst (λ (l : List ℕ). Contains l (suc i)) (sym (places-suc 0 xs))
       (contains-suc (places line n 0 xs) i (contains_place xs i at)))
@@ -119,7 +122,7 @@ module _ {T E R : Type 0} where
         (λ p. mine line p ≡ places line (number_of p) 0 log)
         (λ p. (i : ℕ) → Contains (mine line p) i ↔ StandsAt line (number_of p) log i)
         (λ p same i. subst (λ (l : List ℕ). Contains l i ↔ StandsAt line (number_of p) log i) (sym same)
-            (places_are_where line (number_of p) log i))
+        (places_are_where line (number_of p) log i))
         passes c.mine
 
     pub closed_entries : (passes : List (Pass T E R)) (log : List E) → Closes line passes log
@@ -160,10 +163,10 @@ module _ {T E R : Type 0} where
         (λ p. StartsWith log (seen p))
         (λ p. All (λ q. StartsWith (seen p) (seen q) ⊎ StartsWith (seen q) (seen p)) passes)
         (λ p left. All-weaker
-            (λ q. StartsWith log (seen q))
-            (λ q. StartsWith (seen p) (seen q) ⊎ StartsWith (seen q) (seen p))
-            (λ q right. starts_or_starts log (seen p) (seen q) left right)
-            passes c.history)
+        (λ q. StartsWith log (seen q))
+        (λ q. StartsWith (seen p) (seen q) ⊎ StartsWith (seen q) (seen p))
+        (λ q right. starts_or_starts log (seen p) (seen q) left right)
+        passes c.history)
         passes c.history
 
     pub one_turn : (old held new : Pass T E R) (before after : List E) → Enters line old held before
@@ -191,7 +194,9 @@ module _ {T E R : Type 0} where
         let sight = starts_through before (seen into) (seen from) turn.sight met in
         let long = length-starts before (seen from) sight in
         let below : (i : ℕ) → StandsAt line n (seen from) i → i < length before =
-            λ i at. let within = slice_get_within (seen from) i at.0 at.1 in omega arith in
-        (sight, all_of (λ i. i < length before) (mine line from)
-            (each_map (StandsAt line n (seen from)) (λ i. i < length before) below (mine line from)
-            (stands_at_each line n (seen from))))
+        λ i at. let within = slice_get_within (seen from) i at.0 at.1 in omega arith in (
+          sight,
+          all_of (λ i. i < length before) (mine line from)
+              (each_map (StandsAt line n (seen from)) (λ i. i < length before) below (mine line from)
+              (stands_at_each line n (seen from))),
+        )

@@ -45,7 +45,8 @@ module _ {T E R : Type 0} where
 
   -- how the pass stands, and which slots it has out
   abbrev pub Stands : (E → ℕ) → R → Stage → List (ℕ × Option T) → Pass T E R → Type 0
-  Stands line q stage slots p = p.seat.me ≡ (pass_view q stage (refused p) (drawn p) p.number (mine line p) (seen p), slots)
+  Stands line q stage slots p =
+      p.seat.me ≡ (pass_view q stage (refused p) (drawn p) p.number (mine line p) (seen p), slots)
 
   -- the pass came from this lock and holds no turn
   abbrev pub IsIdle : (E → ℕ) → (T → R) → Turnstile T E R → Pass T E R → Type 0

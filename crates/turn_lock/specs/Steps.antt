@@ -1,5 +1,6 @@
--- What the four kinds of step on a word do to the pass that makes one: m before, m' after, n the number found, st the step.
--- Take and put, an exchange each on the slot that is out to the pass, leave its view as it is. Splits and the join are in Views.
+-- What the four kinds of step on a word do to the pass that makes one: m before, m' after, n the number found, st the
+-- step. Take and put, an exchange each on the slot that is out to the pass, leave its view as it is. Splits and the join
+-- are in Views.
 use Rattle.std.specs.Prelude.{◌≡◌, ◌≢◌, ℕ, ◌+◌, ◌^◌, ◌<◌, ◌≤◌, List, [], ◌∷◌, ◌++◌, length, Option, Some, true, false}
 use Rattle.atomic_table.specs.Table.{Me, Step}
 use Rattle.turn_lock.specs.declared.rule.Claim.{Claim}
@@ -29,7 +30,8 @@ module _ {T E R : Type 0} where
   looked story line root st m n m' =
       (log : List E) × StartsWith log m.0.seen × Each (StartsWith log) m.0.met
       × Each (λ c. places line c.number 0 log ≡ c.places) m.0.claims
-      × (m.0.stage ≡ Waits n → (x : T) × (m' ≡ (record m.0 { stage = Works n; seen = log; met = [] }, (0, Some x) ∷ m.1))
+      × (m.0.stage ≡ Waits n → (x : T)
+      × (m' ≡ (record m.0 { stage = Works n; seen = log; met = [] }, (0, Some x) ∷ m.1))
       × (story x ≡ log) × ((q : R) → m.0.root ≡ Some q → root x ≡ q) × (length log < 2 ^ 63 + 2 ^ 32))
       × (m.0.stage ≢ Waits n → m' ≡ (record m.0 { seen = log; met = [] }, m.1))
       × ((q : R) → m.0.root ≡ Some q → IsStory story root q log)
@@ -38,5 +40,12 @@ module _ {T E R : Type 0} where
   abbrev pub passed_on : (T → List E) → (E → ℕ)
       → Step (Option T) → Me (Option T) (View E R) → ℕ → Me (Option T) (View E R) → Type 0
   passed_on story line st m n m' = (x : T) (c : Claim) → m.1 ≡ (0, Some x) ∷ [] → m.0.claims ≡ c ∷ []
-      → (m' ≡ (record m.0 { stage = Idle; seen = story x; claims = claim c.number (c.places ++ length m.0.seen ∷ []) ∷ [] }, []))
+      → (m' ≡ (
+        record m.0 {
+          stage = Idle;
+          seen = story x;
+          claims = claim c.number (c.places ++ length m.0.seen ∷ []) ∷ [];
+        },
+        [],
+      ))
       × (places line c.number 0 (story x) ≡ c.places ++ length m.0.seen ∷ [])
