@@ -1,6 +1,6 @@
 -- What the calls say of their passes, each in the words of its contract, and the words of the laws that join them.
 use Rattle.std.specs.Prelude.{◌≡◌, ℕ, ◌==◌, List, [], ◌∷◌, ◌++◌, length, map, filter, slice_get}
-use Rattle.std.specs.Prelude.{Option, Some, Bool, false, All, Contains}
+use Rattle.std.specs.Prelude.{Option, Some, false, All, Contains}
 use Rattle.turn_lock.specs.declared.tokens.Pass.{Pass}
 use Rattle.turn_lock.specs.Histories.{StartsWith, AddsOne, places}
 use Rattle.turn_lock.specs.Passes.{number_of, seen, mine, refused}
