@@ -1,9 +1,11 @@
 //! What follows from the contracts of several calls: the contract is the law, and the body is empty.
 
-ghost use Rattle.std.specs.Prelude.{◌≡◌, ◌<◌, ◌↔◌, ◌⊎◌, ℕ, List, length, map, slice_get, Some, All, Contains};
+ghost use Rattle.std.specs.Prelude.{◌≡◌, ◌<◌, ◌↔◌, ◌⊎◌, ℕ, List, length, map, slice_get, Some, All};
+ghost use Rattle.std.specs.Prelude.{Bool, IsTrue, Contains};
+ghost use Rattle.turn_lock.specs.declared.lock.Turnstile.{Turnstile};
 ghost use Rattle.turn_lock.specs.declared.tokens.Pass.{Pass};
 ghost use Rattle.turn_lock.specs.Histories.{StartsWith};
-ghost use Rattle.turn_lock.specs.Passes.{number_of, seen, mine};
+ghost use Rattle.turn_lock.specs.Passes.{number_of, seen, mine, root_of, SeesStory};
 ghost use Rattle.turn_lock.specs.Calls.{entries_of, entries_at, StandsAt, Enters, Leaves, OneTurn, Closes};
 
 /// A pass's own places are those, in what it has seen, of all entries whose line is its number.
@@ -32,6 +34,14 @@ pub fn closed_entries_stand_at_own_places<T, E, R>()
 pub fn passes_have_seen_one_history<T, E, R>()
     ensures { (line : E → ℕ) (passes : List (Pass T E R)) (log : List E) → Closes line passes log
         → All (λ p. All (λ q. StartsWith (seen p) (seen q) ⊎ StartsWith (seen q) (seen p)) passes) passes }
+{}
+
+/// What holds of the story of every value holds of what a pass has seen, from the lock's root. Each call leaves its
+/// pass so (`told`), also an `enter` that is refused.
+pub fn what_holds_of_stories_holds_of_what_was_seen<T, E, R>()
+    ensures { (story : T → List E) (root : T → R) (test : R → List E → Bool)
+        → ((x : T) → IsTrue (test (root x) (story x))) → (lock : Turnstile T E R) (p : Pass T E R)
+        → SeesStory story root lock p → IsTrue (test (root_of root lock) (seen p)) }
 {}
 
 /// A turn, from `enter` to `leave`, is of a value that stands for a list that begins with what the pass had seen. It
