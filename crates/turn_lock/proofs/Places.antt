@@ -11,7 +11,8 @@ use native.Mathlib.Decide.{ℕ_discrete}
 use Rattle.turn_lock.specs.declared.tokens.Pass.{Pass}
 use Rattle.turn_lock.specs.Histories.{Each, StartsWith, places, if_so}
 use Rattle.turn_lock.specs.Passes.{number_of, seen, mine}
-use Rattle.turn_lock.specs.Calls.{entries_of, entries_at, StandsAt, Enters, Leaves, OneTurn, Closes}
+use Rattle.turn_lock.specs.Calls.{entries_of, entries_at, StandsAt, HasPlacesIn, HasEntriesIn, SeeOneHistory}
+use Rattle.turn_lock.specs.Calls.{Enters, Leaves, OneTurn, Closes}
 use Rattle.turn_lock.proofs.Stories.{each_map, starts_through, length-starts}
 use Rattle.turn_lock.proofs.Gathers.{all_of}
 
@@ -116,19 +117,19 @@ module _ {T E R : Type 0} where
 
   module _ (line : E → ℕ) where
     pub closed_places : (passes : List (Pass T E R)) (log : List E) → Closes line passes log
-        → All (λ p. (i : ℕ) → Contains (mine line p) i ↔ StandsAt line (number_of p) log i) passes
+        → All (HasPlacesIn line log) passes
     closed_places passes log c = All-weaker
         (λ p. mine line p ≡ places line (number_of p) 0 log)
-        (λ p. (i : ℕ) → Contains (mine line p) i ↔ StandsAt line (number_of p) log i)
+        (HasPlacesIn line log)
         (λ p same i. subst (λ (l : List ℕ). Contains l i ↔ StandsAt line (number_of p) log i) (sym same)
         (places_are_where line (number_of p) log i))
         passes c.mine
 
     pub closed_entries : (passes : List (Pass T E R)) (log : List E) → Closes line passes log
-        → All (λ p. entries_at log (mine line p) ≡ map Some (entries_of line (number_of p) log)) passes
+        → All (HasEntriesIn line log) passes
     closed_entries passes log c = All-weaker
         (λ p. mine line p ≡ places line (number_of p) 0 log)
-        (λ p. entries_at log (mine line p) ≡ map Some (entries_of line (number_of p) log))
+        (HasEntriesIn line log)
         (λ p same. ap (entries_at log) same ∙ entries_at_places line (number_of p) log)
         passes c.mine
 
@@ -137,8 +138,7 @@ module _ {T E R : Type 0} where
     closed_by_someone passes log c i less =
         let e : E = get_or log i (first_of log less) in
         let its = pass_of passes (line e) (c.lines i (first_of log less) less) in
-        let Its : Pass T E R → Type 0 = λ p. (i : ℕ) → Contains (mine line p) i ↔ StandsAt line (number_of p) log i in
-        let own = All-contains Its passes its.0 (closed_places passes log c) its.1 in
+        let own = All-contains (HasPlacesIn line log) passes its.0 (closed_places passes log c) its.1 in
         (its.0, its.1, (own i).1 (e, slice_get-get_or log i (first_of log less) less, sym its.2)) where
           first_of : (l : List E) → i < length l → E
           first_of [] none = absurd (omega arith)
@@ -149,21 +149,20 @@ module _ {T E R : Type 0} where
         → Contains (mine line p) i → Contains (mine line q) i → number_of p ≡ number_of q
     closed_by_one passes log c p q i has has' left right =
         let own = closed_places passes log c in
-        let Its : Pass T E R → Type 0 = λ p. (i : ℕ) → Contains (mine line p) i ↔ StandsAt line (number_of p) log i in
-        let first = (All-contains Its passes p own has i).0 left in
-        let second = (All-contains Its passes q own has' i).0 right in
+        let first = (All-contains (HasPlacesIn line log) passes p own has i).0 left in
+        let second = (All-contains (HasPlacesIn line log) passes q own has' i).0 right in
         let both : Some first.0 ≡ Some second.0 = sym first.1 ∙ second.1 in
         let same : first.0 ≡ second.0 = cc in
         sym first.2 ∙ (ap line same ∙ second.2)
 
     pub one_history : (passes : List (Pass T E R)) (log : List E) → Closes line passes log
-        → All (λ p. All (λ q. StartsWith (seen p) (seen q) ⊎ StartsWith (seen q) (seen p)) passes) passes
+        → All (λ p. All (SeeOneHistory p) passes) passes
     one_history passes log c = All-weaker
         (λ p. StartsWith log (seen p))
-        (λ p. All (λ q. StartsWith (seen p) (seen q) ⊎ StartsWith (seen q) (seen p)) passes)
+        (λ p. All (SeeOneHistory p) passes)
         (λ p left. All-weaker
         (λ q. StartsWith log (seen q))
-        (λ q. StartsWith (seen p) (seen q) ⊎ StartsWith (seen q) (seen p))
+        (SeeOneHistory p)
         (λ q right. starts_or_starts log (seen p) (seen q) left right)
         passes c.history)
         passes c.history

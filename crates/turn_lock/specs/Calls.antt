@@ -1,5 +1,5 @@
 -- What the calls say of their passes, each in the words of its contract, and the words of the laws that join them.
-use Rattle.std.specs.Prelude.{◌≡◌, ℕ, ◌==◌, List, [], ◌∷◌, ◌++◌, length, map, filter, slice_get}
+use Rattle.std.specs.Prelude.{◌≡◌, ◌⊎◌, ◌↔◌, ℕ, ◌==◌, List, [], ◌∷◌, ◌++◌, length, map, filter, slice_get}
 use Rattle.std.specs.Prelude.{Option, Some, false, All, Contains}
 use Rattle.turn_lock.specs.declared.tokens.Pass.{Pass}
 use Rattle.turn_lock.specs.Histories.{StartsWith, AddsOne, places}
@@ -19,6 +19,14 @@ module _ {E : Type 0} where
   StandsAt line n log i = (e : E) × (slice_get log i ≡ Some e) × (line e ≡ n)
 
 module _ {T E R : Type 0} (line : E → ℕ) where
+  -- the pass's own places are those at which this list has an entry of its number
+  abbrev pub HasPlacesIn : List E → Pass T E R → Type 0
+  HasPlacesIn log p = (i : ℕ) → Contains (mine line p) i ↔ StandsAt line (number_of p) log i
+
+  -- what this list has at the pass's own places is all its entries of the number, in their order
+  abbrev pub HasEntriesIn : List E → Pass T E R → Type 0
+  HasEntriesIn log p = entries_at log (mine line p) ≡ map Some (entries_of line (number_of p) log)
+
   -- `enter`, where it gives a turn, whose value stands for this list
   pub record Enters (old new : Pass T E R) (log : List E) : Type 0 where
     pub story : log ≡ seen new
@@ -50,3 +58,8 @@ module _ {T E R : Type 0} (line : E → ℕ) where
     pub history : All (λ p. StartsWith log (seen p)) passes
     pub lines : All (λ e. Contains (map number_of passes) (line e)) log
     pub mine : All (λ p. mine line p ≡ places line (number_of p) 0 log) passes
+
+module _ {T E R : Type 0} where
+  -- of what two passes have seen, one is a beginning of the other
+  abbrev pub SeeOneHistory : Pass T E R → Pass T E R → Type 0
+  SeeOneHistory p q = StartsWith (seen p) (seen q) ⊎ StartsWith (seen q) (seen p)

@@ -1,28 +1,26 @@
 //! What follows from the contracts of several calls: the contract is the law, and the body is empty.
 
-ghost use Rattle.std.specs.Prelude.{◌≡◌, ◌<◌, ◌↔◌, ◌⊎◌, ℕ, List, length, map, slice_get, Some, All};
-ghost use Rattle.std.specs.Prelude.{Bool, IsTrue, Contains};
+ghost use Rattle.std.specs.Prelude.{◌≡◌, ◌<◌, ℕ, List, length, Bool, IsTrue, All, Contains};
 ghost use Rattle.turn_lock.specs.declared.lock.Turnstile.{Turnstile};
 ghost use Rattle.turn_lock.specs.declared.tokens.Pass.{Pass};
 ghost use Rattle.turn_lock.specs.Histories.{StartsWith};
 ghost use Rattle.turn_lock.specs.Passes.{number_of, seen, mine, root_of, SeesStory};
-ghost use Rattle.turn_lock.specs.Calls.{entries_of, entries_at, StandsAt, Enters, Leaves, OneTurn, Closes};
+ghost use Rattle.turn_lock.specs.Calls.{HasPlacesIn, HasEntriesIn, SeeOneHistory};
+ghost use Rattle.turn_lock.specs.Calls.{Enters, Leaves, OneTurn, Closes};
 
 /// A pass's own places are those, in what it has seen, of all entries whose line is its number.
 pub fn own_places_are_of_the_number<T, E, R>()
-    ensures places { (line : E → ℕ) (p : Pass T E R) (i : ℕ)
-        → Contains (mine line p) i ↔ StandsAt line (number_of p) (seen p) i }
-    ensures entries { (line : E → ℕ) (p : Pass T E R)
-        → entries_at (seen p) (mine line p) ≡ map Some (entries_of line (number_of p) (seen p)) }
+    ensures places { (line : E → ℕ) (p : Pass T E R) → HasPlacesIn line (seen p) p }
+    ensures entries { (line : E → ℕ) (p : Pass T E R) → HasEntriesIn line (seen p) p }
 {}
 
 /// In the list that `close` gives, the entries of a number are those that stand at its pass's own places. Each entry
 /// stands at a place of one of the passes, and of no pass with another number.
 pub fn closed_entries_stand_at_own_places<T, E, R>()
     ensures places { (line : E → ℕ) (passes : List (Pass T E R)) (log : List E) → Closes line passes log
-        → All (λ p. (i : ℕ) → Contains (mine line p) i ↔ StandsAt line (number_of p) log i) passes }
+        → All (HasPlacesIn line log) passes }
     ensures entries { (line : E → ℕ) (passes : List (Pass T E R)) (log : List E) → Closes line passes log
-        → All (λ p. entries_at log (mine line p) ≡ map Some (entries_of line (number_of p) log)) passes }
+        → All (HasEntriesIn line log) passes }
     ensures whose { (line : E → ℕ) (passes : List (Pass T E R)) (log : List E) → Closes line passes log
         → (i : ℕ) → i < length log → (p : Pass T E R) × Contains passes p × Contains (mine line p) i }
     ensures alone { (line : E → ℕ) (passes : List (Pass T E R)) (log : List E) → Closes line passes log
@@ -33,7 +31,7 @@ pub fn closed_entries_stand_at_own_places<T, E, R>()
 /// There is one history: of what two passes have seen, one is a beginning of the other.
 pub fn passes_have_seen_one_history<T, E, R>()
     ensures { (line : E → ℕ) (passes : List (Pass T E R)) (log : List E) → Closes line passes log
-        → All (λ p. All (λ q. StartsWith (seen p) (seen q) ⊎ StartsWith (seen q) (seen p)) passes) passes }
+        → All (λ p. All (SeeOneHistory p) passes) passes }
 {}
 
 /// What holds of the story of every value holds of what a pass has seen, from the lock's root. Each call leaves its

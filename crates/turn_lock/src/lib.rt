@@ -4,6 +4,8 @@
 //!
 //! `Turnstile::start` makes the lock and its passes; with a pass a thread calls `enter` and `leave`.
 //! `meet` hands on what was seen, and `close` gives the value back. Only `start` takes memory.
+//!
+//! `laws` has what follows from the contracts of several calls, and `rule` what proofs alone name.
 #![tactic(auto)]
 
 pub mod laws;
