@@ -13,10 +13,12 @@ use Rattle.turn_lock.specs.declared.rule.Stage.{Stage}
 use Rattle.turn_lock.specs.declared.rule.Stage.TheVariants.{Idle, MayDraw, Waits, Works}
 use Rattle.turn_lock.specs.declared.rule.View.{View}
 use Rattle.turn_lock.specs.Views.{ticket_of, has_value, tickets, leaves, bit, either_of, total, claim, times, fresh, resting, spent, taken_in}
-use Rattle.turn_lock.specs.Histories.{Each, StartsWith, places, Knows, IsHome, IsOut, Kept, Sound}
+use Rattle.turn_lock.specs.Histories.{Each, StartsWith, IsStory, places, Knows, IsHome, IsOut, Kept, Sound}
 use Rattle.turn_lock.specs.Steps.{peeked, drew, looked, passed_on}
 use Rattle.turn_lock.proofs.Sums.{true_or_false, set_present, only_one, total-append, total-set, one_within, two_within, total-alone, total-le, bit_same, times_of_none, length-fresh, fresh_with, fresh_without}
-use Rattle.turn_lock.proofs.Stories.{each_map, each_append, each_left, each_right, starts_itself, starts_longer, length-starts, places_of_own, claims_of_others, fresh_are_right}
+use Rattle.turn_lock.proofs.Stories.{each_map, each_append, each_left, each_right}
+use Rattle.turn_lock.proofs.Stories.{starts_itself, starts_longer, starts_nothing, starts_before, length-starts}
+use Rattle.turn_lock.proofs.Stories.{places_of_own, claims_of_others, fresh_are_right}
 
 at_least : (m n : ℕ) → (m ≤ n) ⊎ (n < m)
 at_least m n = dite (dec_le m n) (λ yes. inl yes) (λ no. inr (omega arith))
@@ -69,6 +71,11 @@ module _ {T E R : Type 0} (story : T → List E) (line : E → ℕ) (root : T �
   root-named : (v : V) (q : R) → v.root ≡ Some r → v.root ≡ Some q → q ≡ r
   root-named v q its is = let both : Some q ≡ Some r = sym is ∙ its in cc
 
+  -- a story from the rule's root is one from the root that the view names
+  named_story : (v : V) (l : List E) → v.root ≡ Some r → IsStory story root r l
+      → (q : R) → v.root ≡ Some q → IsStory story root q l
+  named_story v l its told q is = (told.0, told.1, told.2 ∙ sym (root-named v q its is))
+
   -- what a step of another seat may do, as the view v sees it
   record Beside (log log' : List E) (drawer drawer' : ℕ → ℕ) (next next' : ℕ) (v : V) : Type 0 where
     grows : (s : List E) → StartsWith log s → StartsWith log' s
@@ -114,6 +121,7 @@ module _ {T E R : Type 0} (story : T → List E) (line : E → ℕ) (root : T �
     low : 2 ^ 63 ≤ get_or s'.words 0 0 → get_or s'.words 0 0 + (total (λ u. leaves u.stage) s.views + leaves w.stage) ≤ 2 ^ 63 + passes + leaves v.stage
     size : length w.claims ≡ length v.claims
     count : (n : ℕ) → times n w.claims ≡ times n v.claims
+    told : (l : List E) → StartsWith log l → IsStory story root r l
     lines : Each (λ e. line e < passes) log
     own : Kn log drawer (get_or s'.words 0 0) id w
     others : (j : ℕ) (u : V) → get_elem? s.views j ≡ some u → j ≢ id → Beside k.log log k.drawer drawer (get_or s.words 0 0) (get_or s'.words 0 0) u
@@ -133,6 +141,7 @@ module _ {T E R : Type 0} (story : T → List E) (line : E → ℕ) (root : T �
         spread = let a = sums (λ u. length u.claims) in let b = m.size in let c = k.spread in omega arith;
         once = λ n. let a = sums (λ u. times n u.claims) in let b = m.count n in let had = k.once n in
             ((λ h. let c = had.0 h in omega arith), (λ h. let c = had.1 h in omega arith));
+        told = m.told;
         lines = m.lines;
         each = λ j u at'. ⊎_elim
             (λ here. subst (λ (z : ℕ × V). Kn m.log m.drawer (get_or s'.words 0 0) z.0 z.1) (λ i. (sym here.0 i, here.1 i)) m.own)
@@ -179,6 +188,7 @@ module _ {T E R : Type 0} (story : T → List E) (line : E → ℕ) (root : T �
         low = λ high. let a = l.leaves_low high in let b = k.low high in omega arith;
         size = ap length l.claims_same;
         count = λ m. ap (times m) l.claims_same;
+        told = k.told;
         lines = k.lines;
         own = l.own;
         others = λ j u at' apart. same_history k.log k.drawer k.drawer (get_or s.words 0 0) (get_or s.words 0 0) j u (k.each j u at') (omega arith) (λ t h. refl);
@@ -195,7 +205,8 @@ module _ {T E R : Type 0} (story : T → List E) (line : E → ℕ) (root : T �
   next-lt : (s : St) (k : K s) → get_or s.words 0 0 < 2 ^ 63 + 2 ^ 32
   next-lt s k = let few = k.few in ⊎_elim (λ high. let a = k.low high in omega arith) (λ low. omega arith) (at_least (2 ^ 63) (get_or s.words 0 0))
 
-  pub peeks : (slots id : ℕ) (me : M) (q : R) → me.0.root ≡ Some q → me.0.stage ≡ Idle → 1 ≤ length me.0.claims → Allows K slots id me 0 (λ n. n) (peeked (step slots 0 0 0 none) me)
+  pub peeks : (slots id : ℕ) (me : M) (q : R) → me.0.root ≡ Some q → me.0.stage ≡ Idle → 1 ≤ length me.0.claims
+      → Allows K slots id me 0 (λ n. n) (peeked story root (step slots 0 0 0 none) me)
   peeks slots id me q is idle numbered s k _ at _ =
       let n : ℕ = get_or s.words 0 0 in
       let v : V = me.0 in
@@ -205,6 +216,7 @@ module _ {T E R : Type 0} (story : T → List E) (line : E → ℕ) (root : T �
       let no_ticket : tickets v.stage ≡ 0 = ap tickets idle in
       let known : v.drawn ≤ n = own.drawn in
       let sight : length v.seen ≤ n = let a = length-starts k.log v.seen own.seen in let b = k.next in omega arith in
+      let told = named_story v v.seen rooted (k.told v.seen own.seen) in
       ⊎_elim
       (λ high. let w : V = record v { refused = true; drawn = n } in (
         w,
@@ -228,9 +240,12 @@ module _ {T E R : Type 0} (story : T → List E) (line : E → ℕ) (root : T �
           };
           value = stays s k id v w s.words at free free;
         },
-        ((λ low. absurd (omega arith)), (λ h. refl), known, sight),
+        ((λ low. absurd (omega arith)), (λ h. refl), known, sight, told),
       ))
-      (λ low. let w : V = record v { stage = MayDraw; drawn = n } in (
+      (λ low.
+      let unmarked : v.refused ≡ false =
+      ⊎_elim (λ yes. let late = own.refused yes in absurd (omega arith)) (λ no. no) (true_or_false v.refused) in
+      let w : V = record v { stage = MayDraw; drawn = n } in (
         w,
         keeps,
         tt,
@@ -252,7 +267,13 @@ module _ {T E R : Type 0} (story : T → List E) (line : E → ℕ) (root : T �
           };
           value = stays s k id v w s.words at free refl;
         },
-        ((λ h. (refl, ⊎_elim (λ yes. let late = own.refused yes in absurd (omega arith)) (λ no. no) (true_or_false v.refused))), (λ high. absurd (omega arith)), known, sight),
+        (
+          (λ h. (refl, unmarked)),
+          (λ high. absurd (omega arith)),
+          known,
+          sight,
+          told,
+        ),
       ))
       (at_least (2 ^ 63) n)
 
@@ -287,6 +308,7 @@ module _ {T E R : Type 0} (story : T → List E) (line : E → ℕ) (root : T �
           low = λ h. ⊎_elim (λ high. let a = k.low high in omega arith) (λ low. let a = leaves-le s k in omega arith) (at_least (2 ^ 63) n);
           size = refl;
           count = λ i. refl;
+          told = k.told;
           lines = k.lines;
           own = subst (λ (z : ℕ). Kn k.log (drawer_after k.drawer n id) z id w) (sym first) record {
             rooted = inl rooted;
@@ -311,6 +333,7 @@ module _ {T E R : Type 0} (story : T → List E) (line : E → ℕ) (root : T �
       let v : V = me.0 in
       let own = k.each id v at in
       let rooted = named k.log k.drawer (get_or s.words 0 0) id v q own is in
+      let told = named_story v k.log rooted (k.told k.log (starts_itself k.log)) in
       ⊎_elim
       (λ waits.
       let ticket : ticket_of v.stage ≡ Some n = ap ticket_of waits in
@@ -342,7 +365,15 @@ module _ {T E R : Type 0} (story : T → List E) (line : E → ℕ) (root : T �
           };
           value = inr (id, w, set_present s.views id w v at, refl);
         },
-        (k.log, own.seen, own.met, own.claims, (λ _. (x, refl, home.2, (λ z its. home.3 ∙ sym (root-named v z rooted its)), omega arith)), λ not. absurd (not waits)),
+        (
+          k.log,
+          own.seen,
+          own.met,
+          own.claims,
+          (λ _. (x, refl, home.2, (λ z its. home.3 ∙ sym (root-named v z rooted its)), omega arith)),
+          (λ not. absurd (not waits)),
+          told,
+        ),
       ))
       (λ out.
       let its = k.each out.0 out.1 out.2 in
@@ -373,7 +404,7 @@ module _ {T E R : Type 0} (story : T → List E) (line : E → ℕ) (root : T �
           };
           value = stays s k id v w s.words at free free;
         },
-        (k.log, own.seen, own.met, own.claims, (λ waits. absurd (not waits)), λ _. refl),
+        (k.log, own.seen, own.met, own.claims, (λ waits. absurd (not waits)), (λ _. refl), told),
       ))
       (waits_or_not v.stage n)
 
@@ -407,6 +438,8 @@ module _ {T E R : Type 0} (story : T → List E) (line : E → ℕ) (root : T �
       let one_ticket : tickets v.stage ≡ 1 = ap tickets works in
       let no_leave : leaves v.stage ≡ 0 = ap leaves works in
       let log : story x ≡ k.log ++ e ∷ [] = adds ∙ ap (λ (l : List E). l ++ e ∷ []) turn.1 in
+      let its_root : root x ≡ r =
+      same_root ∙ root-named v q (named k.log k.drawer (get_or s.words 0 0) id v q own rooted) rooted in
       let long : length (story x) ≡ length k.log + 1 = ap length log ∙ length-append k.log (e ∷ []) in
       let up : m ≡ n + 1 = omega arith in
       let first : get_or (set s.words 1 m) 0 0 ≡ get_or s.words 0 0 = get_or-set_other s.words 1 0 m 0 (λ same. omega arith) in
@@ -439,6 +472,10 @@ module _ {T E R : Type 0} (story : T → List E) (line : E → ℕ) (root : T �
           low = λ high. let a = k.low (omega arith) in omega arith;
           size = sym size_v;
           count = λ z. ap (times z) (sym claims);
+          told = λ l h. ⊎_elim
+              (λ old. k.told l old)
+              (λ all. (x, log ∙ all, its_root))
+              (starts_before k.log e l (subst (λ (z : List E). StartsWith z l) log h));
           lines = subst (Each (λ y. line y < passes)) (sym log) (each_append (λ y. line y < passes) k.log (e ∷ []) k.lines (let a = number.0 in omega arith, tt));
           own = subst (λ (z : ℕ). Kn (story x) k.drawer z id w) (sym first) record {
             rooted = inl (named k.log k.drawer (get_or s.words 0 0) id v q own rooted);
@@ -463,7 +500,7 @@ module _ {T E R : Type 0} (story : T → List E) (line : E → ℕ) (root : T �
             x,
             at_home,
             refl,
-            same_root ∙ root-named v q (named k.log k.drawer (get_or s.words 0 0) id v q own rooted) rooted,
+            its_root,
             λ j u at'. ⊎_elim
                 (λ here. sym (ap (λ (z : V). has_value z.stage) here.1))
                 (λ there. ⊎_elim (λ yes. absurd (not_served j u there.1 there.0 ((k.each j u there.1).turn yes).0)) (λ no. no) (true_or_false (has_value u.stage)))
@@ -507,6 +544,7 @@ module _ {T E R : Type 0} (story : T → List E) (line : E → ℕ) (root : T �
         spread = let x = sums (λ u. length u.claims) in let y = k.spread in omega arith;
         once = λ i. let x = sums (λ u. times i u.claims) in let had = k.once i in let p : times i v.claims ≡ times i b + times i a = ap (times i) parts ∙ total-append (λ c. bit (eqb c.number i)) b a in
             ((λ h. let y = had.0 h in omega arith), (λ h. let y = had.1 h in omega arith));
+        told = k.told;
         lines = k.lines;
         each = λ j u at'. ⊎_elim
             (λ old. ⊎_elim
@@ -579,6 +617,7 @@ module _ {T E R : Type 0} (story : T → List E) (line : E → ℕ) (root : T �
         spread = let x = sums (λ u. length u.claims) in let y = k.spread in omega arith;
         once = λ i. let x = sums (λ u. times i u.claims) in let had = k.once i in let p = total-append (λ c. bit (eqb c.number i)) v.claims w.claims in
             ((λ h. let y = had.0 h in omega arith), (λ h. let y = had.1 h in omega arith));
+        told = k.told;
         lines = k.lines;
         each = λ j u at''. ⊎_elim
             (λ here. subst (λ (z : V). Kn k.log k.drawer (get_or s.words 0 0) j z) here.1 record {
@@ -680,6 +719,7 @@ module _ {T E R : Type 0} (story : T → List E) (line : E → ℕ) (root : T �
         low = λ h. absurd (omega arith);
         spread = omega arith;
         once = λ i. ((λ h. let a = fresh_with i 0 passes (omega arith) (omega arith) in omega arith), (λ h. let a = fresh_without i 0 passes (inr (omega arith)) in omega arith));
+        told = λ l h. (x, empty ∙ starts_nothing l h, refl);
         lines = tt;
         each = λ j u at. subst (λ (z : View E R). Knows story line root (root x) [] (λ t. 0) 0 j z) (only j u at) record {
           rooted = inl refl;

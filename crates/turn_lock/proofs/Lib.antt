@@ -3,3 +3,4 @@ pub mod Stories
 pub mod Keeps
 pub mod Stands
 pub mod Gathers
+pub mod Places

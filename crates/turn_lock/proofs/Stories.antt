@@ -1,5 +1,7 @@
 -- Beginnings of a history, and places in it.
-use Rattle.std.proofs.Common.{◌≡◌, ◌≢◌, ℕ, zero, suc, ◌+◌, ◌≤◌, Bool, true, false, eqb, List, [], ◌∷◌, ◌++◌, length, sym, refl, ap, ◌∙◌, arith, eq-eqb, ne_eqb, append_assoc, length-append}
+use Rattle.std.proofs.Common.{◌≡◌, ◌≢◌, ◌⊎◌, ℕ, zero, suc, ◌+◌, ◌≤◌, Bool, true, false, eqb}
+use Rattle.std.proofs.Common.{List, [], ◌∷◌, ◌++◌, drop, length, get_or}
+use Rattle.std.proofs.Common.{sym, refl, ap, ◌∙◌, inl, inr, ⊎_elim, arith, eq-eqb, ne_eqb, append_assoc, length-append}
 use Rattle.std.proofs.lemmas.List.{append-nil}
 use Rattle.turn_lock.specs.declared.rule.Claim.{Claim}
 use Rattle.turn_lock.specs.Views.{times, fresh}
@@ -35,6 +37,25 @@ module _ {E : Type 0} where
 
   pub length-starts : (log seen : List E) → StartsWith log seen → length seen ≤ length log
   length-starts log seen h = let size : length log ≡ length seen + length h.0 = ap length h.1 ∙ length-append seen h.0 in omega arith
+
+  -- a beginning of the empty list is empty
+  pub starts_nothing : (l : List E) → StartsWith [] l → [] ≡ l
+  starts_nothing [] h = refl
+  starts_nothing (y ∷ ys) h = let short = length-starts [] (y ∷ ys) h in absurd (omega arith)
+
+  -- a beginning of a list with one entry more is one of the list, or is the whole
+  pub starts_before : (log : List E) (e : E) (l : List E) → StartsWith (log ++ e ∷ []) l
+      → StartsWith log l ⊎ (log ++ e ∷ [] ≡ l)
+  starts_before log e [] h = inl (log, refl)
+  starts_before [] e (y ∷ []) h = inr (let same : e ≡ y = ap (λ (l : List E). get_or l 0 e) h.1 in λ i. same i ∷ [])
+  starts_before [] e (y ∷ z ∷ zs) h = let short = length-starts (e ∷ []) (y ∷ z ∷ zs) h in absurd (omega arith)
+  starts_before (x ∷ xs) e (y ∷ ys) h =
+      let same : x ≡ y = ap (λ (l : List E). get_or l 0 x) h.1 in
+      let rest : xs ++ e ∷ [] ≡ ys ++ h.0 = ap (drop 1) h.1 in
+      ⊎_elim
+      (λ old. inl (old.0, λ i. same i ∷ old.1 i))
+      (λ all. inr (λ i. same i ∷ all i))
+      (starts_before xs e ys (h.0, rest))
 
 module _ {E : Type 0} (line : E → ℕ) where
   if_so-append : (b : Bool) (k : ℕ) (l m : List ℕ) → if_so b k (l ++ m) ≡ if_so b k l ++ m

@@ -1,5 +1,6 @@
 -- The one history, and the rule that holds between any two steps.
-use Rattle.std.specs.Prelude.{◌≡◌, ◌⊎◌, ℕ, zero, suc, ◌+◌, ◌^◌, ◌<◌, ◌≤◌, ◌==◌, List, [], ◌∷◌, ◌++◌, length, slice_index, Option, Some, Bool, true, false, ⊤}
+use Rattle.std.specs.Prelude.{◌≡◌, ◌⊎◌, ℕ, zero, suc, ◌+◌, ◌^◌, ◌<◌, ◌≤◌, ◌==◌, ⊤}
+use Rattle.std.specs.Prelude.{List, [], ◌∷◌, ◌++◌, length, slice_index, Option, Some, Bool, true, false}
 use mathlib.Core.Option.{some}
 use lib.ListN.{get_elem?}
 use Rattle.atomic_table.specs.Table.{State}
@@ -32,6 +33,10 @@ module _ {E : Type 0} where
   -- `new` is `old` and one entry of the line n
   abbrev pub AddsOne : (E → ℕ) → ℕ → List E → List E → Type 0
   AddsOne line n old new = (e : E) × (new ≡ old ++ e ∷ []) × (line e ≡ n)
+
+-- the list is the story of some value that has this root
+abbrev pub IsStory : {T E R : Type 0} → (T → List E) → (T → R) → R → List E → Type 0
+IsStory {T} story root r l = (x : T) × (story x ≡ l) × (root x ≡ r)
 
 module _ {T E R : Type 0} (story : T → List E) (line : E → ℕ) (root : T → R) where
   -- What is so of the view of each seat. `drawer` is the seat that drew a ticket, so no two seats have one ticket.
@@ -81,6 +86,8 @@ module _ {T E R : Type 0} (story : T → List E) (line : E → ℕ) (root : T �
     pub spread : total (λ v. length v.claims) s.views ≡ passes
     pub once : (n : ℕ) → (n < passes → total (λ v. times n v.claims) s.views ≡ 1)
         × (passes ≤ n → total (λ v. times n v.claims) s.views ≡ 0)
+    -- each beginning of the history is the story of some value of this root, also while the value is out
+    pub told : (l : List E) → StartsWith log l → IsStory story root r l
     -- each entry names a pass's number
     pub lines : Each (λ e. line e < passes) log
     pub each : (j : ℕ) (v : View E R) → get_elem? s.views j ≡ some v → Knows r log drawer (slice_index s.words 0) j v

@@ -2,3 +2,4 @@ pub mod Views
 pub mod Histories
 pub mod Steps
 pub mod Passes
+pub mod Calls

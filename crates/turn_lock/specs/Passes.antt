@@ -5,7 +5,7 @@ use Rattle.turn_lock.specs.declared.rule.Stage.TheVariants.{Idle, Waits, Works}
 use Rattle.turn_lock.specs.declared.tokens.Pass.{Pass}
 use Rattle.turn_lock.specs.declared.lock.Turnstile.{Turnstile}
 use Rattle.turn_lock.specs.Views.{pass_view}
-use Rattle.turn_lock.specs.Histories.{places}
+use Rattle.turn_lock.specs.Histories.{IsStory, places}
 
 module _ {T E R : Type 0} where
   abbrev pub number_of : Pass T E R → ℕ
@@ -31,6 +31,10 @@ module _ {T E R : Type 0} where
   abbrev pub root_of : (T → R) → Turnstile T E R → R
   root_of root lock = root lock.table.shared.key.first.value
 
+  -- what the pass has seen is the story of some value that has the lock's root
+  abbrev pub SeesStory : (T → List E) → (T → R) → Turnstile T E R → Pass T E R → Type 0
+  SeesStory story root lock p = IsStory story root (root_of root lock) (seen p)
+
   -- how many passes the lock has
   abbrev pub passes_of : Turnstile T E R → ℕ
   passes_of lock = lock.passes
@@ -41,7 +45,8 @@ module _ {T E R : Type 0} where
 
   -- how the pass stands, and which slots it has out
   abbrev pub Stands : (E → ℕ) → R → Stage → List (ℕ × Option T) → Pass T E R → Type 0
-  Stands line q stage slots p = p.seat.me ≡ (pass_view q stage (refused p) (drawn p) p.number (mine line p) (seen p), slots)
+  Stands line q stage slots p =
+      p.seat.me ≡ (pass_view q stage (refused p) (drawn p) p.number (mine line p) (seen p), slots)
 
   -- the pass came from this lock and holds no turn
   abbrev pub IsIdle : (E → ℕ) → (T → R) → Turnstile T E R → Pass T E R → Type 0

@@ -79,5 +79,12 @@ module _ {E R : Type 0} where
 
   -- the view of a pass with its number: its claim is the places of its entries in what it has seen
   abbrev pub pass_view : R → Stage → Bool → ℕ → ℕ → List ℕ → List E → View E R
-  pass_view q stage refused drawn n ps seen =
-      record { root = Some q; stage = stage; refused = refused; drawn = drawn; claims = claim n ps ∷ []; seen = seen; met = [] }
+  pass_view q stage refused drawn n ps seen = record {
+    root = Some q;
+    stage = stage;
+    refused = refused;
+    drawn = drawn;
+    claims = claim n ps ∷ [];
+    seen = seen;
+    met = [];
+  }

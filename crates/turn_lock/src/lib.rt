@@ -4,18 +4,18 @@
 //!
 //! `Turnstile::start` makes the lock and its passes; with a pass a thread calls `enter` and `leave`.
 //! `meet` hands on what was seen, and `close` gives the value back. Only `start` takes memory.
+//!
+//! `laws` has what follows from the contracts of several calls, and `rule` what proofs alone name.
 #![tactic(auto)]
 
+pub mod laws;
 mod lock;
-mod rule;
+pub mod rule;
 mod story;
 #[cfg(test)]
 mod tests;
 mod tokens;
 
 pub use lock::Turnstile;
-pub use rule::{
-    Claim, CopySeen, DealNumber, Draw, Look, OneHistory, PassOn, Peek, Stage, TakeIn, Terms, View,
-};
 pub use story::Storied;
 pub use tokens::{NoMemory, Pass, Spent, Turn};

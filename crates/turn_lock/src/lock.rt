@@ -39,7 +39,7 @@ pub struct Turnstile<T: Storied> {
 impl<T: Storied> Turnstile<T> {
     ghost use Rattle.turn_lock.specs.Histories.{StartsWith, AddsOne};
     ghost use Rattle.turn_lock.specs.Passes.{number_of, seen, mine, refused, drawn, root_of};
-    ghost use Rattle.turn_lock.specs.Passes.{IsIdle, HasTurn, IsWaiting, IsHolding};
+    ghost use Rattle.turn_lock.specs.Passes.{IsIdle, HasTurn, SeesStory, IsWaiting, IsHolding};
 
     /// Waits for a turn and takes the value out. `Spent` comes exactly where this call finds that
     /// 2^63 turns were drawn, and the pass then has the mark.
@@ -54,6 +54,7 @@ impl<T: Storied> Turnstile<T> {
         ensures story { IfOk result (λ t. T.story t.value ≡ seen pass.new) }
         ensures history { StartsWith (seen pass.new) (seen pass.old) }
         ensures mine { mine T.line pass.new ≡ mine T.line pass.old }
+        ensures told { SeesStory T.story T.root self.now pass.new }
         ensures few { IfOk result (λ _. length (seen pass.new) < 2 ^ 63 + 2 ^ 32) }
 
         // Spent comes exactly where 2^63 turns were drawn. Their number is that in `drawn`: this call
@@ -87,6 +88,7 @@ impl<T: Storied> Turnstile<T> {
         ensures idle { IsIdle T.line T.root self.now pass.new }
         ensures number { number_of pass.new ≡ number_of pass.old }
         ensures history { seen pass.new ≡ T.story turn.value }
+        ensures told { SeesStory T.story T.root self.now pass.new }
         ensures mine { mine T.line pass.new ≡ mine T.line pass.old ++ length (seen pass.old) ∷ [] }
         ensures drawn { drawn pass.new ≡ drawn pass.old }
         ensures refused { refused pass.new ≡ refused pass.old }
@@ -102,7 +104,8 @@ impl<T: Storied> Turnstile<T> {
             .fetch_add::<PassOn<T>>(&mut pass.seat, SERVED_TURN, 1);
     }
 
-    /// Lets `into` know what `from` has seen. No turn is taken.
+    /// Lets `into` know what `from` has seen. No turn is taken, and what `into` has then seen is the
+    /// story of some value that has the lock's root.
     pub fn meet(&self, from: &mut Pass<T>, into: &mut Pass<T>)
         requires from { IsIdle T.line T.root self.now from.old }
         requires into { IsIdle T.line T.root self.now into.old }
@@ -111,6 +114,7 @@ impl<T: Storied> Turnstile<T> {
         ensures number { number_of into.new ≡ number_of into.old }
         ensures met { StartsWith (seen into.new) (seen from.old) }
         ensures history { StartsWith (seen into.new) (seen into.old) }
+        ensures told { SeesStory T.story T.root self.now into.new }
         ensures mine { mine T.line into.new ≡ mine T.line into.old }
         ensures drawn { (drawn from.old ≤ drawn into.new) × (drawn into.old ≤ drawn into.new) }
         ensures refused { refused into.new ≡ refused into.old }
@@ -129,6 +133,7 @@ impl<T: Storied> Turnstile<T> {
         ensures ticket { IfSome result (λ t. IsWaiting T.line T.root self.now t pass.new) }
         ensures idle { result ≡ None → IsIdle T.line T.root self.now pass.new }
         ensures seen { seen pass.new ≡ seen pass.old }
+        ensures told { SeesStory T.story T.root self.now pass.new }
         ensures mine { mine T.line pass.new ≡ mine T.line pass.old }
         ensures known { drawn pass.old ≤ drawn pass.new }
         ensures counted { length (seen pass.old) ≤ drawn pass.new }
@@ -183,7 +188,7 @@ impl<T: Storied + Drop> Turnstile<T> {
     ghost use Rattle.turn_lock.specs.declared.rule.Stage.TheVariants.{Idle};
     ghost use Rattle.turn_lock.specs.Views.{times};
     ghost use Rattle.turn_lock.specs.Histories.{StartsWith, Each, Sound, places, counted};
-    ghost use Rattle.turn_lock.specs.Passes.{number_of, seen, mine, refused, drawn, IsIdle};
+    ghost use Rattle.turn_lock.specs.Passes.{number_of, seen, mine, refused, drawn, IsIdle, SeesStory};
     ghost use Rattle.turn_lock.specs.Passes.{root_of, passes_of};
 
     /// A lock round a value without entries, and its passes, numbered from 0. The value's root is the
@@ -200,6 +205,7 @@ impl<T: Storied + Drop> Turnstile<T> {
         ensures count { IfOk result (λ r. vec_len r.1 ≡ passes) }
         ensures numbers { IfOk result (λ r. map number_of r.1.items ≡ counted 0 passes) }
         ensures idle { IfOk result (λ r. All (IsIdle T.line T.root r.0) r.1.items) }
+        ensures told { IfOk result (λ r. All (SeesStory T.story T.root r.0) r.1.items) }
         ensures fresh { IfOk result (λ r.
             All (λ p. (seen p ≡ []) × (drawn p ≡ 0) × (refused p ≡ false)) r.1.items) }
     {

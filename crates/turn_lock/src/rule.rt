@@ -76,7 +76,7 @@ pub struct Peek<T> {
 impl<T: Storied> Play<Option<T>, View<T::Entry, T::Root>> for Peek<T> {
     ghost use Rattle.turn_lock.specs.Steps.{peeked};
 
-    ghost then = { peeked };
+    ghost then = { peeked T.story T.root };
 }
 
 /// One more turn is drawn.

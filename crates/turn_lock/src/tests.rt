@@ -1,8 +1,9 @@
 //! Threads that take turns at a tally.
 
-ghost use Rattle.std.specs.Prelude.{◌≡◌, ◌++◌, ◌∷◌, [], ◌<◌, All, IfOk};
+ghost use Rattle.std.specs.Prelude.{◌≡◌, ◌++◌, ◌∷◌, [], ◌<◌, All, IfOk, vec_len};
 ghost use Rattle.turn_lock.specs.Histories.{StartsWith};
-ghost use Rattle.turn_lock.specs.Passes.{number_of, seen, IsIdle};
+ghost use Rattle.turn_lock.specs.Passes.{number_of, seen, IsIdle, passes_of, root_of};
+ghost use Rattle.turn_lock.specs.Calls.{OneTurn, Closes};
 
 use super::*;
 use std::alloc::Global;
@@ -56,6 +57,7 @@ fn count<W: Wait>(
     ensures seen { StartsWith (seen pass.new) (seen pass.old) }
     ensures last { IfOk result (λ _.
         (before : _) × (seen pass.new ≡ before ++ (number_of pass.new, count) ∷ [])) }
+    ensures turn { IfOk result (λ _. (before : _) × OneTurn (λ e. e.0) pass.old pass.new before (seen pass.new)) }
 {
     let Turn { mut value } = lock.enter(rt, pass)?;
     add(rt, &mut value, (pass.number(), count));
@@ -100,7 +102,17 @@ fn counted_by<R: Threads + Wait + Sync>(
     };
     let (lock, mut all) = Turnstile::start(alloc, tally, passes)?;
     count_side_by_side(rt, &lock, all.as_mut_slice());
-    Ok(lock.close(all))
+    Ok(closed(lock, all))
+}
+
+// The end of a lock, in the words of the laws.
+fn closed(lock: Turnstile<Tally>, passes: Vec<Pass<Tally>>) -> Tally
+    requires all { vec_len passes ≡ passes_of lock }
+    requires idle { All (IsIdle (λ e. e.0) (λ t. t.base) lock) passes.items }
+    ensures base { result.base ≡ root_of (λ t. t.base) lock }
+    ensures closes { Closes (λ e. e.0) passes.items result.entries.items }
+{
+    lock.close(passes)
 }
 
 #[test]

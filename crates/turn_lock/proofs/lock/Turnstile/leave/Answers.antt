@@ -14,7 +14,8 @@ fetch_add-requires g c =
     let number = c.args.pass.now.number in (
       search rules,
       search rules,
-      passes_on g.T.Storied.story g.T.Storied.line g.T.Storied.root _ _ _ _ _ _ c.args.turn.value entry.0 (claim number (places g.T.Storied.line number 0 c.args.pass.now.seat.me.0.seen)) _
+      passes_on g.T.Storied.story g.T.Storied.line g.T.Storied.root _ _ _ _ _ _ c.args.turn.value entry.0
+          (claim number (places g.T.Storied.line number 0 c.args.pass.now.seat.me.0.seen)) _
           (ap (λ m. m.0.stage) put ∙ ap (λ m. m.0.stage) works)
           (ap (λ m. m.1) put ∙ ap (λ m. (0, Some c.args.turn.value) ∷ rest m.1) works)
           (ap (λ m. m.0.claims) put ∙ ap (λ m. m.0.claims) works)
@@ -26,25 +27,36 @@ fetch_add-requires g c =
 
 pub returns-clause-idle : goal.returns-clause-idle
 returns-clause-idle g c =
-    let told = passed _ g.T.Storied.line _ c.args.pass.now.number g.T.Storied.story _ _ _ _ _ c.requires.turn.1.1 c.exchange-slot.ensures.3 c.fetch_add.ensures.2 in
+    let told = passed _ g.T.Storied.line _ c.args.pass.now.number g.T.Storied.story _ _ _ _ _ c.requires.turn.1.1
+    c.exchange-slot.ensures.3 c.fetch_add.ensures.2 in
     (search rules, stands_from _ g.T.Storied.line _ c.args.pass.now.number _ _ _ _ _ _ _ told.0 told.1)
 
 pub returns-clause-history : goal.returns-clause-history
 returns-clause-history g c =
-    let told = passed _ g.T.Storied.line _ c.args.pass.now.number g.T.Storied.story _ _ _ _ _ c.requires.turn.1.1 c.exchange-slot.ensures.3 c.fetch_add.ensures.2 in
+    let told = passed _ g.T.Storied.line _ c.args.pass.now.number g.T.Storied.story _ _ _ _ _ c.requires.turn.1.1
+    c.exchange-slot.ensures.3 c.fetch_add.ensures.2 in
     ap (λ m. m.0.seen) told.0
+
+pub returns-clause-told : goal.returns-clause-told
+returns-clause-told g c =
+    let told = passed _ g.T.Storied.line _ c.args.pass.now.number g.T.Storied.story _ _ _ _ _ c.requires.turn.1.1
+    c.exchange-slot.ensures.3 c.fetch_add.ensures.2 in
+    (c.args.turn.value, sym (ap (λ m. m.0.seen) told.0), c.requires.root)
 
 pub returns-clause-mine : goal.returns-clause-mine
 returns-clause-mine g c =
-    let told = passed _ g.T.Storied.line _ c.args.pass.now.number g.T.Storied.story _ _ _ _ _ c.requires.turn.1.1 c.exchange-slot.ensures.3 c.fetch_add.ensures.2 in
+    let told = passed _ g.T.Storied.line _ c.args.pass.now.number g.T.Storied.story _ _ _ _ _ c.requires.turn.1.1
+    c.exchange-slot.ensures.3 c.fetch_add.ensures.2 in
     ap (λ m. places g.T.Storied.line c.args.pass.now.number 0 m.0.seen) told.0 ∙ told.1
 
 pub returns-clause-drawn : goal.returns-clause-drawn
 returns-clause-drawn g c =
-    let told = passed _ g.T.Storied.line _ c.args.pass.now.number g.T.Storied.story _ _ _ _ _ c.requires.turn.1.1 c.exchange-slot.ensures.3 c.fetch_add.ensures.2 in
+    let told = passed _ g.T.Storied.line _ c.args.pass.now.number g.T.Storied.story _ _ _ _ _ c.requires.turn.1.1
+    c.exchange-slot.ensures.3 c.fetch_add.ensures.2 in
     ap (λ m. m.0.drawn) told.0
 
 pub returns-clause-refused : goal.returns-clause-refused
 returns-clause-refused g c =
-    let told = passed _ g.T.Storied.line _ c.args.pass.now.number g.T.Storied.story _ _ _ _ _ c.requires.turn.1.1 c.exchange-slot.ensures.3 c.fetch_add.ensures.2 in
+    let told = passed _ g.T.Storied.line _ c.args.pass.now.number g.T.Storied.story _ _ _ _ _ c.requires.turn.1.1
+    c.exchange-slot.ensures.3 c.fetch_add.ensures.2 in
     ap (λ m. m.0.refused) told.0
