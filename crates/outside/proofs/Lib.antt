@@ -1,1 +1,3 @@
 mod Fronts
+mod ScriptLemmas
+mod TapeLemmas

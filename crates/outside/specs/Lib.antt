@@ -1,1 +1,5 @@
 pub mod Devices
+pub mod Links
+pub mod Plans
+pub mod Scripts
+pub mod Tapes
