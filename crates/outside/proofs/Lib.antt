@@ -1,3 +1,4 @@
+mod DrawLemmas
 mod Fronts
 mod ScriptLemmas
 mod TapeLemmas

@@ -1,5 +1,7 @@
 pub mod Devices
+pub mod Draws
 pub mod Links
 pub mod Plans
 pub mod Scripts
 pub mod Tapes
+pub mod Times

@@ -1,8 +1,11 @@
-//! Where bytes come from and go to, with a count of faults; and the forms of both that live in memory.
+//! All that the server sees of the world: sources, sinks, links, clocks and dice, each with a count of its faults, and
+//! the forms of them that live in memory.
 #![tactic(auto)]
 
 pub mod bytes;
 pub mod clean;
+pub mod clock;
+pub mod dice;
 pub mod link;
 pub mod mem_link;
 pub mod memory;
@@ -14,6 +17,8 @@ mod tests;
 
 pub use bytes::{Got, Put, Sink, Source};
 pub use clean::{CleanSink, CleanSource};
+pub use clock::{Clock, MemClock};
+pub use dice::{CleanDice, Dice, Filled, MemDice};
 pub use link::{Heard, Link};
 pub use mem_link::{CleanLink, MemLink};
 pub use memory::{MemSink, MemSource};
