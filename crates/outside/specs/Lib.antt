@@ -1,4 +1,5 @@
 pub mod Devices
+pub mod Doors
 pub mod Draws
 pub mod Links
 pub mod Plans

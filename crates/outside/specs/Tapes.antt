@@ -61,6 +61,10 @@ pub record Tape : Type 0 where
   pub calls : ℕ
   pub bytes : ℕ
 
+-- the marks that a tape tells
+abbrev pub marks_told : Tape → List Mark
+marks_told t = shown Mark t.told
+
 -- whether there is room for one more mark of so many bytes
 abbrev pub has_room : Tape → ℕ → Bool
 has_room t n = nat_lt 0 t.calls && nat_le n t.bytes

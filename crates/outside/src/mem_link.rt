@@ -68,6 +68,13 @@ impl MemLink {
         &self.tape
     }
 
+    /// Its tape, to be kept.
+    pub(crate) fn into_tape(self) -> Tape
+        ensures { result ≡ self.tape }
+    {
+        self.tape
+    }
+
     fn fail_planned(&mut self)
         ensures state { self.new ≡ broken self.old }
         ensures kept { self.old.plan.faults ≤ self.new.plan.faults }

@@ -1,5 +1,5 @@
 //! A tape in memory: what was heard and said on a link, call by call.
-ghost use Rattle.std.specs.Prelude.{◌≡◌, [], Some, IfOk, length, take};
+ghost use Rattle.std.specs.Prelude.{◌≡◌, [], Some, IfOk, is_some, length, take};
 ghost use Rattle.outside.specs.Tapes.{has_room, mark_of, noted, shown, silent, size, sizes, marks};
 
 use std::alloc::{AllocError, Global};
@@ -76,6 +76,13 @@ impl Tape {
             Ok(()) => {}
             Err(_) => unreachable!(),
         }
+    }
+
+    /// Whether it tells its marks.
+    pub(crate) fn tells(&self) -> bool
+        ensures { result ≡ is_some self.now.told }
+    {
+        self.tells
     }
 
     /// Tells nothing from now on.
