@@ -12,6 +12,7 @@ pub mod mem_door;
 pub mod mem_link;
 pub mod memory;
 mod plan;
+pub mod ports;
 mod script;
 pub mod tape;
 #[cfg(test)]
@@ -26,4 +27,5 @@ pub use link::{Heard, Link};
 pub use mem_door::{CleanDoor, MemDoor};
 pub use mem_link::{CleanLink, MemLink};
 pub use memory::{MemSink, MemSource};
+pub use ports::{ListenFault, Ports, Post};
 pub use tape::{Kind, Tape};
