@@ -1,4 +1,5 @@
 mod DrawLemmas
 mod Fronts
+mod PostLemmas
 mod ScriptLemmas
 mod TapeLemmas

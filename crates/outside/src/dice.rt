@@ -75,6 +75,13 @@ impl MemDice {
         })
     }
 
+    /// How often they failed.
+    pub fn faults(&self) -> u64
+        ensures { result ≡ self.now.plan.faults }
+    {
+        self.plan.faults()
+    }
+
     fn fail(&mut self) -> Filled
         ensures result { result ≡ Filled.Failed }
         ensures state { self.new ≡ record self.old { plan = failed self.old.plan } }

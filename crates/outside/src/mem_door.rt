@@ -1,5 +1,5 @@
 //! Doors in memory.
-ghost use Rattle.std.specs.Prelude.{◌≡◌, ◌≢◌, ◌≤◌, ℕ, [], List, Some, None, IfOk, map};
+ghost use Rattle.std.specs.Prelude.{◌≡◌, ◌≢◌, ◌≤◌, ℕ, [], List, Some, None, IfOk, is_some, map};
 ghost use Rattle.outside.specs.Devices.{Rose};
 ghost use Rattle.outside.specs.Doors.{Accepts, CleanAccepts, Comes, ComesUnmarked, TakesBack, Unmarked, took_back};
 ghost use Rattle.outside.specs.Links.{CleanLinkState, LinkState};
@@ -74,6 +74,27 @@ impl MemDoor {
         ensures { self.new ≡ record self.old { quota = quota } }
     {
         self.quota = quota;
+    }
+
+    /// How often it failed.
+    pub fn faults(&self) -> u64
+        ensures { result ≡ self.now.plan.faults }
+    {
+        self.plan.faults()
+    }
+
+    /// How many links it handed out.
+    pub fn links(&self) -> u64
+        ensures { result ≡ self.now.links }
+    {
+        self.handed_out
+    }
+
+    /// Whether it tells the tapes of the links that came back.
+    pub(crate) fn tells(&self) -> bool
+        ensures { result ≡ is_some self.now.tapes }
+    {
+        self.tells
     }
 
     /// The tapes of the links that came back, or none where it doesn't tell them.
@@ -173,6 +194,13 @@ impl CleanDoor {
         ensures { self.new ≡ record self.old { quota = quota } }
     {
         self.quota = quota;
+    }
+
+    /// How many links it handed out.
+    pub fn links(&self) -> u64
+        ensures { result ≡ self.now.links }
+    {
+        self.handed_out
     }
 }
 

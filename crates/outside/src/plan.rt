@@ -2,6 +2,7 @@
 ghost use Rattle.std.specs.Prelude.{◌≡◌, ◌≤◌};
 ghost use Rattle.outside.specs.Devices.{Rose};
 ghost use Rattle.outside.specs.Plans.{called, failed, fails_next, planned};
+ghost use Rattle.outside.specs.Posts.{plus};
 
 use std::marker::Model;
 
@@ -54,6 +55,13 @@ impl Plan {
     {
         self.calls = self.calls.saturating_add(1);
         self.faults = self.faults.saturating_add(1);
+    }
+
+    /// Adds faults of another.
+    pub fn add(&mut self, faults: u64)
+        ensures { self.new ≡ record self.old { faults = plus self.old.faults faults } }
+    {
+        self.faults = self.faults.saturating_add(faults);
     }
 
     pub fn faults(&self) -> u64
