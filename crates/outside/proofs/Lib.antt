@@ -1,3 +1,4 @@
+mod CleanLemmas
 mod DrawLemmas
 mod Fronts
 mod PostLemmas

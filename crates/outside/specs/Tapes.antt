@@ -50,6 +50,25 @@ mark_of kind.End bytes = End
 mark_of kind.Failed bytes = Failed
 mark_of (kind.Said n) bytes = Said bytes
 
+abbrev pub kind_of : Mark → Kind
+kind_of (Heard bytes) = kind.Heard (length bytes)
+kind_of Quiet = kind.Quiet
+kind_of End = kind.End
+kind_of Failed = kind.Failed
+kind_of (Said bytes) = kind.Said (length bytes)
+
+abbrev pub bytes_of : Mark → List ℕ
+bytes_of (Heard bytes) = bytes
+bytes_of Quiet = []
+bytes_of End = []
+bytes_of Failed = []
+bytes_of (Said bytes) = bytes
+
+-- the bytes of all marks, one after the other
+abbrev pub all_bytes : List Mark → List ℕ
+all_bytes [] = []
+all_bytes (m ∷ ms) = bytes_of m ++ all_bytes ms
+
 -- the marks of these kinds, whose bytes stand one after the other
 abbrev pub marks : List Kind → List ℕ → List Mark
 marks [] bytes = []

@@ -54,6 +54,18 @@ impl MemClock {
         })
     }
 
+    /// A clock that says 0 and has no room. Takes no memory.
+    pub(crate) fn blank(alloc: Global) -> MemClock
+        ensures { result ≡ record { left = []; last = 0; told = Some []; room = 0 } }
+    {
+        MemClock {
+            moments: VecDeque::new(alloc),
+            last: 0,
+            given: Vec::new(alloc),
+            tells: true,
+        }
+    }
+
     /// The moments that it gave, or none where it doesn't tell them.
     pub fn given(&self) -> &[u64]
         ensures { result.now ≡ shown ℕ self.now.told }

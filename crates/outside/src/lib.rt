@@ -4,6 +4,7 @@
 
 pub mod bytes;
 pub mod clean;
+pub mod clean_ports;
 pub mod clock;
 pub mod dice;
 pub mod door;
@@ -21,6 +22,7 @@ mod tests;
 
 pub use bytes::{Got, Put, Sink, Source};
 pub use clean::{CleanSink, CleanSource};
+pub use clean_ports::CleanPorts;
 pub use clock::{Clock, MemClock};
 pub use dice::{CleanDice, Dice, Filled, MemDice};
 pub use door::{Came, Door};

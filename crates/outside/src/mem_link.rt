@@ -68,6 +68,13 @@ impl MemLink {
         &self.tape
     }
 
+    /// How often it failed.
+    pub fn faults(&self) -> u64
+        ensures { result ≡ self.now.plan.faults }
+    {
+        self.plan.faults()
+    }
+
     /// Its tape, to be kept.
     pub(crate) fn into_tape(self) -> Tape
         ensures { result ≡ self.tape }

@@ -82,6 +82,27 @@ impl MemPorts {
         if self.tells { self.doors.as_slice() } else { &[] }
     }
 
+    /// How often they failed, the doors that came back among them.
+    pub fn faults(&self) -> u64
+        ensures { result ≡ self.now.plan.faults }
+    {
+        self.plan.faults()
+    }
+
+    /// How many links the doors handed out that came back.
+    pub fn links(&self) -> u64
+        ensures { result ≡ self.now.links }
+    {
+        self.links
+    }
+
+    /// How often the dice failed that came back.
+    pub fn dice_faults(&self) -> u64
+        ensures { result ≡ self.now.dice_faults }
+    {
+        self.dice_faults
+    }
+
     /// Takes a post back.
     fn take_post(&mut self, post: Post<MemDoor, MemClock, MemDice>)
         ensures { self.new ≡ took_post self.old post }

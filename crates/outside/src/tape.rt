@@ -1,6 +1,6 @@
 //! A tape in memory: what was heard and said on a link, call by call.
-ghost use Rattle.std.specs.Prelude.{◌≡◌, [], Some, IfOk, is_some, length, take};
-ghost use Rattle.outside.specs.Tapes.{has_room, mark_of, noted, shown, silent, size, sizes, marks};
+ghost use Rattle.std.specs.Prelude.{◌≡◌, [], Some, IfOk, is_some, length, map};
+ghost use Rattle.outside.specs.Tapes.{all_bytes, has_room, kind_of, mark_of, marks_told, noted, shown, silent, size, sizes, marks};
 
 use std::alloc::{AllocError, Global};
 use std::marker::Model;
@@ -76,6 +76,22 @@ impl Tape {
             Ok(()) => {}
             Err(_) => unreachable!(),
         }
+    }
+
+    /// The kinds of its marks, or none where it doesn't tell them.
+    #[tactic(auto, using(crate::proofs::TapeLemmas::kinds_of_marks))]
+    pub fn kinds(&self) -> &[Kind]
+        ensures { result.now ≡ map kind_of (marks_told self.now) }
+    {
+        if self.tells { self.kinds.as_slice() } else { &[] }
+    }
+
+    /// The bytes of its marks, one after the other, or none where it doesn't tell them.
+    #[tactic(auto, using(crate::proofs::TapeLemmas::bytes_of_marks))]
+    pub fn bytes(&self) -> &[u8]
+        ensures { result.now ≡ all_bytes (marks_told self.now) }
+    {
+        if self.tells { self.bytes.as_slice() } else { &[] }
     }
 
     /// Whether it tells its marks.
