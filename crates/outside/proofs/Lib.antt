@@ -4,3 +4,4 @@ mod Fronts
 mod PostLemmas
 mod ScriptLemmas
 mod TapeLemmas
+pub mod Telling

@@ -1,11 +1,11 @@
 -- Posts that are handed out and taken back.
-use Rattle.std.proofs.Common.{◌≡◌, ℕ, zero, suc, ◌+◌, ◌-◌, ◌^◌, ◌≤◌, Bool, true, false, nat_lt, List, [], ◌∷◌, ◌++◌, length, take, drop, map, refl, ap, sym, ◌∙◌, subst, arith, append_assoc}
+use Rattle.std.proofs.Common.{◌≡◌, ℕ, zero, suc, Bool, true, false, nat_lt, List, [], ◌∷◌, ◌++◌, take, drop, map, refl, ap, sym, ◌∙◌, append_assoc}
 use Rattle.std.proofs.lemmas.List.{append-nil, map-append}
-use Rattle.std.specs.Prelude.{Option, Some, None, min, sum}
+use Rattle.std.specs.Prelude.{Option, Some, None}
 use Rattle.outside.specs.Tapes.{Mark}
-use Rattle.outside.specs.Doors.{DoorState, Untold}
+use Rattle.outside.specs.Doors.{DoorState}
 use Rattle.outside.specs.Plans.{Plan}
-use Rattle.outside.specs.Posts.{Each, Gathers, IsUnused, MemPost, Opened, PortsState, added, and_tapes, kept_by, opened, plus, took_post, took_posts}
+use Rattle.outside.specs.Posts.{Each, Gathers, IsUnused, MemPost, Opened, PortsState, added, and_tapes, kept_by, opened, took_post, took_posts}
 
 pub each_take : (A : Type 0) (P : A → Type 0) (n : ℕ) (xs : List A) → Each A P xs → Each A P (take n xs)
 each_take A P zero xs each = tt
@@ -42,22 +42,22 @@ pub gathered_faults : (v : PortsState) (posts : List MemPost)
     → (took_posts v posts).plan.faults ≡ added v.plan.faults (map (λ p. p.door.plan.faults) posts)
 gathered_faults v [] = refl
 gathered_faults v (p ∷ ps) =
-  gathered_faults (took_post v p) ps
-  ∙ ap (λ (x : Plan). added x.faults (map (λ (q : MemPost). q.door.plan.faults) ps)) (kept_plan (nat_lt 0 v.room) _ p.door.tapes)
+    gathered_faults (took_post v p) ps
+    ∙ ap (λ (x : Plan). added x.faults (map (λ (q : MemPost). q.door.plan.faults) ps)) (kept_plan (nat_lt 0 v.room) _ p.door.tapes)
 
 pub gathered_links : (v : PortsState) (posts : List MemPost)
     → (took_posts v posts).links ≡ added v.links (map (λ p. p.door.links) posts)
 gathered_links v [] = refl
 gathered_links v (p ∷ ps) =
-  gathered_links (took_post v p) ps
-  ∙ ap (λ n. added n (map (λ (q : MemPost). q.door.links) ps)) (kept_links (nat_lt 0 v.room) _ p.door.tapes)
+    gathered_links (took_post v p) ps
+    ∙ ap (λ n. added n (map (λ (q : MemPost). q.door.links) ps)) (kept_links (nat_lt 0 v.room) _ p.door.tapes)
 
 pub gathered_dice : (v : PortsState) (posts : List MemPost)
     → (took_posts v posts).dice_faults ≡ added v.dice_faults (map (λ p. p.dice.plan.faults) posts)
 gathered_dice v [] = refl
 gathered_dice v (p ∷ ps) =
-  gathered_dice (took_post v p) ps
-  ∙ ap (λ n. added n (map (λ (q : MemPost). q.dice.plan.faults) ps)) (kept_dice (nat_lt 0 v.room) _ p.door.tapes)
+    gathered_dice (took_post v p) ps
+    ∙ ap (λ n. added n (map (λ (q : MemPost). q.dice.plan.faults) ps)) (kept_dice (nat_lt 0 v.room) _ p.door.tapes)
 
 abbrev Tapes : Type 0
 Tapes = Option (List (List (List Mark)))
@@ -77,10 +77,11 @@ gathers_both old middle None one more p q = tt
 gathers_both old None (Some now) one more p q = absurd q
 gathers_both None (Some middle) (Some now) one more p q = absurd p
 gathers_both (Some old) (Some middle) (Some now) one more p q =
-  let joined = append_assoc old p.0 q.0 in
-  ( p.0 ++ q.0
-  , ap (λ o. o ++ more) p.1 ∙ ap (λ m. map Some p.0 ++ m) q.1 ∙ sym (map-append Some p.0 q.0)
-  , q.2 ∙ ap (λ m. m ++ q.0) p.2 ∙ joined )
+    let joined = append_assoc old p.0 q.0 in (
+      p.0 ++ q.0,
+      ap (λ o. o ++ more) p.1 ∙ ap (λ m. map Some p.0 ++ m) q.1 ∙ sym (map-append Some p.0 q.0),
+      q.2 ∙ ap (λ m. m ++ q.0) p.2 ∙ joined,
+    )
 
 gathers_none : (old : Tapes) → Gathers old [] old
 gathers_none None = tt
@@ -89,5 +90,5 @@ gathers_none (Some old) = ([], refl, sym (append-nil old))
 pub gathered_tapes : (v : PortsState) (posts : List MemPost) → Gathers v.tapes (map (λ p. p.door.tapes) posts) (took_posts v posts).tapes
 gathered_tapes v [] = gathers_none v.tapes
 gathered_tapes v (p ∷ ps) =
-  gathers_both v.tapes (took_post v p).tapes (took_posts (took_post v p) ps).tapes (p.door.tapes ∷ []) (map (λ (q : MemPost). q.door.tapes) ps)
+    gathers_both v.tapes (took_post v p).tapes (took_posts (took_post v p) ps).tapes (p.door.tapes ∷ []) (map (λ (q : MemPost). q.door.tapes) ps)
     (gathers_one (nat_lt 0 v.room) _ p.door.tapes) (gathered_tapes (took_post v p) ps)

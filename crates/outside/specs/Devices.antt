@@ -1,5 +1,5 @@
 -- What a source and a sink tell.
-use Rattle.std.specs.Prelude.{◌≡◌, ℕ, ◌+◌, ◌-◌, ◌^◌, Bool, true, false, nat_le, List, [], ◌∷◌, ◌++◌, ◌<◌, ◌≤◌, length, min, take, drop, Some, None, Option}
+use Rattle.std.specs.Prelude.{◌≡◌, ℕ, ◌+◌, ◌-◌, ◌^◌, true, false, nat_le, List, [], ◌∷◌, ◌++◌, ◌<◌, ◌≤◌, length, min, take, drop, Some, None, Option}
 use Rattle.outside.specs.Plans.{Plan, called, failed, fails_next}
 use Rattle.outside.specs.declared.bytes.Got.{Got}
 use Rattle.outside.specs.declared.bytes.Got.TheVariants as got
@@ -94,6 +94,6 @@ abbrev pub SinkWrites : SinkState → SinkState → Put → List ℕ → Type 0
 SinkWrites v w result from =
     (fails_next v.plan ≡ true → (result ≡ put.Failed) × (w ≡ record v { plan = failed v.plan }))
     × (fails_next v.plan ≡ false → nat_le (min (length from) v.piece) v.room ≡ false
-        → (result ≡ put.Failed) × (w ≡ record v { plan = failed v.plan; took = None }))
+    → (result ≡ put.Failed) × (w ≡ record v { plan = failed v.plan; took = None }))
     × (fails_next v.plan ≡ false → nat_le (min (length from) v.piece) v.room ≡ true
-        → Takes v w result from (min (length from) v.piece))
+    → Takes v w result from (min (length from) v.piece))

@@ -3,7 +3,7 @@ use Rattle.std.specs.Prelude.{◌≡◌, ℕ, ◌-◌, nat_lt, nat_le, nat_eq, n
 use Rattle.outside.specs.declared.door.Came.{Came}
 use Rattle.outside.specs.declared.door.Came.TheVariants as came
 use Rattle.outside.specs.Tapes.{Mark}
-use Rattle.outside.specs.Plans.{Plan, planned, raised, fails_next, called, failed}
+use Rattle.outside.specs.Plans.{Plan, raised, fails_next, called, failed}
 use Rattle.outside.specs.Links.{LinkState, CleanLinkState}
 
 -- the count of links has reached a quota other than 0
@@ -60,7 +60,7 @@ abbrev pub Accepts : DoorState → DoorState → Came LinkState → Type 0
 Accepts v w result =
     (reached v.quota v.links ≡ true → (result ≡ came.Shut) × (w ≡ record v { plan = called v.plan }))
     × (reached v.quota v.links ≡ false → fails_next v.plan ≡ true
-        → (result ≡ came.Failed) × (w ≡ record v { plan = failed v.plan }))
+    → (result ≡ came.Failed) × (w ≡ record v { plan = failed v.plan }))
     × (reached v.quota v.links ≡ false → fails_next v.plan ≡ false → HandsOut v.left v w result)
 
 abbrev pub and_tape : Option (List (List Mark)) → Option (List Mark) → Option (List (List Mark))
@@ -96,4 +96,4 @@ abbrev pub CleanAccepts : CleanDoorState → CleanDoorState → Came CleanLinkSt
 CleanAccepts v w result =
     (reached v.quota v.links ≡ true → (result ≡ came.Shut) × (w ≡ v))
     × (reached v.quota v.links ≡ false
-        → (result ≡ came.Link (next_link v.left)) × (w ≡ record v { left = links_after v.left; links = raised v.links }))
+    → (result ≡ came.Link (next_link v.left)) × (w ≡ record v { left = links_after v.left; links = raised v.links }))

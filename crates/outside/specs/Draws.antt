@@ -1,5 +1,5 @@
 -- What dice tell.
-use Rattle.std.specs.Prelude.{◌≡◌, ℕ, ◌+◌, ◌-◌, nat_lt, nat_le, Bool, true, false, List, [], ◌∷◌, ◌++◌, length, take, drop, replicate, Option, None}
+use Rattle.std.specs.Prelude.{◌≡◌, ℕ, ◌+◌, ◌-◌, nat_lt, nat_le, true, false, List, [], ◌∷◌, ◌++◌, length, take, drop, replicate, Option, None}
 use Rattle.outside.specs.declared.dice.Filled.{Filled}
 use Rattle.outside.specs.declared.dice.Filled.TheVariants as filled
 use Rattle.outside.specs.Tapes.{Tells, and_last}
@@ -37,12 +37,12 @@ Fills v w result bytes =
     (fails_next v.plan ≡ true → (result ≡ filled.Failed) × (w ≡ record v { plan = failed v.plan }))
     -- too few bytes are to come
     × (fails_next v.plan ≡ false → nat_le (length bytes) (length v.left) ≡ false
-        → (result ≡ filled.Failed) × (w ≡ record v { plan = failed v.plan }))
+    → (result ≡ filled.Failed) × (w ≡ record v { plan = failed v.plan }))
     -- no room to keep it
     × (fails_next v.plan ≡ false → nat_le (length bytes) (length v.left) ≡ true → nat_lt 0 v.room ≡ false
-        → (result ≡ filled.Failed) × (w ≡ record v { plan = failed v.plan; drawn = None }))
+    → (result ≡ filled.Failed) × (w ≡ record v { plan = failed v.plan; drawn = None }))
     × (fails_next v.plan ≡ false → nat_le (length bytes) (length v.left) ≡ true → nat_lt 0 v.room ≡ true
-        → (result ≡ filled.Full) × (bytes ≡ take (length bytes) v.left) × (w ≡ drew v bytes))
+    → (result ≡ filled.Full) × (bytes ≡ take (length bytes) v.left) × (w ≡ drew v bytes))
 
 -- so many bytes: those to come, and then zeros
 abbrev pub filled_up : List ℕ → ℕ → List ℕ

@@ -1,5 +1,5 @@
 -- What a link tells.
-use Rattle.std.specs.Prelude.{◌≡◌, ℕ, ◌+◌, ◌<◌, ◌≤◌, min, Bool, true, false, List, [], ◌∷◌, length, take, drop, Option, Some, None}
+use Rattle.std.specs.Prelude.{◌≡◌, ℕ, ◌<◌, ◌≤◌, min, true, false, List, [], ◌∷◌, length, take, drop}
 use Rattle.outside.specs.declared.link.Heard.{Heard}
 use Rattle.outside.specs.declared.link.Heard.TheVariants as heard
 use Rattle.outside.specs.declared.bytes.Put.{Put}
@@ -87,15 +87,19 @@ overrun v = record v { plan = failed v.plan; tape = silent v.tape }
 abbrev pub Hears : LinkState → LinkState → Heard → List ℕ → Type 0
 Hears v w result buffer =
     Gives v.left w.left result buffer
-    × (w ≡ record v { plan = called v.plan; left = w.left; ends = ends_after result v.ends;
-        tape = noted v.tape (mark_heard result buffer) (count_heard result) })
+    × (w ≡ record v {
+      plan = called v.plan;
+      left = w.left;
+      ends = ends_after result v.ends;
+      tape = noted v.tape (mark_heard result buffer) (count_heard result);
+    })
 
 -- what a reading through this buffer comes to
 abbrev pub Recvs : LinkState → LinkState → Heard → List ℕ → Type 0
 Recvs v w result buffer =
     (fails_next v.plan ≡ true → (result ≡ heard.Failed) × (w ≡ broken v))
     × (fails_next v.plan ≡ false → has_room v.tape (coming v.left (length buffer)) ≡ false
-        → (result ≡ heard.Failed) × (w ≡ overrun v))
+    → (result ≡ heard.Failed) × (w ≡ overrun v))
     × (fails_next v.plan ≡ false → has_room v.tape (coming v.left (length buffer)) ≡ true → Hears v w result buffer)
 
 -- so many bytes were taken
@@ -109,9 +113,9 @@ abbrev pub Sends : LinkState → LinkState → Put → List ℕ → Type 0
 Sends v w result from =
     (fails_next v.plan ≡ true → (result ≡ put.Failed) × (w ≡ broken v))
     × (fails_next v.plan ≡ false → has_room v.tape (min (length from) v.piece) ≡ false
-        → (result ≡ put.Failed) × (w ≡ overrun v))
+    → (result ≡ put.Failed) × (w ≡ overrun v))
     × (fails_next v.plan ≡ false → has_room v.tape (min (length from) v.piece) ≡ true
-        → Says v w result from (min (length from) v.piece))
+    → Says v w result from (min (length from) v.piece))
 
 -- a link that never fails: the readings to come, and its count of Ends
 pub record CleanLinkState : Type 0 where

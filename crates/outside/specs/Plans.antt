@@ -1,5 +1,5 @@
 -- Which calls of a memory form fail.
-use Rattle.std.specs.Prelude.{ℕ, ◌+◌, ◌-◌, ◌^◌, ◌==◌, min, List, Bool, Option, Some, None}
+use Rattle.std.specs.Prelude.{ℕ, ◌+◌, ◌-◌, ◌^◌, ◌==◌, min, List, Bool}
 use Rattle.std.specs.List.{list_any}
 
 -- the next number of a count that stays at 2^64 - 1 once it is there

@@ -1,7 +1,7 @@
 -- What ports tell.
-use Rattle.std.specs.Prelude.{◌≡◌, ℕ, ◌+◌, ◌-◌, ◌^◌, ◌≤◌, nat_lt, nat_le, not, ◌&&◌, replicate, Bool, true, false, min, sum, map, List, [], ◌∷◌, ◌++◌, length, take, drop, Option, Some, None}
+use Rattle.std.specs.Prelude.{◌≡◌, ℕ, ◌+◌, ◌-◌, ◌^◌, nat_lt, nat_le, not, ◌&&◌, replicate, Bool, true, false, min, map, List, [], ◌∷◌, ◌++◌, length, take, drop, Option, Some, None}
 use Rattle.outside.specs.declared.ports.Post.{Post}
-use Rattle.outside.specs.Tapes.{Mark, Tells, shown}
+use Rattle.outside.specs.Tapes.{Mark, shown}
 use Rattle.outside.specs.Doors.{DoorState, CleanDoorState, Untold}
 use Rattle.outside.specs.declared.dice.Filled.{Filled}
 use Rattle.outside.specs.declared.dice.Filled.TheVariants as filled
@@ -89,9 +89,12 @@ kept_by false v tapes = record v { tapes = None }
 abbrev pub took_post : PortsState → MemPost → PortsState
 took_post v p =
     kept_by (nat_lt 0 v.room)
-      (record v { plan = record v.plan { faults = plus v.plan.faults p.door.plan.faults };
-        links = plus v.links p.door.links; dice_faults = plus v.dice_faults p.dice.plan.faults })
-      p.door.tapes
+    (record v {
+      plan = record v.plan { faults = plus v.plan.faults p.door.plan.faults };
+      links = plus v.links p.door.links;
+      dice_faults = plus v.dice_faults p.dice.plan.faults;
+    })
+    p.door.tapes
 
 abbrev pub took_posts : PortsState → List MemPost → PortsState
 took_posts v [] = v
@@ -121,7 +124,8 @@ abbrev pub plain_post : CleanPost
 plain_post = record {
   door = record { left = []; links = 0; quota = 0 };
   clock = record { left = []; last = 0; told = Some []; room = 0 };
-  dice = [] }
+  dice = [];
+}
 
 abbrev pub opened_clean : ℕ → CleanPost → CleanPost
 opened_clean quota p = record p { door = record p.door { quota = quota } }

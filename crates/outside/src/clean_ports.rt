@@ -55,7 +55,10 @@ impl CleanPorts {
     }
 }
 
-fn open(post: Post<CleanDoor, MemClock, CleanDice>, quota: u64) -> Post<CleanDoor, MemClock, CleanDice>
+fn open(
+    post: Post<CleanDoor, MemClock, CleanDice>,
+    quota: u64,
+) -> Post<CleanDoor, MemClock, CleanDice>
     ensures { result ≡ opened_clean quota post }
 {
     let mut post = post;
@@ -92,7 +95,8 @@ fn open_all(
 
 /// The count of links with those of these doors.
 fn add_links(links: u64, posts: Vec<Post<CleanDoor, MemClock, CleanDice>>) -> u64
-    ensures { result ≡ added links (map (λ p. p.door.links) posts.items) }
+    ensures kept { links ≤ result }
+    ensures sum { result ≡ added links (map (λ p. p.door.links) posts.items) }
 {
     let mut links = links;
     for post in posts {
@@ -133,7 +137,9 @@ fn hand_out(
 
 impl Ports for CleanPorts {
     type Door = CleanDoor;
+
     type Clock = MemClock;
+
     type Dice = CleanDice;
 
     ghost tapes = { λ _. None };
@@ -163,6 +169,7 @@ impl Ports for CleanPorts {
 
     #[tactic(auto, using(crate::proofs::CleanLemmas::added_nothing))]
     fn gather(&mut self, posts: Vec<Post<CleanDoor, MemClock, CleanDice>>)
+        ensures links_kept { self.old.links ≤ self.new.links }
         ensures faults { 0 ≡ added 0 (map (λ _. 0) posts.items) }
         ensures state { self.new ≡ record self.old { links = added self.old.links (map (λ p. p.door.links) posts.items) } }
     {

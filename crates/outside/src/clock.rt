@@ -34,10 +34,10 @@ impl Model for MemClock {
     ghost Value = { ClockState };
 
     ghost view = { λ c. record {
-        left = c.moments.items;
-        last = c.last;
-        told = told_where ℕ c.tells c.given.items;
-        room = vec_capacity c.given - vec_len c.given
+      left = c.moments.items;
+      last = c.last;
+      told = told_where ℕ c.tells c.given.items;
+      room = vec_capacity c.given - vec_len c.given;
     } };
 }
 
@@ -70,7 +70,11 @@ impl MemClock {
     pub fn given(&self) -> &[u64]
         ensures { result.now ≡ shown ℕ self.now.told }
     {
-        if self.tells { self.given.as_slice() } else { &[] }
+        if self.tells {
+            self.given.as_slice()
+        } else {
+            &[]
+        }
     }
 }
 

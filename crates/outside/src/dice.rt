@@ -47,10 +47,10 @@ impl Model for MemDice {
     ghost Value = { DiceState };
 
     ghost view = { λ d. record {
-        plan = d.plan;
-        left = drop d.at d.bytes.items;
-        drawn = told_where (List ℕ) d.tells (pieces d.draws.items (take d.at d.bytes.items));
-        room = vec_capacity d.draws - vec_len d.draws
+      plan = d.plan;
+      left = drop d.at d.bytes.items;
+      drawn = told_where (List ℕ) d.tells (pieces d.draws.items (take d.at d.bytes.items));
+      room = vec_capacity d.draws - vec_len d.draws;
     } };
 
     ghost invariant = { λ d. (d.at ≤ length d.bytes.items) × (total d.draws.items ≡ d.at) };

@@ -1,7 +1,7 @@
 //! Where connections come from. Each door counts its faults and the links that it hands out.
 ghost use Rattle.std.specs.Prelude.{◌≡◌, ℕ, ◌≤◌, List, Option};
 ghost use Rattle.outside.specs.Devices.{Rose};
-ghost use Rattle.outside.specs.Doors.{Comes, ComesUnmarked, TakesBack};
+ghost use Rattle.outside.specs.Doors.{Comes, ComesUnmarked, TakesBack, reached};
 ghost use Rattle.outside.specs.Tapes.{Mark};
 
 use crate::link::Link;
@@ -45,4 +45,11 @@ pub trait Door {
         ensures faults { faults self.new ≡ faults self.old }
         ensures links { links self.new ≡ links self.old }
         ensures quota { quota self.new ≡ quota self.old };
+}
+
+/// Whether as many links as the quota came.
+pub(crate) fn is_reached(quota: u64, links: u64) -> bool
+    ensures { result ≡ reached quota links }
+{
+    quota != 0 && links >= quota
 }

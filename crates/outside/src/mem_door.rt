@@ -6,7 +6,7 @@ ghost use Rattle.outside.specs.Links.{CleanLinkState, LinkState};
 ghost use Rattle.outside.specs.Plans.{planned};
 ghost use Rattle.outside.specs.Tapes.{Mark, marks_told, shown};
 
-use crate::door::{Came, Door};
+use crate::door::{Came, Door, is_reached};
 use crate::mem_link::{CleanLink, MemLink};
 use crate::plan::Plan;
 use crate::tape::Tape;
@@ -35,12 +35,12 @@ impl Model for MemDoor {
     ghost Value = { DoorState };
 
     ghost view = { λ d. record {
-        plan = d.plan;
-        left = d.links.items;
-        links = d.handed_out;
-        quota = d.quota;
-        tapes = told_where (List Mark) d.tells (map marks_told d.back.items);
-        room = vec_capacity d.back - vec_len d.back
+      plan = d.plan;
+      left = d.links.items;
+      links = d.handed_out;
+      quota = d.quota;
+      tapes = told_where (List Mark) d.tells (map marks_told d.back.items);
+      room = vec_capacity d.back - vec_len d.back;
     } };
 
     ghost invariant = { λ d. Unmarked d.links.items };
@@ -57,7 +57,13 @@ impl MemDoor {
     ) -> Result<MemDoor, AllocError>
         requires { Unmarked links.items }
         ensures { IfOk result (λ d. d ≡ record {
-            plan = planned fails.items; left = links.items; links = 0; quota = 0; tapes = Some []; room = tapes }) }
+          plan = planned fails.items;
+          left = links.items;
+          links = 0;
+          quota = 0;
+          tapes = Some [];
+          room = tapes;
+        }) }
     {
         Ok(MemDoor {
             plan: Plan::new(fails),
@@ -101,7 +107,11 @@ impl MemDoor {
     pub fn tapes(&self) -> &[Tape]
         ensures { map marks_told result.now ≡ shown (List Mark) self.now.tapes }
     {
-        if self.tells { self.back.as_slice() } else { &[] }
+        if self.tells {
+            self.back.as_slice()
+        } else {
+            &[]
+        }
     }
 }
 
@@ -125,7 +135,7 @@ impl Door for MemDoor {
         ensures cause { result ≡ Came.Failed → Rose self.old.plan.faults self.new.plan.faults }
         ensures accepts { Accepts self.old self.new result }
     {
-        if self.quota != 0 && self.handed_out >= self.quota {
+        if is_reached(self.quota, self.handed_out) {
             self.plan.call();
             return Came::Shut;
         }
@@ -221,7 +231,7 @@ impl Door for CleanDoor {
         ensures never { result ≢ Came.Failed }
         ensures accepts { CleanAccepts self.old self.new result }
     {
-        if self.quota != 0 && self.handed_out >= self.quota {
+        if is_reached(self.quota, self.handed_out) {
             return Came::Shut;
         }
         self.handed_out = self.handed_out.saturating_add(1);
@@ -233,6 +243,5 @@ impl Door for CleanDoor {
 
     fn done(&mut self, _link: CleanLink)
         ensures { self.new ≡ self.old }
-    {
-    }
+    {}
 }

@@ -49,8 +49,12 @@ impl MemLink {
     ) -> Result<MemLink, AllocError>
         requires { 0 < piece }
         ensures { IfOk result (λ l. l ≡ record {
-            plan = planned fails.items; left = readings.items; piece = piece; ends = 0;
-            tape = record { told = Some []; calls = calls; bytes = bytes } }) }
+          plan = planned fails.items;
+          left = readings.items;
+          piece = piece;
+          ends = 0;
+          tape = record { told = Some []; calls = calls; bytes = bytes };
+        }) }
     {
         Ok(MemLink {
             plan: Plan::new(fails),
@@ -165,8 +169,7 @@ impl Link for MemLink {
 
     fn ring(&mut self, _line: u32)
         ensures { self.new ≡ self.old }
-    {
-    }
+    {}
 }
 
 /// A link that never fails. It hears its readings in turn, and then End; what it is given to send it neither keeps nor
@@ -230,6 +233,5 @@ impl Link for CleanLink {
 
     fn ring(&mut self, _line: u32)
         ensures { self.new ≡ self.old }
-    {
-    }
+    {}
 }

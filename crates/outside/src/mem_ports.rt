@@ -39,13 +39,13 @@ impl Model for MemPorts {
     ghost Value = { PortsState };
 
     ghost view = { λ p. record {
-        plan = p.plan;
-        left = p.posts.items;
-        dice = p.dice;
-        links = p.links;
-        dice_faults = p.dice_faults;
-        tapes = told_where (List (List Mark)) p.tells (map tapes_told p.doors.items);
-        room = vec_capacity p.doors - vec_len p.doors
+      plan = p.plan;
+      left = p.posts.items;
+      dice = p.dice;
+      links = p.links;
+      dice_faults = p.dice_faults;
+      tapes = told_where (List (List Mark)) p.tells (map tapes_told p.doors.items);
+      room = vec_capacity p.doors - vec_len p.doors;
     } };
 
     ghost invariant = { λ p. Each MemPost IsUnused p.posts.items };
@@ -62,7 +62,14 @@ impl MemPorts {
     ) -> Result<MemPorts, AllocError>
         requires { Each MemPost IsUnused posts.items }
         ensures { IfOk result (λ p. p ≡ record {
-            plan = planned fails.items; left = posts.items; dice = dice; links = 0; dice_faults = 0; tapes = Some []; room = doors }) }
+          plan = planned fails.items;
+          left = posts.items;
+          dice = dice;
+          links = 0;
+          dice_faults = 0;
+          tapes = Some [];
+          room = doors;
+        }) }
     {
         Ok(MemPorts {
             plan: Plan::new(fails),
@@ -79,7 +86,11 @@ impl MemPorts {
     pub fn doors(&self) -> &[MemDoor]
         ensures { map tapes_told result.now ≡ shown (List (List Mark)) self.now.tapes }
     {
-        if self.tells { self.doors.as_slice() } else { &[] }
+        if self.tells {
+            self.doors.as_slice()
+        } else {
+            &[]
+        }
     }
 
     /// How often they failed, the doors that came back among them.
@@ -105,9 +116,16 @@ impl MemPorts {
 
     /// Takes a post back.
     fn take_post(&mut self, post: Post<MemDoor, MemClock, MemDice>)
-        ensures { self.new ≡ took_post self.old post }
+        ensures state { self.new ≡ took_post self.old post }
+        ensures faults_kept { self.old.plan.faults ≤ self.new.plan.faults }
+        ensures links_kept { self.old.links ≤ self.new.links }
+        ensures dice_kept { self.old.dice_faults ≤ self.new.dice_faults }
     {
-        let Post { door, clock: _, dice } = post;
+        let Post {
+            door,
+            clock: _,
+            dice,
+        } = post;
         self.plan.add(door.faults());
         self.links = self.links.saturating_add(door.links());
         self.dice_faults = self.dice_faults.saturating_add(dice.faults());
@@ -120,7 +138,10 @@ impl MemPorts {
     }
 
     fn take_posts(&mut self, posts: Vec<Post<MemDoor, MemClock, MemDice>>)
-        ensures { self.new ≡ took_posts self.old posts.items }
+        ensures state { self.new ≡ took_posts self.old posts.items }
+        ensures faults_kept { self.old.plan.faults ≤ self.new.plan.faults }
+        ensures links_kept { self.old.links ≤ self.new.links }
+        ensures dice_kept { self.old.dice_faults ≤ self.new.dice_faults }
     {
         for post in posts {
             self.take_post(post);
@@ -128,10 +149,7 @@ impl MemPorts {
     }
 }
 
-fn open(
-    post: Post<MemDoor, MemClock, MemDice>,
-    quota: u64,
-) -> Post<MemDoor, MemClock, MemDice>
+fn open(post: Post<MemDoor, MemClock, MemDice>, quota: u64) -> Post<MemDoor, MemClock, MemDice>
     ensures { result ≡ opened quota post }
 {
     let mut post = post;
@@ -162,7 +180,9 @@ fn hand_out(
 
 impl Ports for MemPorts {
     type Door = MemDoor;
+
     type Clock = MemClock;
+
     type Dice = MemDice;
 
     ghost tapes = { λ p. p.tapes };
@@ -205,6 +225,9 @@ impl Ports for MemPorts {
         ensures faults { self.new.plan.faults ≡ added self.old.plan.faults (map (λ p. p.door.plan.faults) posts.items) }
         ensures links { self.new.links ≡ added self.old.links (map (λ p. p.door.links) posts.items) }
         ensures dice { self.new.dice_faults ≡ added self.old.dice_faults (map (λ p. p.dice.plan.faults) posts.items) }
+        ensures faults_kept { self.old.plan.faults ≤ self.new.plan.faults }
+        ensures links_kept { self.old.links ≤ self.new.links }
+        ensures dice_kept { self.old.dice_faults ≤ self.new.dice_faults }
         ensures tapes { Gathers self.old.tapes (map (λ p. p.door.tapes) posts.items) self.new.tapes }
         ensures state { self.new ≡ took_posts self.old posts.items }
     {

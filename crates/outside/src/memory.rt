@@ -90,10 +90,10 @@ impl Model for MemSink {
     ghost Value = { SinkState };
 
     ghost view = { λ s. record {
-        plan = s.plan;
-        took = told_where ℕ s.tells s.bytes.items;
-        piece = s.piece;
-        room = s.most - vec_len s.bytes
+      plan = s.plan;
+      took = told_where ℕ s.tells s.bytes.items;
+      piece = s.piece;
+      room = s.most - vec_len s.bytes;
     } };
 
     ghost invariant = { λ s. (0 < s.piece) × (vec_len s.bytes ≤ s.most) × (s.most ≤ vec_capacity s.bytes) };
@@ -123,7 +123,11 @@ impl MemSink {
     pub fn bytes(&self) -> &[u8]
         ensures { result.now ≡ shown ℕ self.now.took }
     {
-        if self.tells { self.bytes.as_slice() } else { &[] }
+        if self.tells {
+            self.bytes.as_slice()
+        } else {
+            &[]
+        }
     }
 }
 

@@ -59,7 +59,8 @@ impl Plan {
 
     /// Adds faults of another.
     pub fn add(&mut self, faults: u64)
-        ensures { self.new ≡ record self.old { faults = plus self.old.faults faults } }
+        ensures state { self.new ≡ record self.old { faults = plus self.old.faults faults } }
+        ensures kept { self.old.faults ≤ self.new.faults }
     {
         self.faults = self.faults.saturating_add(faults);
     }

@@ -40,7 +40,9 @@ impl From<AllocError> for ListenFault {
 /// Ports hand out posts and take them back. They may tell the tapes of the doors that were given back, post by post.
 pub trait Ports {
     type Door: Door;
+
     type Clock: Clock;
+
     type Dice: Dice;
 
     ghost tapes: { Self → Option (List (List (List Mark))) };
@@ -73,6 +75,9 @@ pub trait Ports {
         ensures faults { faults self.new ≡ added (faults self.old) (map (λ p. Self.Door.faults p.door) posts.items) }
         ensures links { links self.new ≡ added (links self.old) (map (λ p. Self.Door.links p.door) posts.items) }
         ensures dice { dice_faults self.new ≡ added (dice_faults self.old) (map (λ p. Self.Dice.faults p.dice) posts.items) }
+        ensures faults_kept { faults self.old ≤ faults self.new }
+        ensures links_kept { links self.old ≤ links self.new }
+        ensures dice_kept { dice_faults self.old ≤ dice_faults self.new }
         ensures tapes { Gathers (tapes self.old) (map (λ p. Self.Door.tapes p.door) posts.items) (tapes self.new) };
 
     /// Draws random bytes.

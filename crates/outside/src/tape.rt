@@ -31,9 +31,9 @@ impl Model for Tape {
     ghost Value = { tapes.Tape };
 
     ghost view = { λ t. record {
-        told = tapes.told_where tapes.Mark t.tells (tapes.marks t.kinds.items t.bytes.items);
-        calls = vec_capacity t.kinds - vec_len t.kinds;
-        bytes = t.most - vec_len t.bytes
+      told = tapes.told_where tapes.Mark t.tells (tapes.marks t.kinds.items t.bytes.items);
+      calls = vec_capacity t.kinds - vec_len t.kinds;
+      bytes = t.most - vec_len t.bytes;
     } };
 
     ghost invariant = { λ t. (tapes.sizes t.kinds.items ≡ vec_len t.bytes) × (vec_len t.bytes ≤ t.most) × (t.most ≤ vec_capacity t.bytes) × (vec_len t.kinds ≤ vec_capacity t.kinds) };
@@ -83,7 +83,11 @@ impl Tape {
     pub fn kinds(&self) -> &[Kind]
         ensures { result.now ≡ map kind_of (marks_told self.now) }
     {
-        if self.tells { self.kinds.as_slice() } else { &[] }
+        if self.tells {
+            self.kinds.as_slice()
+        } else {
+            &[]
+        }
     }
 
     /// The bytes of its marks, one after the other, or none where it doesn't tell them.
@@ -91,7 +95,11 @@ impl Tape {
     pub fn bytes(&self) -> &[u8]
         ensures { result.now ≡ all_bytes (marks_told self.now) }
     {
-        if self.tells { self.bytes.as_slice() } else { &[] }
+        if self.tells {
+            self.bytes.as_slice()
+        } else {
+            &[]
+        }
     }
 
     /// Whether it tells its marks.

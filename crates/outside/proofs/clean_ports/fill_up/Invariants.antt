@@ -1,4 +1,4 @@
-use Rattle.std.proofs.Common.{◌≡◌, ◌≤◌, ◌++◌, ◌+◌, ◌-◌, replicate}
+use Rattle.std.proofs.Common.{◌≡◌, ◌++◌, ◌+◌, replicate}
 use Rattle.std.specs.Prelude.{vec_capacity, vec_len}
 use Rattle.outside.specs.Posts.{opened_clean, plain_post}
 use Rattle.outside.proofs.clean_ports.fill_up.Given as goal
