@@ -1,1 +1,7 @@
+mod CleanLemmas
+mod DrawLemmas
 mod Fronts
+mod PostLemmas
+mod ScriptLemmas
+mod TapeLemmas
+pub mod Telling

@@ -1,5 +1,5 @@
 //! Where bytes come from and go to. Each source and sink counts its faults.
-ghost use Rattle.std.specs.Prelude.{◌≡◌, ℕ, ◌<◌, ◌≤◌, ◌++◌, [], List, length, take, drop, Option};
+ghost use Rattle.std.specs.Prelude.{◌≡◌, ℕ, ◌<◌, ◌≤◌, ◌++◌, [], List, length, min, take, drop, Option};
 ghost use Rattle.outside.specs.Devices.{Reads, ReadFaults, Writes, WriteFaults};
 
 /// What came of a reading.
@@ -48,6 +48,8 @@ pub trait Sink {
 pub(crate) fn copy_front(bytes: &[u8], into: &mut [u8], most: usize) -> usize
     requires room { 0 < length into.old }
     requires most { 0 < most }
+    ensures count { result ≡ min (min (length bytes.now) (length into.old)) most }
+    ensures same { take result into.new ≡ take result bytes.now }
     ensures few { result ≤ length bytes.now }
     ensures within { result ≤ length into.new }
     ensures front { bytes.now ≡ take result into.new ++ drop result bytes.now }

@@ -1,12 +1,35 @@
-//! Where bytes come from and go to, with a count of faults; and the forms of both that live in memory.
+//! All that the server sees of the world: sources, sinks, links, clocks and dice, each with a count of its faults, and
+//! the forms of them that live in memory.
 #![tactic(auto)]
 
 pub mod bytes;
 pub mod clean;
+pub mod clean_ports;
+pub mod clock;
+pub mod dice;
+pub mod door;
+pub mod link;
+pub mod mem_door;
+pub mod mem_link;
+pub mod mem_ports;
 pub mod memory;
+mod plan;
+pub mod ports;
+mod script;
+pub mod tape;
 #[cfg(test)]
 mod tests;
 
 pub use bytes::{Got, Put, Sink, Source};
 pub use clean::{CleanSink, CleanSource};
+pub use clean_ports::CleanPorts;
+pub use clock::{Clock, MemClock};
+pub use dice::{CleanDice, Dice, Filled, MemDice};
+pub use door::{Came, Door};
+pub use link::{Heard, Link};
+pub use mem_door::{CleanDoor, MemDoor};
+pub use mem_link::{CleanLink, MemLink};
+pub use mem_ports::MemPorts;
 pub use memory::{MemSink, MemSource};
+pub use ports::{ListenFault, Ports, Post};
+pub use tape::{Kind, Tape};

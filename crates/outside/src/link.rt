@@ -1,0 +1,53 @@
+//! A connection. Each link counts its faults and its Ends.
+ghost use Rattle.std.specs.Prelude.{◌≡◌, ℕ, ◌<◌, ◌≤◌, [], ◌∷◌, List, length, Option};
+ghost use Rattle.outside.specs.Devices.{Rose};
+ghost use Rattle.outside.specs.Links.{HeardFits, PutFits, mark_heard, mark_put};
+ghost use Rattle.outside.specs.Tapes.{Mark, Tells};
+
+use crate::bytes::Put;
+
+/// What came of a reading.
+#[derive(Clone, Copy, Debug, PartialEq, Eq)]
+pub enum Heard {
+    /// So many bytes stand at the front of the buffer, at least one.
+    Bytes(usize),
+    /// Nothing came for a while.
+    Quiet,
+    /// No more bytes will come.
+    End,
+    Failed,
+}
+
+/// A connection to a client. A link may tell its tape, to which each reading and each sending adds one mark.
+pub trait Link {
+    ghost tape: { Self → Option (List Mark) };
+
+    ghost faults: { Self → ℕ };
+
+    ghost ends: { Self → ℕ };
+
+    /// Reads into the buffer, which isn't empty.
+    fn recv(&mut self, into: &mut [u8]) -> Heard
+        requires { 0 < length into.old }
+        ensures fits { HeardFits result into.new }
+        ensures tape { Tells Mark (tape self.old) (tape self.new) (mark_heard result into.new ∷ []) }
+        ensures kept { faults self.old ≤ faults self.new }
+        ensures cause { result ≡ Heard.Failed → Rose (faults self.old) (faults self.new) }
+        ensures ends_kept { ends self.old ≤ ends self.new }
+        ensures ended { result ≡ Heard.End → Rose (ends self.old) (ends self.new) };
+
+    /// Sends some of the bytes, of which there is at least one.
+    fn send(&mut self, from: &[u8]) -> Put
+        requires { 0 < length from.now }
+        ensures fits { PutFits result from.now }
+        ensures tape { Tells Mark (tape self.old) (tape self.new) (mark_put result from.now ∷ []) }
+        ensures kept { faults self.old ≤ faults self.new }
+        ensures cause { result ≡ Put.Failed → Rose (faults self.old) (faults self.new) }
+        ensures ends_kept { ends self.old ≤ ends self.new };
+
+    /// Says that something may wait for the connection at that line. Takes no memory.
+    fn ring(&mut self, line: u32)
+        ensures tape { tape self.new ≡ tape self.old }
+        ensures faults { faults self.new ≡ faults self.old }
+        ensures ends { ends self.new ≡ ends self.old };
+}
