@@ -249,6 +249,20 @@ pub stop-short : (left coming left_now took now : Option (List ℕ)) (given : �
     → Going left coming took now given house framers number → Replayed left left_now took now status.NoMemory
 stop-short left coming left_now took now given house framers number g = stop-taking left coming left_now took now given house framers number status.NoMemory g tt
 
+-- a front of what comes after these prints
+front-more : (taken first out : List ℕ) (now : Option (List ℕ)) → Front (taken ++ first) out now → Front taken (first ++ out) now
+front-more taken first out None p = tt
+front-more taken first out (Some told) p = (
+  first ++ p.0,
+  (
+    p.1.0,
+    (
+      ap (λ xs. first ++ xs) p.1.1.0 ∙ sym (append_assoc first p.0 p.1.0),
+      p.1.1.1 ∙ append_assoc taken first p.0,
+    ),
+  ),
+)
+
 -- the print of a turn was written in part
 pub stop-writing : (left coming coming_now left_now took before now : Option (List ℕ)) (given given_now : ℕ) (house house_now : Kept) (framers framers_now : Framers) (number : ℕ) (text out : List ℕ)
     → Going left coming took before given house framers number → TakesLine coming coming_now given given_now text → PlaysLine house house_now framers framers_now text out
@@ -267,18 +281,9 @@ stop-writing left coming coming_now left_now took before now given given_now hou
       let old = (along-on left coming coming_now given given_now house house_now framers framers_now number text out g.lines g.start g.deeds g.along t p).read all told in
       (lines_of old.0, (old.1.1, tt));
   written = λ taken told.
-      let part = front (taken ++ prints g.deeds) (g.written taken told) in (
-        prints g.deeds ++ part.0,
-        (
-          part.1.0,
-          (
-            prints-push framers g.deeds p.plays.deed g.along.framed
-                ∙ ap (λ bytes. prints g.deeds ++ bytes) (sym p.plays.printed ∙ part.1.1.0)
-                ∙ sym (append_assoc (prints g.deeds) part.0 part.1.0),
-            part.1.1.1 ∙ ap Some (append_assoc taken (prints g.deeds) part.0),
-          ),
-        ),
-      );
+      subst (λ xs. Front taken xs now)
+      (ap (λ bytes. prints g.deeds ++ bytes) p.plays.printed ∙ sym (prints-push framers g.deeds p.plays.deed g.along.framed))
+      (front-more taken (prints g.deeds) out now (front (taken ++ prints g.deeds) (g.written taken told)));
 }
 
 -- Nothing was played.

@@ -40,9 +40,10 @@ IsNumbered status.Usage lines = ⊥
 IsNumbered (status.Accounts n) lines = ⊥
 IsNumbered status.ListenFault lines = ⊥
 
--- the prints were written: all, and where the sink failed a front of them
+-- the prints were written: all, and where the sink failed a front of them, if it still tells what it took
 abbrev pub Front : List ℕ → List ℕ → Option (List ℕ) → Type 0
-Front taken prints now = (done : List ℕ) × ((rest : List ℕ) × ((prints ≡ done ++ rest) × (now ≡ Some (taken ++ done))))
+Front taken prints None = Unit {0}
+Front taken prints (Some told) = (done : List ℕ) × ((rest : List ℕ) × ((prints ≡ done ++ rest) × (told ≡ taken ++ done)))
 
 abbrev pub All : List ℕ → List ℕ → Option (List ℕ) → Type 0
 All taken prints now = now ≡ Some (taken ++ prints)
