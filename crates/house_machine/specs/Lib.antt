@@ -1,0 +1,16 @@
+pub mod Accounts
+pub mod Answers
+pub mod Bridge
+pub mod Effects
+pub mod Gate
+pub mod Histories
+pub mod Lines
+pub mod Numbered
+pub mod Promises
+pub mod Resuming
+pub mod Sessions
+pub mod Sound
+pub mod States
+pub mod Steps
+pub mod Story
+pub mod Traffic

@@ -1,0 +1,12 @@
+//! The machine that the server is, in definitions: what happens at each event, over whole lists and true numbers.
+#![tactic(auto)]
+
+pub mod answer;
+pub mod event;
+pub mod laws;
+pub mod reply;
+
+pub use answer::Answer;
+pub use event::Event;
+pub use reply::Reply;
+pub use stanza_model::{MessageForm, Stanza};
