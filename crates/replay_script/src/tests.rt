@@ -46,7 +46,7 @@ const LINES: [(&[u8], &[u8]); 16] = [
     ),
     (
         b"bind 0 0 00112233445566778899aabbccddeeff x \xc3\xa9",
-        b"bad",
+        b"event",
     ),
     (b"note 0 0 alice@example.org/a h\xc3\xa9 & <hi>", b"event"),
     (b"note 0 0 alice@example.org/a \xef\xbf\xbe", b"bad"),
