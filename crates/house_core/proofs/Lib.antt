@@ -1,5 +1,31 @@
-mod AnswerLemmas
-mod DiceLemmas
-mod HouseLemmas
-mod LineLemmas
-mod ReachLemmas
+pub mod ReadLemmas
+pub mod TiedLemmas
+pub mod WorldLemmas
+pub mod DeedLemmas
+pub mod LeavingLemmas
+pub mod OffLemmas
+pub mod EndLemmas
+pub mod FreeLemmas
+pub mod GateLemmas
+pub mod CallLemmas
+pub mod DidLemmas
+pub mod ActLemmas
+pub mod AnswerLemmas
+pub mod EndsLemmas
+pub mod HandLemmas
+pub mod DiceLemmas
+pub mod DueLemmas
+pub mod PullLemmas
+pub mod LoginLemmas
+pub mod AppendLemmas
+pub mod BeginLemmas
+pub mod PartLemmas
+pub mod ResumeLemmas
+pub mod DecideLemmas
+pub mod TakeLemmas
+pub mod AtLemmas
+pub mod SweepLemmas
+pub mod CountLemmas
+pub mod OpenLemmas
+pub mod BoundLemmas
+pub mod DepartLemmas

@@ -1,3 +1,9 @@
 pub mod Houses
-pub mod Lines
-pub mod Seats
+pub mod Wholes
+pub mod Worlds
+pub mod Gates
+pub mod Deliveries
+pub mod Pulls
+pub mod Logins
+pub mod Resumes
+pub mod Bindings

@@ -1,14 +1,24 @@
 //! The house: lines, sessions and their queues in memory. Each call is one step of the machine of `house_model`.
 #![tactic(auto)]
 
-mod deliver;
+mod acking;
+mod acting;
+mod answers;
+mod binding;
+mod counting;
+mod deeds;
 mod dice;
+mod ending;
+mod free;
+mod gate;
 pub mod house;
-mod line;
+mod leaving;
+mod lines;
 mod make;
-mod places;
-mod session;
-#[cfg(test)]
-mod tests;
+mod parting;
+mod pulling;
+mod resuming;
+mod submit;
+mod world;
 
 pub use house::House;

@@ -7,13 +7,12 @@ ghost use Rattle.stanza_tree.specs.Stamps.{sent_by};
 ghost use Rattle.jid_core.specs.Addresses.{address_text};
 ghost use Rattle.jid_core.specs.Preparation.{is_local};
 ghost use Rattle.house_model.specs.Answers.{answer_text};
-ghost use Rattle.house_model.specs.Steps.{hex, resource_or};
+ghost use Rattle.house_model.specs.Steps.{entry_for, hex, resource_or};
 
 use crate::dice::hex_of;
-use crate::session::Session;
 use house_model::Answer;
 use jid_core::{Jid, JidFault, Part};
-use stanza_tree::{Element, Entry, NoMemory, Origin, Several, Text, write_sent};
+use stanza_tree::{Element, Entry, NoMemory, Origin, Text, sent_text};
 use std::alloc::Global;
 
 /// The one fault that can come where the bytes are known to be right.
@@ -65,56 +64,44 @@ pub(crate) fn make_address(
     })
 }
 
-fn copy_of(alloc: Global, bytes: &[u8]) -> Result<Several<u8>, NoMemory>
-    ensures { IfOk result (λ v. v ≡ bytes.now) }
+/// The text of an address.
+fn text_of(alloc: Global, address: &Jid) -> Result<Text, NoMemory>
+    ensures text { IfOk result (λ t. t ≡ address_text address.now) }
+    ensures short { length (address_text address.now) ≤ 3071 }
 {
-    let mut copy = Vec::new(alloc);
-    copy.extend_from_slice(bytes)?;
-    Ok(Several::of(copy))
+    let mut spelt = Vec::new(alloc);
+    address.write(&mut spelt)?;
+    Ok(Text::of_vec(spelt))
 }
 
 /// The answer to a request with this id that made a session of this address.
-fn make_answer(alloc: Global, id: &Text, jid: &[u8]) -> Result<Answer, NoMemory>
-    ensures { IfOk result (λ a. a ≡ Answer.Bound id.now jid.now) }
+pub(crate) fn make_bound(alloc: Global, address: &Jid, id: &Text) -> Result<Answer, NoMemory>
+    ensures answer { IfOk result (λ a. a ≡ Answer.Bound id.now (address_text address.now)) }
+    ensures short { length (address_text address.now) ≤ 3071 }
 {
+    let jid = text_of(alloc, address)?;
     Ok(Answer::Bound {
         id: id.copy(alloc)?,
-        jid: copy_of(alloc, jid)?,
+        jid,
     })
 }
 
 /// The entry for a stanza from one address to another.
 pub(crate) fn make_entry(
     alloc: Global,
-    from: &Text,
-    to: &Text,
+    from: &Jid,
+    to: &Jid,
     element: &Element,
 ) -> Result<Entry, NoMemory>
-    ensures { IfOk result (λ e. e ≡ record { to = to.now; rest = text (sent_by from.now element.now); origin = Direct }) }
+    ensures entry { IfOk result (λ e. e ≡ entry_for from.now to.now element.now) }
+    ensures from_short { length (address_text from.now) ≤ 3071 }
+    ensures to_short { IfOk result (λ e. length (address_text to.now) ≤ 3071) }
 {
-    let mut rest = Vec::new(alloc);
-    write_sent(element, from.bytes(), &mut rest)?;
+    let from = text_of(alloc, from)?;
+    let to = text_of(alloc, to)?;
     Ok(Entry {
-        to: to.copy(alloc)?,
-        rest: Text::of_vec(rest),
+        to,
+        rest: sent_text(alloc, element, from.bytes())?,
         origin: Origin::Direct,
     })
-}
-
-/// What a binding needs: the session, and the answer that tells its address.
-pub(crate) fn make_binding(
-    alloc: Global,
-    address: Jid,
-    id: &Text,
-) -> Result<(Session, Answer), NoMemory>
-    requires { length id.now ≤ 65536 }
-    ensures session { IfOk result (λ made. made.0.kept ≡ record { address = address; waiting = [] }) }
-    ensures answer { IfOk result (λ made. made.1 ≡ Answer.Bound id.now (address_text address)) }
-    ensures short { IfOk result (λ made. length (answer_text made.1) ≤ 524288) }
-{
-    let mut spelt = Vec::new(alloc);
-    address.write(&mut spelt)?;
-    let text = Text::of_vec(spelt);
-    let answer = make_answer(alloc, id, text.bytes())?;
-    Ok((Session::new(alloc, address, text), answer))
 }

@@ -1,120 +1,192 @@
--- The effects of each event fit, and leave what is kept as the code's own do.
-use Rattle.std.proofs.Common.{◌≡◌, ℕ, ◌+◌, ◌<◌, ◌≤◌, List, [], ◌∷◌, length, Bool, true, false, cond, nat_lt, Option, Some, None, refl, sym, ◌∙◌, ap, arith}
-use Rattle.std.specs.Prelude.{position}
-use Rattle.std.specs.Option.{option_map}
-use Rattle.std.specs.List.{position_or_len}
-use Rattle.std.proofs.lemmas.Bool.{ltb-true}
-use Rattle.std.proofs.lemmas.List.{length-drop}
-use Rattle.stanza_tree.specs.declared.frame.Entry.{Entry}
-use Rattle.stanza_tree.specs.declared.node.Element.{Element}
-use Rattle.stanza_model.specs.Stanzas.{to_in}
-use Rattle.jid_core.specs.Addresses.{Address, same_address}
-use Rattle.house_model.specs.declared.stage.Stage.{Stage}
-use Rattle.house_model.specs.declared.stage.Stage.TheVariants.{Empty, Fresh, Logged, Bound}
-use Rattle.house_model.specs.declared.stage.Answer.{Answer}
-use Rattle.stanza_model.specs.declared.stanza.Stanza.{Stanza}
-use Rattle.house_model.specs.declared.event.Event.{Event}
-use Rattle.house_model.specs.declared.event.Event.TheVariants.{OpenLine, Login, Bind, Act, Pull}
-use Rattle.house_model.specs.States.{Line, State, empty_line}
-use Rattle.house_model.specs.Keeping.{KeptSession, keep}
-use Rattle.house_model.specs.Effects.{Effect, Acted, apply, apply_all, kept_line, kept_session, kept_all}
-use Rattle.house_model.specs.Fits.{IsMade, Fits, Sound}
-use Rattle.house_model.specs.Histories.{line_of}
-use Rattle.house_model.specs.Steps.{user_place, logs_in_at, logs_in, resource_or, binds, session_at, headline_in, entry_for, queue_at, delivered, acts, next_entry, entry_at, next_frame, pulls, verdict}
-use Rattle.house_model.proofs.NumberedLemmas.{length-listed, listed-at}
-use Rattle.house_model.proofs.Keeps.{kept_of, keeps-effect, session-kept}
-use Rattle.house_model.proofs.Sounds.{sound-effect}
+-- Lists of effects that fit.
+use Rattle.std.proofs.Common.{◌≡◌, inl, inr, ℕ, ◌+◌, List, [], ◌∷◌, ◌++◌, Option, Some, None, Bool, true, false, sym, ap, ◌∙◌, subst}
+use Rattle.std.specs.Prelude.{⊤}
+use Rattle.sm_resume.specs.declared.decision.Cause.{Cause}
+use Rattle.sm_resume.specs.declared.decision.Cause.TheVariants.{Replaced}
+use Rattle.sm_resume.specs.declared.id.ResumeId.{ResumeId}
+use Rattle.session_table.specs.declared.line.Line as stage
+use Rattle.session_table.specs.declared.line.Line.TheVariants.{Empty, Fresh, Logged, Bound, Over}
+use Rattle.house_model.specs.Numbered.{put}
+use Rattle.house_model.specs.Sessions.{Hold, Held, Rest, Op, Push, Pull, Request, Enable, Ack, Tell, Act, Drop, Resume, End, Part, step_if, session_step}
+use Rattle.house_model.specs.Traffic.{Traffic, whole}
+use Rattle.house_model.specs.States.{Line, World, Kept}
+use Rattle.house_model.specs.Effects.{Effect, Open, At, Begin, On, Leave, settled, touch, apply, apply_all}
+use Rattle.house_model.specs.Gate.{left_by, left, closed}
+use Rattle.house_model.specs.Steps.{departs, replaces, leaves}
+use Rattle.house_model.specs.Sound.{Sound, IsFree, FitsIn, Fits, Back}
+use Rattle.house_model.proofs.PutLemmas.{put_here}
+use Rattle.house_model.proofs.SoundLemmas.{settled_is, apply_sound}
+use Rattle.house_model.proofs.BackLemmas.{IsResume, held_before, apply_back}
 
-pub keeps-all : (st : State) (es : List Effect) → Sound st → Fits st es → keep (apply_all st es) ≡ kept_all (keep st) es
-keeps-all st [] sound fits = refl
-keeps-all st (e ∷ more) sound fits =
-    keeps-all (apply st e) more (sound-effect st e sound fits.0) fits.1 ∙ ap (λ k. kept_all k more) (keeps-effect st e sound fits.0)
+-- a bound line holds its session, and a session that a line holds is bound there
+pub record IsMatched (world : World Traffic) : Type 0 where
+  pub sound : Sound world
+  pub back : Back world
 
--- a place that was found is in the list
-found : (c : Bool) (i j : ℕ) → cond c (Some i) None ≡ Some j → (c ≡ true) × (i ≡ j)
-found true i j h = (refl, cc)
-found false i j h = absurd (cc)
+-- an operation by which no line comes to hold the session
+abbrev pub IsNoResume : Op → Type 0
+IsNoResume (Resume w c h) = ⊥
+IsNoResume op = ⊤
 
-pub position-found : {X : Type 0} (p : X → Bool) (xs : List X) (i : ℕ) → position p xs ≡ Some i → i < length xs
-position-found p xs i h =
-    let f = found (nat_lt (position_or_len p xs) (length xs)) (position_or_len p xs) i h in
-    let l = ltb-true (position_or_len p xs) (length xs) f.0 in omega (arith, f.1)
+-- effects on sessions alone, by which no line comes to hold one
+abbrev pub AllOn : List Effect → Type 0
+AllOn [] = ⊤
+AllOn (On s op ∷ es) = IsNoResume op × AllOn es
+AllOn (e ∷ es) = ⊥
 
-next-number : (o : Option ℕ) (s n : ℕ) → option_map (λ i. i + 1) o ≡ Some s → ((i : ℕ) → o ≡ Some i → i < n) → (0 < s) × (s ≤ n)
-next-number None s n h within = absurd (cc)
-next-number (Some i) s n h within = let l = within i refl in let e : i + 1 ≡ s = cc in (omega arith, omega arith)
+on_fits : (world : World Traffic) (s : ℕ) (op : Op) → IsNoResume op → FitsIn world (On s op)
+on_fits world s (Push e) is = tt
+on_fits world s Pull is = tt
+on_fits world s Request is = tt
+on_fits world s (Enable id) is = tt
+on_fits world s (Ack h) is = tt
+on_fits world s Tell is = tt
+on_fits world s (Act x) is = tt
+on_fits world s (Drop t) is = tt
+on_fits world s (Resume w c h) is = absurd is
+on_fits world s (End cause) is = tt
+on_fits world s Part is = tt
 
--- the session of an address was made
-made-at : (st : State) (a : Address) (s : ℕ) → session_at a (keep st).sessions ≡ Some s → IsMade st s
-made-at st a s h =
-    next-number (position (λ x. same_address x.address a) (keep st).sessions) s st.made h
-    (λ i e. let l = position-found (λ x. same_address x.address a) (keep st).sessions i e in omega (arith, length-listed st.made (kept_of st.sessions)))
+no_resume : (op : Op) (w c : ℕ) → IsNoResume op → IsResume op w c → ⊥
+no_resume (Resume v d h) w c is r = is
+no_resume (Push e) w c is r = r
+no_resume Pull w c is r = r
+no_resume Request w c is r = r
+no_resume (Enable id) w c is r = r
+no_resume (Ack h) w c is r = r
+no_resume Tell w c is r = r
+no_resume (Act x) w c is r = r
+no_resume (Drop t) w c is r = r
+no_resume (End cause) w c is r = r
+no_resume Part w c is r = r
 
-fits-queue : (st : State) (o : Option ℕ) (entry : Entry) → ((s : ℕ) → o ≡ Some s → IsMade st s) → Fits st (queue_at o entry)
-fits-queue st None entry made = tt
-fits-queue st (Some s) entry made = (made s refl, tt)
+-- a line that was free stays free
+free_on : (world : World Traffic) (s : ℕ) (op : Op) (w : ℕ) → IsMatched world → IsNoResume op
+    → IsFree (world.lines w).stage → IsFree ((touch whole s op world).lines w).stage
+free_on world s op w m is free c k at =
+    elim (settled_is s (world.sessions s).hold (session_step whole (world.sessions s) op).hold world.lines w c k
+    (λ v d e. m.sound.tied v d s e) at) [
+      | inl p ↦ elim (held_before _ (world.sessions s).hold _ _ op w c p.1) [
+        | inl e ↦ free c s (m.back s w c e)
+        | inr r ↦ no_resume op w c is r
+      ]
+      | inr p ↦ free c k p.1
+    ]
 
-fits-delivered : (st : State) (sender : Address) (to : Option Address) (e : Option Element) (s : ℕ) (x : Stanza) → Fits (apply st (Acted s x)) (delivered (keep st).sessions sender to e)
-fits-delivered st sender to None s x = tt
-fits-delivered st sender None (Some e) s x = tt
-fits-delivered st sender (Some a) (Some e) s x =
-    fits-queue (apply st (Acted s x)) (session_at a (keep st).sessions) (entry_for sender a e) (made-at st a)
+pub matched_on : (world : World Traffic) (e : Effect) → FitsIn world e → IsMatched world
+    → IsMatched (apply whole world e)
+matched_on world e fits m = record { sound = apply_sound world e m.sound; back = apply_back world e fits m.back }
 
-fits-acts : (st : State) (stanza : Stanza) (stage : Stage) → Fits st (acts (keep st) stanza stage).effects
-fits-acts st stanza Empty = tt
-fits-acts st stanza Fresh = tt
-fits-acts st stanza (Logged u) = tt
-fits-acts st stanza (Bound s) = (tt, fits-delivered st (kept_session (keep st) s).address (to_in stanza) (headline_in stanza) s stanza)
+pub all_on_fit : (world : World Traffic) (es : List Effect) → AllOn es → Fits world es
+all_on_fit world [] all = tt
+all_on_fit world (On s op ∷ es) all = (on_fits world s op all.0, all_on_fit (apply whole world (On s op)) es all.1)
+all_on_fit world (Open v ∷ es) all = absurd all
+all_on_fit world (At v op ∷ es) all = absurd all
+all_on_fit world (Begin v c a ∷ es) all = absurd all
 
-fits-login : (st : State) (w : ℕ) (o : Option ℕ) → w < st.workers → Fits st (logs_in_at w o).effects
-fits-login st w None low = tt
-fits-login st w (Some p) low = (low, tt)
+pub free_all : (world : World Traffic) (es : List Effect) (w : ℕ) → AllOn es → IsMatched world
+    → IsFree (world.lines w).stage → IsFree ((apply_all whole world es).lines w).stage
+free_all world [] w all m free = free
+free_all world (On s op ∷ es) w all m free =
+    free_all (apply whole world (On s op)) es w all.1 (matched_on world (On s op) (on_fits world s op all.0) m)
+    (free_on world s op w m all.0 free)
+free_all world (Open v ∷ es) w all m free = absurd all
+free_all world (At v op ∷ es) w all m free = absurd all
+free_all world (Begin v c a ∷ es) w all m free = absurd all
 
-fits-logs_in : (st : State) (w : ℕ) (user : List ℕ) (stage : Stage) → w < st.workers → Fits st (logs_in (keep st) w user stage).effects
-fits-logs_in st w user Empty low = tt
-fits-logs_in st w user Fresh low = fits-login st w (user_place user st.users) low
-fits-logs_in st w user (Logged u) low = tt
-fits-logs_in st w user (Bound s) low = tt
+pub fits_append : (world : World Traffic) (xs ys : List Effect) → Fits world xs → Fits (apply_all whole world xs) ys
+    → Fits world (xs ++ ys)
+fits_append world [] ys a b = b
+fits_append world (x ∷ xs) ys a b = (a.0, fits_append (apply whole world x) xs ys a.1 b)
 
-fits-binds : (st : State) (w : ℕ) (id resource : List ℕ) (stage : Stage) → w < st.workers → Fits st (binds (keep st) w id resource stage).effects
-fits-binds st w id resource Empty low = tt
-fits-binds st w id resource Fresh low = tt
-fits-binds st w id resource (Logged u) low = (low, tt)
-fits-binds st w id resource (Bound s) low = tt
+pub departs_on : (s : ℕ) (cause : Cause) → AllOn (departs s cause)
+departs_on s cause = (tt, (tt, tt))
 
-fits-next_entry : (st : State) (s : ℕ) (waiting : List Entry) → IsMade st s → (0 < length waiting → (st.sessions s).core.sent < length (st.sessions s).core.queued)
-    → Fits st (next_entry s waiting).effects
-fits-next_entry st s [] made some = tt
-fits-next_entry st s (e ∷ more) made some = ((made, some (omega arith)), tt)
+pub replaces_on : (k : Kept) (s : Option ℕ) → AllOn (replaces k s)
+replaces_on k None = tt
+replaces_on k (Some s) = departs_on s (Replaced (k.world.made + 1))
 
--- what waits was queued and not sent
-waits : (st : State) (s : ℕ) → Sound st → IsMade st s → 0 < length (kept_session (keep st) s).waiting → (st.sessions s).core.sent < length (st.sessions s).core.queued
-waits st s sound made some =
-    let e = ap (λ (x : KeptSession). length x.waiting) (session-kept st.made s st.sessions made.0 made.1) in
-    omega (arith, e, length-drop (st.sessions s).core.kept (st.sessions s).core.queued, sound.done s)
+-- an operation by which the line that holds the session lets it go
+abbrev LetsGo : Op → Type 0
+LetsGo (Drop t) = ⊤
+LetsGo (End cause) = ⊤
+LetsGo op = ⊥
 
-fits-entry_at : (st : State) (stage : Stage) → Sound st → ((s : ℕ) → stage ≡ Bound s → IsMade st s) → Fits st (entry_at (keep st) stage).effects
-fits-entry_at st Empty sound made = tt
-fits-entry_at st Fresh sound made = tt
-fits-entry_at st (Logged u) sound made = tt
-fits-entry_at st (Bound s) sound made = fits-next_entry st s (kept_session (keep st) s).waiting (made s refl) (waits st s sound (made s refl))
+let_go : (b : Bool) (m : Hold) (t : Traffic) (r : Rest) (op : Op) (w c s : ℕ) (ls : ℕ → Line) → m ≡ Held w c → LetsGo op
+    → IsFree (settled s m (step_if whole b m t r op).hold ls w).stage
+let_go b m t r op w c s ls is goes =
+    subst (λ (n : Hold). IsFree (settled s n (step_if whole b n t r op).hold ls w).stage) (sym is) (held_go b op goes)
+  where
+    written : (y : Line) → IsFree y.stage → IsFree (put w y ls w).stage
+    written y free d k at = free d k (ap (λ (l : Line). l.stage) (sym (put_here w y ls)) ∙ at)
 
-fits-next_frame : (st : State) (w : ℕ) (stage : Stage) (answers : List Answer) → w < st.workers → Sound st → ((s : ℕ) → stage ≡ Bound s → IsMade st s) → Fits st (next_frame (keep st) w stage answers).effects
-fits-next_frame st w stage [] low sound made = fits-entry_at st stage sound made
-fits-next_frame st w stage (a ∷ more) low sound made = (low, tt)
+    held_go : (b : Bool) (op : Op) → LetsGo op
+        → IsFree (settled s (Held w c) (step_if whole b (Held w c) t r op).hold ls w).stage
+    held_go true (Drop u) goes = written _ (λ d k bad. cc)
+    held_go false (Drop u) goes = written _ (λ d k bad. cc)
+    held_go true (End cause) goes = written _ (λ d k bad. cc)
+    held_go false (End cause) goes = written _ (λ d k bad. cc)
+    held_go true op goes = absurd goes
+    held_go false op goes = absurd goes
 
-fits-pulls : (st : State) (w : ℕ) (line : Line) (stage : Stage) → w < st.workers → Sound st → ((s : ℕ) → stage ≡ Bound s → IsMade st s) → Fits st (pulls (keep st) w line stage).effects
-fits-pulls st w line Empty low sound made = tt
-fits-pulls st w line Fresh low sound made = fits-next_frame st w Fresh line.answers low sound made
-fits-pulls st w line (Logged u) low sound made = fits-next_frame st w (Logged u) line.answers low sound made
-fits-pulls st w line (Bound s) low sound made = fits-next_frame st w (Bound s) line.answers low sound made
+-- an effect that needs no more than that line w is free
+abbrev pub NeedsFree : ℕ → Effect → Type 0
+NeedsFree w e = (world : World Traffic) → IsFree (world.lines w).stage → FitsIn world e
 
--- the effects that an event gives in a sound state fit
-pub fits-verdict : (st : State) (e : Event) → line_of e < st.workers → Sound st → Fits st (verdict (keep st) e).effects
-fits-verdict st (OpenLine w) low sound = (low, tt)
-fits-verdict st (Login w user) low sound = fits-logs_in st w user (kept_line (keep st) w).stage low
-fits-verdict st (Bind w id resource t dice) low sound = fits-binds st w id (resource_or dice resource) (kept_line (keep st) w).stage low
-fits-verdict st (Act w stanza t) low sound = fits-acts st stanza (kept_line (keep st) w).stage
-fits-verdict st (Pull w t) low sound =
-    fits-pulls st w (kept_line (keep st) w) (kept_line (keep st) w).stage low sound
-    (λ s h. sound.held w s (ap (λ (l : Line). l.stage) (sym (listed-at st.workers st.lines w empty_line low)) ∙ h))
+go_fits : (world : World Traffic) (w c s : ℕ) (op : Op) (e : Effect) → IsMatched world
+    → (world.lines w).stage ≡ Bound c s → LetsGo op → FitsIn world (On s op)
+    → NeedsFree w e → Fits world (On s op ∷ e ∷ [])
+go_fits world w c s op e m is goes fits needs = (fits, (needs (apply whole world (On s op)) free, tt))
+  where
+    free : IsFree ((touch whole s op world).lines w).stage
+    free = let_go (world.sessions s).counts (world.sessions s).hold (world.sessions s).traffic (world.sessions s).rest
+        op w c s world.lines
+        (m.sound.tied w c s is) goes
+
+left_goes : (id : Option ResumeId) (t : ℕ) → LetsGo (left_by id t)
+left_goes None t = tt
+left_goes (Some id) t = tt
+
+left_by_fits : (world : World Traffic) (id : Option ResumeId) (s t : ℕ) → FitsIn world (On s (left_by id t))
+left_by_fits world None s t = tt
+left_by_fits world (Some id) s t = tt
+
+pub left_fits : (world : World Traffic) (k : Kept) (w : ℕ) (g : stage.Line) (e : Effect) → IsMatched world
+    → (world.lines w).stage ≡ g → NeedsFree w e
+    → Fits world (left k g ++ e ∷ [])
+left_fits world k w (Bound c s) e m is needs =
+    go_fits world w c s (left_by (k.world.sessions s).rest.resume_id k.head.moment) e m is
+    (left_goes (k.world.sessions s).rest.resume_id k.head.moment)
+    (left_by_fits world (k.world.sessions s).rest.resume_id s k.head.moment) needs
+left_fits world k w Empty e m is needs =
+    (needs world (λ c s bad. (let both : Empty ≡ Bound c s = sym is ∙ bad in cc)), tt)
+left_fits world k w (Fresh d) e m is needs =
+    (needs world (λ c s bad. (let both : Fresh d ≡ Bound c s = sym is ∙ bad in cc)), tt)
+left_fits world k w (Logged d u) e m is needs =
+    (needs world (λ c s bad. (let both : Logged d u ≡ Bound c s = sym is ∙ bad in cc)), tt)
+left_fits world k w (Over d cause) e m is needs =
+    (needs world (λ c s bad. (let both : Over d cause ≡ Bound c s = sym is ∙ bad in cc)), tt)
+
+pub closed_fits : (world : World Traffic) (w : ℕ) (g : stage.Line) (e : Effect) → IsMatched world
+    → (world.lines w).stage ≡ g → NeedsFree w e
+    → Fits world (closed g ++ e ∷ [])
+closed_fits world w (Bound c s) e m is needs = go_fits world w c s _ e m is tt tt needs
+closed_fits world w Empty e m is needs =
+    (needs world (λ c s bad. (let both : Empty ≡ Bound c s = sym is ∙ bad in cc)), tt)
+closed_fits world w (Fresh d) e m is needs =
+    (needs world (λ c s bad. (let both : Fresh d ≡ Bound c s = sym is ∙ bad in cc)), tt)
+closed_fits world w (Logged d u) e m is needs =
+    (needs world (λ c s bad. (let both : Logged d u ≡ Bound c s = sym is ∙ bad in cc)), tt)
+closed_fits world w (Over d cause) e m is needs =
+    (needs world (λ c s bad. (let both : Over d cause ≡ Bound c s = sym is ∙ bad in cc)), tt)
+
+pub leaves_fits : (world : World Traffic) (w : ℕ) (g : stage.Line) (es : List Effect)
+    → Fits world (es ++ At w Leave ∷ []) → Fits world (leaves g w es).effects
+leaves_fits world w Empty es fits = tt
+leaves_fits world w (Fresh c) es fits = fits
+leaves_fits world w (Logged c u) es fits = fits
+leaves_fits world w (Bound c s) es fits = fits
+leaves_fits world w (Over c cause) es fits = fits
+
+pub logged_free : (g : stage.Line) (d u : ℕ) → g ≡ Logged d u → IsFree g
+logged_free g d u is c s bad = let both : Logged d u ≡ Bound c s = sym is ∙ bad in absurd (cc)

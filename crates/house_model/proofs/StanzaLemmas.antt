@@ -1,10 +1,8 @@
 -- A headline message that fits has an element that fits.
-use Rattle.std.proofs.Common.{◌≡◌, ℕ, ◌≤◌, List, length, Option, Some, None, refl, ap, subst, inl, inr}
+use Rattle.std.proofs.Common.{◌≡◌, ◌≤◌, length, Some, subst, inl, inr}
 use Rattle.stanza_tree.specs.Spelling.{text}
 use Rattle.stanza_tree.specs.declared.node.Element.{Element}
-use Rattle.jid_core.specs.Addresses.{Address}
 use Rattle.stanza_model.specs.Stanzas.{element_in}
-use Rattle.stanza_model.specs.declared.kinds.MessageForm.{MessageForm}
 use Rattle.stanza_model.specs.declared.kinds.MessageForm.TheVariants.{Chat, Normal, Headline, Groupchat, Error}
 use Rattle.stanza_model.specs.declared.stanza.Stanza.{Stanza}
 use Rattle.stanza_model.specs.declared.stanza.Stanza.TheVariants.{Message, Presence, Iq, Faulty}
@@ -29,7 +27,9 @@ no-fault (Iq to id form x) e h short = short
 no-fault (Faulty kind to id answered condition) e h short = cc
 
 sent-small : (st : Stanza) (e : Element) → IsSent st → headline_in st ≡ Some e → length (text e) ≤ 196608
-sent-small st e sent h = subst (λ (x : Element). length (text x) ≤ 196608) (stanza_of-element sent.element st e sent.read (headline-element st e h)) sent.small
+sent-small st e sent h =
+    subst (λ (x : Element). length (text x) ≤ 196608)
+    (stanza_of-element sent.element st e sent.read (headline-element st e h)) sent.small
 
 pub headline-small : (st : Stanza) (e : Element) → StanzaFits st → headline_in st ≡ Some e → length (text e) ≤ 196608
 headline-small st e (inl sent) h = sent-small st e sent h

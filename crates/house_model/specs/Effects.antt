@@ -1,113 +1,79 @@
--- What events do, as effects that are applied one after another; on a state, and on what is kept of it.
-use Rattle.std.specs.Prelude.{ℕ, ◌+◌, ◌-◌, List, [], ◌∷◌, ◌++◌, drop, length, slice_index_or, slice_set}
-use Rattle.stanza_tree.specs.declared.frame.Entry.{Entry}
-use Rattle.jid_core.specs.Addresses.{Address, address_text}
-use Rattle.house_model.specs.declared.stage.Stage.TheVariants.{Fresh, Logged, Bound}
-use Rattle.house_model.specs.declared.stage.Answer.TheVariants as answer
-use Rattle.stanza_model.specs.declared.stanza.Stanza.{Stanza}
-use Rattle.house_model.specs.States.{Line, Held, Core, Session, State, empty_line, nowhere, no_core, unmade, put}
-use Rattle.house_model.specs.Keeping.{KeptSession, Kept}
+-- What events do, as effects that are applied one after another; the same on the whole state and on what is kept of it.
+use Rattle.std.specs.Prelude.{ℕ, ◌+◌, ◌==◌, ◌&&◌, List, [], ◌∷◌, ◌++◌, drop, Bool, true, false}
+use Rattle.jid_core.specs.Addresses.{Address}
+use Rattle.sm_resume.specs.declared.decision.Cause.{Cause}
+use Rattle.sm_resume.specs.declared.decision.Cause.TheVariants.{Moved}
+use Rattle.session_table.specs.declared.line.Line as stage
+use Rattle.session_table.specs.declared.line.Line.TheVariants.{Fresh, Logged, Bound, Over}
+use Rattle.house_model.specs.declared.answer.Answer.{Answer}
+use Rattle.house_model.specs.Numbered.{put}
+use Rattle.house_model.specs.Sessions.{Hold, Held, Away, Ended, Gone, Ways, Op, begun, session_step}
+use Rattle.house_model.specs.States.{Line, World, empty_line}
+
+-- what happens to a line alone
+pub data LineOp : Type 0 where
+  Log : (user : ℕ) → LineOp
+  Say : (answer : Answer) → LineOp  -- an answer waits
+  Said : LineOp  -- the oldest answer was given
+  Leave : LineOp
+  Close : (conn : ℕ) → (cause : Cause) → LineOp  -- the connection is over, and its answers are lost
 
 pub data Effect : Type 0 where
   Open : (w : ℕ) → Effect  -- the next connection is at the line
-  Log : (w user : ℕ) → Effect  -- the connection there is the user's
-  Begin : (w : ℕ) (address : Address) (id : List ℕ) → Effect  -- it holds the next session, and is to be told its address
-  Acted : (session : ℕ) (stanza : Stanza) → Effect  -- the session's stanza counts as acted on
-  Queue : (session : ℕ) (entry : Entry) → Effect
-  Answered : (w : ℕ) → Effect  -- the oldest answer was given
-  Sent : (session : ℕ) → Effect  -- the entry at `sent` was given
+  At : (w : ℕ) → (op : LineOp) → Effect
+  Begin : (w conn : ℕ) → (address : Address) → Effect  -- the next session is held there
+  On : (s : ℕ) → (op : Op) → Effect  -- what happens to the session of this number
 
--- a session's core changes by these alone
-abbrev pub begun : ℕ → Core
-begun conn = record no_core { hold = Held conn }
+abbrev pub logged : ℕ → stage.Line → stage.Line
+logged user (Fresh c) = Logged c user
+logged user g = g
 
-abbrev pub acted : Stanza → Core → Core
-acted stanza core = record core { acts = core.acts ++ stanza ∷ [] }
+abbrev pub line_step : LineOp → Line → Line
+line_step (Log user) l = record l { stage = logged user l.stage }
+line_step (Say a) l = record l { answers = l.answers ++ a ∷ [] }
+line_step Said l = record l { answers = drop 1 l.answers }
+line_step Leave l = empty_line
+line_step (Close c cause) l = record { stage = Over c cause; answers = [] }
 
-abbrev pub pushed : Entry → Core → Core
-pushed entry core = record core { queued = core.queued ++ entry ∷ [] }
+abbrev pub fresh_line : ℕ → Line
+fresh_line c = record { stage = Fresh c; answers = [] }
 
--- a session that does not count keeps nothing that was given
-abbrev pub pulled : Core → Core
-pulled core = record core { kept = core.sent + 1; sent = core.sent + 1 }
+abbrev pub over_line : ℕ → Cause → Line
+over_line c cause = record { stage = Over c cause; answers = [] }
 
-abbrev pub touched : (Core → Core) → Session → Session
-touched f s = record s { core = f s.core }
+abbrev pub bound_line : (conn s : ℕ) → Line → Line
+bound_line c s l = record l { stage = Bound c s }
 
-abbrev pub touch : ℕ → (Core → Core) → State → State
-touch s f st = record st { sessions = put s (touched f (st.sessions s)) st.sessions }
+abbrev pub moved_if : Bool → (s w c v d : ℕ) → (ℕ → Line) → ℕ → Line
+moved_if true s w c v d ls = ls
+moved_if false s w c v d ls = put v (bound_line d s (ls v)) (put w (over_line c (Moved d)) ls)
 
-abbrev pub opened_line : ℕ → Line
-opened_line conn = record { conn = conn; stage = Fresh; answers = [] }
+-- The lines, where session s was held so and then so: the connection that held it is over with the session's cause, is left, or lost it to
+-- another; and the one that holds it now is bound.
+abbrev pub settled : ℕ → Hold → Hold → (ℕ → Line) → ℕ → Line
+settled s (Held w c) (Held v d) ls = moved_if ((w == v) && (c == d)) s w c v d ls
+settled s (Held w c) (Ended cause) ls = put w (over_line c cause) ls
+settled s (Held w c) Away ls = put w empty_line ls
+settled s (Held w c) Gone ls = put w empty_line ls
+settled s m (Held v d) ls = put v (bound_line d s (ls v)) ls
+settled s m n ls = ls
 
-abbrev pub logged_line : ℕ → Line → Line
-logged_line user line = record line { stage = Logged user }
+abbrev pub touch : {T : Type 0} → Ways T → ℕ → Op → World T → World T
+touch z s op world = record world {
+  lines = settled s (world.sessions s).hold (session_step z (world.sessions s) op).hold world.lines;
+  sessions = put s (session_step z (world.sessions s) op) world.sessions;
+}
 
-abbrev pub bound_line : ℕ → Address → List ℕ → Line → Line
-bound_line session address id line = record line { stage = Bound session; answers = line.answers ++ answer.Bound id (address_text address) ∷ [] }
+abbrev pub apply : {T : Type 0} → Ways T → World T → Effect → World T
+apply z world (Open w) = record world { opened = world.opened + 1; lines = put w (fresh_line (world.opened + 1)) world.lines }
+apply z world (At w op) = record world { lines = put w (line_step op (world.lines w)) world.lines }
+apply z world (Begin w c address) = record world {
+  lines = put w (bound_line c (world.made + 1) (world.lines w)) world.lines;
+  made = world.made + 1;
+  sessions = put (world.made + 1) (begun z w c address) world.sessions;
+}
+apply z world (On s op) = touch z s op world
 
-abbrev pub answered_line : Line → Line
-answered_line line = record line { answers = drop 1 line.answers }
-
-abbrev pub set_line : ℕ → Line → State → State
-set_line w line st = record st { lines = put w line st.lines }
-
-abbrev pub apply : State → Effect → State
-apply st (Open w) = record st { opened = st.opened + 1; lines = put w (opened_line (st.opened + 1)) st.lines }
-apply st (Log w user) = set_line w (logged_line user (st.lines w)) st
-apply st (Begin w address id) =
-    record st {
-      made = st.made + 1;
-      sessions = put (st.made + 1) (record unmade { core = begun (st.lines w).conn; address = address }) st.sessions;
-      lines = put w (bound_line (st.made + 1) address id (st.lines w)) st.lines;
-    }
-apply st (Acted s stanza) = touch s (acted stanza) st
-apply st (Queue s entry) = touch s (pushed entry) st
-apply st (Answered w) = set_line w (answered_line (st.lines w)) st
-apply st (Sent s) = touch s pulled st
-
-abbrev pub apply_all : State → List Effect → State
-apply_all st [] = st
-apply_all st (e ∷ more) = apply_all (apply st e) more
-
--- The same on what is kept.
-abbrev pub kept_line : Kept → ℕ → Line
-kept_line k w = slice_index_or k.lines w empty_line
-
-abbrev pub no_session : KeptSession
-no_session = record { address = nowhere; waiting = [] }
-
-abbrev pub session_in : List KeptSession → ℕ → KeptSession
-session_in sessions s = slice_index_or sessions (s - 1) no_session
-
-abbrev pub kept_session : Kept → ℕ → KeptSession
-kept_session k s = session_in k.sessions s
-
-abbrev pub set_kept_line : ℕ → Line → Kept → Kept
-set_kept_line w line k = record k { lines = slice_set k.lines w line }
-
-abbrev pub kept_pushed : Entry → KeptSession → KeptSession
-kept_pushed entry s = record s { waiting = s.waiting ++ entry ∷ [] }
-
-abbrev pub kept_pulled : KeptSession → KeptSession
-kept_pulled s = record s { waiting = drop 1 s.waiting }
-
-abbrev pub kept_touch : ℕ → (KeptSession → KeptSession) → Kept → Kept
-kept_touch s f k = record k { sessions = slice_set k.sessions (s - 1) (f (kept_session k s)) }
-
-abbrev pub kept_apply : Kept → Effect → Kept
-kept_apply k (Open w) = record k { opened = k.opened + 1; lines = slice_set k.lines w (opened_line (k.opened + 1)) }
-kept_apply k (Log w user) = set_kept_line w (logged_line user (kept_line k w)) k
-kept_apply k (Begin w address id) =
-    record k {
-      sessions = k.sessions ++ record { address = address; waiting = [] } ∷ [];
-      lines = slice_set k.lines w (bound_line (length k.sessions + 1) address id (kept_line k w));
-    }
-kept_apply k (Acted s stanza) = k
-kept_apply k (Queue s entry) = kept_touch s (kept_pushed entry) k
-kept_apply k (Answered w) = set_kept_line w (answered_line (kept_line k w)) k
-kept_apply k (Sent s) = kept_touch s kept_pulled k
-
-abbrev pub kept_all : Kept → List Effect → Kept
-kept_all k [] = k
-kept_all k (e ∷ more) = kept_all (kept_apply k e) more
+abbrev pub apply_all : {T : Type 0} → Ways T → World T → List Effect → World T
+apply_all z world [] = world
+apply_all z world (e ∷ more) = apply_all z (apply z world e) more

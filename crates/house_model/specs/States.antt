@@ -1,73 +1,65 @@
--- The state of the house: whole lists from which nothing is taken, and true numbers.
-use Rattle.std.specs.Prelude.{ℕ, ◌==◌, List, [], None, if◌then◌else◌}
-use Rattle.stanza_tree.specs.declared.frame.Entry.{Entry}
+-- The state of the house: what no effect changes, and the world that effects change.
+use Rattle.std.specs.Prelude.{ℕ, List, [], Bool}
 use Rattle.jid_core.specs.Addresses.{Address}
-use Rattle.house_model.specs.declared.stage.Stage.{Stage}
-use Rattle.house_model.specs.declared.stage.Stage.TheVariants.{Empty}
-use Rattle.house_model.specs.declared.stage.Answer.{Answer}
-use Rattle.stanza_model.specs.declared.stanza.Stanza.{Stanza}
+use Rattle.session_table.specs.declared.line.Line.TheVariants.{Empty}
+use Rattle.session_table.specs.declared.line.Line as stage
+use Rattle.house_model.specs.declared.answer.Answer.{Answer}
+use Rattle.house_model.specs.Sessions.{Hold, Held, Away, Ended, Gone, Rest, Session, session, gone, unmade}
+use Rattle.house_model.specs.Traffic.{Traffic, whole, KeptTraffic, nothing_kept, keep_traffic}
 
--- a place for a connection: the number of the one that is there, how far it is, and what waits to be answered, the oldest first
+-- a place for a connection: how far the one that is there is, and what waits to be answered, the oldest first
 pub record Line : Type 0 where
-  pub conn : ℕ
-  pub stage : Stage
+  pub stage : stage.Line
   pub answers : List Answer
 
--- who holds a session: a connection, or none
-pub data Hold : Type 0 where
-  Held : (conn : ℕ) → Hold
-  Away : Hold
-
--- the part of a session that counting is about. Entries up to `kept` are done with, and those up to `sent` were given.
-pub record Core : Type 0 where
-  pub hold : Hold
-  pub queued : List Entry
-  pub kept : ℕ
-  pub sent : ℕ
-  pub acts : List Stanza  -- what was acted on
-
-pub record Session : Type 0 where
-  pub core : Core
-  pub address : Address
-
--- Lines are numbered from 0 and sessions from 1. What no event has reached yet is empty or unmade.
-pub record State : Type 0 where
+pub record Head : Type 0 where
   pub domain : Address
   pub users : List (List ℕ)
   pub workers : ℕ  -- how many lines there are
   pub turns : ℕ  -- how many events there were
   pub moment : ℕ  -- the greatest moment so far
+
+-- Lines are numbered from 0, and sessions from 1.
+pub record World (T : Type 0) : Type 0 where
   pub opened : ℕ  -- how many connections there were
   pub lines : ℕ → Line
   pub made : ℕ  -- how many sessions there were
-  pub sessions : ℕ → Session
+  pub sessions : ℕ → Session T
+
+pub record House (T : Type 0) : Type 0 where
+  pub head : Head
+  pub world : World T
+
+-- whole lists and true numbers
+abbrev pub State : Type 0
+State = House Traffic
+
+-- what the code has
+abbrev pub Kept : Type 0
+Kept = House KeptTraffic
 
 abbrev pub empty_line : Line
-empty_line = record { conn = 0; stage = Empty; answers = [] }
-
-abbrev pub nowhere : Address
-nowhere = record { local = None; domain = []; resource = None }
-
-abbrev pub no_core : Core
-no_core = record { hold = Away; queued = []; kept = 0; sent = 0; acts = [] }
-
-abbrev pub unmade : Session
-unmade = record { core = no_core; address = nowhere }
+empty_line = record { stage = Empty; answers = [] }
 
 -- a house before its first event
 abbrev pub opening : Address → List (List ℕ) → ℕ → State
 opening domain users workers = record {
-  domain = domain;
-  users = users;
-  workers = workers;
-  turns = 0;
-  moment = 0;
-  opened = 0;
-  lines = λ w. empty_line;
-  made = 0;
-  sessions = λ s. unmade;
+  head = record { domain = domain; users = users; workers = workers; turns = 0; moment = 0 };
+  world = record { opened = 0; lines = λ w. empty_line; made = 0; sessions = λ s. unmade whole };
 }
 
--- f, with v at k
-abbrev pub put : {A : Type 0} → ℕ → A → (ℕ → A) → ℕ → A
-put k v f x = if x == k then v else f x
+-- what is kept of a session; nothing of one that departed
+abbrev pub keep_by : Bool → Hold → Traffic → Rest → Session KeptTraffic
+keep_by b (Held w c) t r = session b (Held w c) (keep_traffic t) r
+keep_by b Away t r = session b Away (keep_traffic t) r
+keep_by b (Ended cause) t r = session b (Ended cause) (keep_traffic t) r
+keep_by b Gone t r = gone nothing_kept
+
+abbrev pub keep_session : Session Traffic → Session KeptTraffic
+keep_session s = keep_by s.counts s.hold s.traffic s.rest
+
+abbrev pub keep_world : World Traffic → World KeptTraffic
+keep_world world = record { opened = world.opened; lines = world.lines; made = world.made; sessions = λ s. keep_session (world.sessions s) }
+
+abbrev pub keep : State → Kept
+keep st = record { head = st.head; world = keep_world st.world }

@@ -1,62 +1,70 @@
--- One event: the checks, each with its reply, and then the effects that are applied. All is read off what the code keeps.
-use Rattle.std.specs.Prelude.{ℕ, ◌+◌, ◌/◌, ◌%◌, List, [], ◌∷◌, max, Option, Some, None, false, bytes_eq, flat_map, position, nat_lt, slice_index_or, if◌then◌else◌}
-use Rattle.std.specs.Option.{option_map}
+-- The events, each with its answer and what it does, once the gate has let it through. All is read off what the code keeps.
+use Rattle.std.specs.Prelude.{ℕ, ◌+◌, ◌/◌, ◌%◌, max, min, nat_lt, List, [], ◌∷◌, ◌++◌, slice_get, slice_index_or, flat_map, position, bytes_eq, Option, Some, None, is_some, Bool, true, false, not, ◌&&◌, if◌then◌else◌}
 use Rattle.stanza_tree.specs.declared.frame.Entry.{Entry}
 use Rattle.stanza_tree.specs.declared.frame.Origin.TheVariants.{Direct}
 use Rattle.stanza_tree.specs.declared.node.Element.{Element}
 use Rattle.stanza_tree.specs.Entries.{frame}
 use Rattle.stanza_tree.specs.Spelling.{text}
 use Rattle.stanza_tree.specs.Stamps.{sent_by}
-use Rattle.jid_core.specs.Addresses.{Address, same_address, address_text}
-use Rattle.house_model.specs.declared.event.Event.{Event}
-use Rattle.house_model.specs.declared.event.Event.TheVariants.{OpenLine, Login, Bind, Act, Pull}
-use Rattle.house_model.specs.declared.reply.Reply.{Reply}
-use Rattle.house_model.specs.declared.reply.Reply.TheVariants as reply
-use Rattle.house_model.specs.declared.stage.Stage.{Stage}
-use Rattle.house_model.specs.declared.stage.Stage.TheVariants.{Empty, Fresh, Logged, Bound}
-use Rattle.house_model.specs.declared.stage.Answer.{Answer}
+use Rattle.jid_core.specs.Addresses.{Address, same_address, same_bare, address_text}
+use Rattle.stanza_model.specs.Stanzas.{to_in}
+use Rattle.stanza_model.specs.Errors.{error_element}
+use Rattle.stanza_model.specs.declared.condition.Condition.TheVariants.{ServiceUnavailable}
+use Rattle.stanza_model.specs.declared.kinds.MessageForm.TheVariants.{Headline}
 use Rattle.stanza_model.specs.declared.stanza.Stanza.{Stanza}
 use Rattle.stanza_model.specs.declared.stanza.Stanza.TheVariants.{Message}
-use Rattle.stanza_model.specs.declared.kinds.MessageForm.TheVariants.{Headline}
-use Rattle.stanza_model.specs.Stanzas.{to_in}
-use Rattle.house_model.specs.Answers.{answer_text}
-use Rattle.house_model.specs.States.{Line, State}
-use Rattle.house_model.specs.Keeping.{KeptSession, Kept, keep}
-use Rattle.house_model.specs.Effects.{Effect, Open, Log, Begin, Acted, Queue, Answered, Sent, apply_all, kept_line, kept_session, kept_all}
+use Rattle.sm_resume.specs.declared.decision.Cause.{Cause}
+use Rattle.sm_resume.specs.declared.decision.Cause.TheVariants.{Replaced, Lost}
+use Rattle.sm_resume.specs.declared.id.ResumeId.{ResumeId}
+use Rattle.session_table.specs.declared.line.Line as stage
+use Rattle.session_table.specs.declared.line.Line.TheVariants.{Empty}
+use Rattle.house_model.specs.declared.answer.Answer.{Answer}
+use Rattle.house_model.specs.declared.answer.Answer.TheVariants as answer
+use Rattle.house_model.specs.declared.event.Event.{Event}
+use Rattle.house_model.specs.declared.event.Event.TheVariants as event
+use Rattle.house_model.specs.declared.reply.Reply.{Reply}
+use Rattle.house_model.specs.declared.reply.Reply.TheVariants as reply
+use Rattle.house_model.specs.Answers.{answer_text, request_text}
+use Rattle.house_model.specs.Numbered.{least, passing}
+use Rattle.house_model.specs.Sessions.{Hold, Held, Away, Ended, Gone, Session, Push, Pull, Request, Enable, Ack, Tell, Act, Resume, End, Part, Ways}
+use Rattle.house_model.specs.Traffic.{KeptTraffic, kept_sent, kept_inward, brief}
+use Rattle.house_model.specs.States.{Head, House, Kept}
+use Rattle.house_model.specs.Effects.{Effect, Open, At, Begin, On, Log, Say, Said, Leave, Close, apply_all}
+use Rattle.house_model.specs.Gate.{Verdict, does, only, gives, Pass, Stop, Free, Waits, Knows, Holds, left, closed, gate}
 
--- what is answered, what is done, and the text of the frame that is given
-pub record Verdict : Type 0 where
-  pub reply : Reply
-  pub effects : List Effect
-  pub text : List ℕ
+-- which sessions are there
 
--- an answer that changes nothing
-abbrev pub only : Reply → Verdict
-only r = record { reply = r; effects = []; text = [] }
+abbrev pub is_there_by : Hold → Bool → Bool
+is_there_by (Held w c) counts = true
+is_there_by Away counts = counts
+is_there_by (Ended cause) counts = true
+is_there_by Gone counts = false
 
-abbrev pub done : Reply → List Effect → Verdict
-done r effects = record { reply = r; effects = effects; text = [] }
+-- a session that is not made, or departed, is away and does not count
+abbrev pub is_there : Session KeptTraffic → Bool
+is_there s = is_there_by s.hold s.counts
 
-abbrev pub given : Effect → List ℕ → Verdict
-given effect frame = record { reply = reply.Frame; effects = effect ∷ []; text = frame }
+abbrev pub is_at : Address → Session KeptTraffic → Bool
+is_at a s = is_there s && same_address s.rest.address a
 
--- OpenLine: the next connection is there
+abbrev pub session_at : Kept → Address → Option ℕ
+session_at k a = least k.world.made (λ s. is_at a (k.world.sessions s))
+
+-- OpenLine: what is at the line is left, and the next connection is there
 abbrev pub opens : Kept → ℕ → Verdict
-opens k w = done (reply.Opened (k.opened + 1)) (Open w ∷ [])
+opens k w = does (reply.Opened (k.world.opened + 1)) (left k (k.world.lines w).stage ++ Open w ∷ [])
 
 -- Login: exactly where the house has the user
 abbrev pub user_place : List ℕ → List (List ℕ) → Option ℕ
 user_place user users = position (λ u. bytes_eq u user) users
 
-abbrev pub logs_in_at : ℕ → Option ℕ → Verdict
-logs_in_at w None = only reply.NoUser
-logs_in_at w (Some place) = done reply.Done (Log w place ∷ [])
+abbrev pub logs_in : ℕ → Option ℕ → Verdict
+logs_in w None = only reply.NoUser
+logs_in w (Some place) = does reply.Done (At w (Log place) ∷ [])
 
-abbrev pub logs_in : Kept → ℕ → List ℕ → Stage → Verdict
-logs_in k w user Empty = only reply.Absent
-logs_in k w user Fresh = logs_in_at w (user_place user k.users)
-logs_in k w user (Logged u) = only reply.Unready
-logs_in k w user (Bound s) = only reply.Unready
+-- Departure: the session ends, and is there no more. It is over with this cause, unless it was over already.
+abbrev pub departs : (s : ℕ) → Cause → List Effect
+departs s cause = On s (End cause) ∷ On s Part ∷ []
 
 -- Bind: RFC 6120, 7.6 and 7.7. The address is the user's, with the resource asked for or with the dice as 32 hexadecimal digits.
 abbrev pub hex_digit : ℕ → ℕ
@@ -69,103 +77,213 @@ abbrev pub resource_or : List ℕ → Option (List ℕ) → List ℕ
 resource_or dice None = hex dice
 resource_or dice (Some resource) = resource
 
-abbrev pub bound_address : Kept → ℕ → List ℕ → Address
-bound_address k user resource = record { local = Some (slice_index_or k.users user []); domain = k.domain.domain; resource = Some resource }
+abbrev pub bound_address : Kept → (user : ℕ) → List ℕ → Address
+bound_address k user resource = record { local = Some (slice_index_or k.head.users user []); domain = k.head.domain.domain; resource = Some resource }
 
-abbrev pub binds : Kept → ℕ → List ℕ → List ℕ → Stage → Verdict
-binds k w id resource Empty = only reply.Absent
-binds k w id resource Fresh = only reply.Unready
-binds k w id resource (Logged u) = done reply.Bound (Begin w (bound_address k u resource) id ∷ [])
-binds k w id resource (Bound s) = only reply.Unready
+-- how many sessions a user may have, and the house
+abbrev pub most_of_user : ℕ
+most_of_user = 16
 
--- Act: a headline message goes to the session of its address, as the sender's. Nothing is done yet for any other stanza.
+abbrev pub most_sessions : ℕ
+most_sessions = 512
+
+-- neither limit is passed by one session more; the one of the same address is not counted, since it departs
+abbrev pub has_place : Kept → Address → Bool
+has_place k a =
+    nat_lt (passing k.world.made (λ s. is_there (k.world.sessions s) && not (is_at a (k.world.sessions s)))) most_sessions
+    && nat_lt (passing k.world.made (λ s. is_there (k.world.sessions s) && (same_bare (k.world.sessions s).rest.address a && not (is_at a (k.world.sessions s))))) most_of_user
+
+abbrev pub replaces : Kept → Option ℕ → List Effect
+replaces k None = []
+replaces k (Some s) = departs s (Replaced (k.world.made + 1))
+
+abbrev pub binds : Bool → Kept → (w conn : ℕ) → Address → List ℕ → Verdict
+binds false k w c a id = does reply.Done (At w (Say (answer.Refused id)) ∷ [])
+binds true k w c a id = does reply.Bound (replaces k (session_at k a) ++ (Begin w c a ∷ At w (Say (answer.Bound id (address_text a))) ∷ []))
+
+-- Enable: XEP-0198, 3. The id is the session's number and the dice.
+abbrev pub id_if : Bool → ℕ → List ℕ → Option ResumeId
+id_if false s dice = None
+id_if true s dice = Some (record { session = s; digits = dice })
+
+abbrev pub enables : Bool → (w s : ℕ) → Option ResumeId → Verdict
+enables true w s id = does reply.Done (At w (Say answer.Unexpected) ∷ [])
+enables false w s id = does reply.Done (On s (Enable id) ∷ At w (Say (answer.Enabled id)) ∷ [])
+
+-- Resume: XEP-0198, 5. An id that no session has, another user's, or one of a session that is over is not found.
+abbrev pub has_id : Option ResumeId → ResumeId → Bool
+has_id None id = false
+has_id (Some other) id = bytes_eq other.digits id.digits
+
+abbrev pub is_users : Kept → ℕ → Session KeptTraffic → Bool
+is_users k user s = same_bare s.rest.address (bound_address k user [])
+
+abbrev pub takes : Option KeptTraffic → (w conn s h : ℕ) → ResumeId → KeptTraffic → Verdict
+takes None w c s h id t = does (reply.Over (brief.too_high t h)) (At w (Close c (brief.too_high t h)) ∷ [])
+takes (Some u) w c s h id t = does reply.Resumed (On s (Resume w c h) ∷ At w (Say (answer.Resumed (kept_inward t) id)) ∷ [])
+
+abbrev pub resumes_by : Bool → Hold → (w conn s h : ℕ) → ResumeId → KeptTraffic → Verdict
+resumes_by true (Held v d) w c s h id t = takes (brief.resume t h) w c s h id t
+resumes_by true Away w c s h id t = takes (brief.resume t h) w c s h id t
+resumes_by known m w c s h id t = does reply.Done (At w (Say answer.NotFound) ∷ [])
+
+abbrev pub is_known : Kept → ResumeId → (user : ℕ) → Session KeptTraffic → Bool
+is_known k id user s = s.counts && (has_id s.rest.resume_id id && is_users k user s)
+
+abbrev pub resumes : Kept → (w conn user : ℕ) → Option ResumeId → ℕ → Verdict
+resumes k w c user None h = does reply.Done (At w (Say answer.NotFound) ∷ [])
+resumes k w c user (Some id) h =
+    resumes_by (is_known k id user (k.world.sessions id.session)) (k.world.sessions id.session).hold w c id.session h id (k.world.sessions id.session).traffic
+
+-- Act: the stanza counts as acted on, whatever it does. A headline message goes to the session at its address, as the sender's; where none
+-- goes on there, its sender is told so. Nothing is done yet for any other stanza.
 abbrev pub headline_in : Stanza → Option Element
 headline_in (Message to Headline e) = Some e
-headline_in st = None
-
-abbrev pub session_at : Address → List KeptSession → Option ℕ
-session_at a sessions = option_map (λ i. i + 1) (position (λ s. same_address s.address a) sessions)
+headline_in stanza = None
 
 abbrev pub entry_for : Address → Address → Element → Entry
 entry_for sender receiver e = record { to = address_text receiver; rest = text (sent_by (address_text sender) e); origin = Direct }
 
-abbrev pub queue_at : Option ℕ → Entry → List Effect
-queue_at None entry = []
-queue_at (Some s) entry = Queue s entry ∷ []
+-- RFC 6120, 8.3: the error is from the address that the stanza was for
+abbrev pub unavailable : Address → Address → Stanza → Entry
+unavailable sender receiver x = entry_for receiver sender (error_element x sender ServiceUnavailable)
 
-abbrev pub delivered : List KeptSession → Address → Option Address → Option Element → List Effect
-delivered sessions sender to None = []
-delivered sessions sender None (Some e) = []
-delivered sessions sender (Some a) (Some e) = queue_at (session_at a sessions) (entry_for sender a e)
+abbrev pub goes_on : Hold → Bool
+goes_on (Held w c) = true
+goes_on Away = true
+goes_on (Ended cause) = false
+goes_on Gone = false
 
-abbrev pub acts : Kept → Stanza → Stage → Verdict
-acts k stanza Empty = only reply.Absent
-acts k stanza Fresh = only reply.Unready
-acts k stanza (Logged u) = only reply.Unready
-acts k stanza (Bound s) = done reply.Done (Acted s stanza ∷ delivered k.sessions (kept_session k s).address (to_in stanza) (headline_in stanza))
+abbrev pub if_it_goes_on : Kept → Option ℕ → Option ℕ
+if_it_goes_on k None = None
+if_it_goes_on k (Some r) = if goes_on (k.world.sessions r).hold then Some r else None
 
--- Pull: the oldest answer, else the next entry
-abbrev pub next_entry : ℕ → List Entry → Verdict
-next_entry s [] = only (reply.Nothing false)
-next_entry s (e ∷ more) = given (Sent s) (frame e)
+abbrev pub live_at : Kept → Address → Option ℕ
+live_at k a = if_it_goes_on k (session_at k a)
 
-abbrev pub entry_at : Kept → Stage → Verdict
-entry_at k Empty = only (reply.Nothing false)
-entry_at k Fresh = only (reply.Nothing false)
-entry_at k (Logged u) = only (reply.Nothing false)
-entry_at k (Bound s) = next_entry s (kept_session k s).waiting
+abbrev pub queue_at : Option ℕ → (s : ℕ) → (entry error : Entry) → List Effect
+queue_at None s entry error = On s (Push error) ∷ []
+queue_at (Some r) s entry error = On r (Push entry) ∷ []
 
-abbrev pub next_frame : Kept → ℕ → Stage → List Answer → Verdict
-next_frame k w stage [] = entry_at k stage
-next_frame k w stage (a ∷ more) = given (Answered w) (answer_text a)
+abbrev pub delivered : Kept → ℕ → Address → Stanza → Option Address → Option Element → List Effect
+delivered k s sender x to None = []
+delivered k s sender x None (Some e) = []
+delivered k s sender x (Some a) (Some e) = queue_at (live_at k a) s (entry_for sender a e) (unavailable sender a x)
 
-abbrev pub pulls : Kept → ℕ → Line → Stage → Verdict
-pulls k w line Empty = only reply.Absent
-pulls k w line Fresh = next_frame k w Fresh line.answers
-pulls k w line (Logged u) = next_frame k w (Logged u) line.answers
-pulls k w line (Bound s) = next_frame k w (Bound s) line.answers
+abbrev pub acts : Kept → ℕ → Stanza → Verdict
+acts k s x = does reply.Done (On s (Act x) ∷ delivered k s (k.world.sessions s).rest.address x (to_in x) (headline_in x))
+
+-- Ack: XEP-0198, 4
+abbrev pub ack_reply : Option KeptTraffic → Cause → Reply
+ack_reply None cause = reply.Over cause
+ack_reply (Some u) cause = reply.Done
+
+abbrev pub acks : Bool → (s h : ℕ) → KeptTraffic → Verdict
+acks false s h t = only reply.Done
+acks true s h t = does (ack_reply (brief.ack t h) (brief.too_high t h)) (On s (Ack h) ∷ [])
+
+-- Ask: XEP-0198, 4. The client asks for the inward count.
+abbrev pub asks : Bool → (w s : ℕ) → KeptTraffic → Verdict
+asks false w s t = only reply.Done
+asks true w s t = does reply.Done (On s Tell ∷ At w (Say (answer.Counted (kept_inward t))) ∷ [])
+
+-- Pull: the oldest answer, else the next entry, else a request for the client's count
+abbrev pub has_come : Option ℕ → ℕ → Bool
+has_come None now = false
+has_come (Some deadline) now = not (nat_lt now deadline)
+
+abbrev pub is_due_by : Hold → Option ℕ → ℕ → Bool
+is_due_by (Ended cause) deadline now = true
+is_due_by hold deadline now = has_come deadline now
+
+abbrev pub is_due : ℕ → Session KeptTraffic → Bool
+is_due now s = is_due_by s.hold s.rest.deadline now
+
+-- the session that a sweep takes away
+abbrev pub due : Kept → Option ℕ
+due k = least k.world.made (λ s. is_due k.head.moment (k.world.sessions s))
+
+abbrev pub nothing : Kept → Verdict
+nothing k = only (reply.Nothing (is_some (due k)))
+
+abbrev pub requests : Bool → Kept → ℕ → Verdict
+requests true k s = gives request_text (On s Request ∷ [])
+requests false k s = nothing k
+
+abbrev pub gives_entry : Option Entry → Kept → ℕ → Session KeptTraffic → Verdict
+gives_entry (Some e) k s x = gives (frame e) (On s Pull ∷ [])
+gives_entry None k s x = requests (x.counts && nat_lt x.traffic.asked_at (kept_sent x.traffic)) k s
+
+abbrev pub pulls_from : Kept → Pass → Verdict
+pulls_from k (Stop v) = v
+pulls_from k (Holds c s) = gives_entry (slice_get (k.world.sessions s).traffic.waiting (k.world.sessions s).traffic.given) k s (k.world.sessions s)
+pulls_from k pass = nothing k
+
+abbrev pub pulls : Kept → ℕ → List Answer → Pass → Verdict
+pulls k w answers (Stop v) = v
+pulls k w [] pass = pulls_from k pass
+pulls k w (a ∷ more) pass = gives (answer_text a) (At w Said ∷ [])
+
+-- DropLine and CloseLine: the connection is gone
+abbrev pub leaves : stage.Line → ℕ → List Effect → Verdict
+leaves Empty w effects = only reply.Absent
+leaves g w effects = does reply.Done (effects ++ At w Leave ∷ [])
+
+-- Sweep: the session of least number that is over or past its deadline departs
+abbrev pub sweeps : Option ℕ → Verdict
+sweeps None = only (reply.Nothing false)
+sweeps (Some s) = does (reply.Swept s) (departs s Lost)
+
+abbrev pub body : Kept → Event → Pass → Verdict
+body k e (Stop v) = v
+body k (event.OpenLine w) Free = opens k w
+body k (event.Login w user) Waits = logs_in w (user_place user k.head.users)
+body k (event.Bind w id resource t dice) (Knows c u) = binds (has_place k (bound_address k u (resource_or dice resource))) k w c (bound_address k u (resource_or dice resource)) id
+body k (event.Enable w wants dice) (Knows c u) = does reply.Done (At w (Say answer.Unexpected) ∷ [])
+body k (event.Enable w wants dice) (Holds c s) = enables (k.world.sessions s).counts w s (id_if wants s dice)
+body k (event.Resume w id h t) (Knows c u) = resumes k w c u id h
+body k (event.Resume w id h t) (Holds c s) = does reply.Done (At w (Say answer.Unexpected) ∷ [])
+body k (event.Act w stanza t) (Holds c s) = acts k s stanza
+body k (event.Ack w h) (Holds c s) = acks (k.world.sessions s).counts s h (k.world.sessions s).traffic
+body k (event.Ask w) (Holds c s) = asks (k.world.sessions s).counts w s (k.world.sessions s).traffic
+body k (event.Pull w t) pass = pulls k w (k.world.lines w).answers pass
+body k (event.DropLine w t) Free = leaves (k.world.lines w).stage w (left k (k.world.lines w).stage)
+body k (event.CloseLine w t) Free = leaves (k.world.lines w).stage w (closed (k.world.lines w).stage)
+body k (event.Sweep w t) Free = sweeps (due k)
+body k e pass = only reply.Unready
 
 abbrev pub verdict : Kept → Event → Verdict
-verdict k (OpenLine w) = opens k w
-verdict k (Login w user) = logs_in k w user (kept_line k w).stage
-verdict k (Bind w id resource t dice) = binds k w id (resource_or dice resource) (kept_line k w).stage
-verdict k (Act w stanza t) = acts k stanza (kept_line k w).stage
-verdict k (Pull w t) = pulls k w (kept_line k w) (kept_line k w).stage
+verdict k e = body k e (gate k e)
+
+-- the last moment of the year 9999, in milliseconds since 1970; a later one counts as this
+abbrev pub last_moment : ℕ
+last_moment = 253402300799999
 
 -- an event with a moment sets `now` to the greater of both, whatever is answered
+abbrev pub later : ℕ → ℕ → ℕ
+later now t = max now (min t last_moment)
+
 abbrev pub moment_of : Event → ℕ → ℕ
-moment_of (OpenLine w) now = now
-moment_of (Login w user) now = now
-moment_of (Bind w id resource t dice) now = max now t
-moment_of (Act w stanza t) now = max now t
-moment_of (Pull w t) now = max now t
+moment_of (event.Bind w id resource t dice) now = later now t
+moment_of (event.Resume w id h t) now = later now t
+moment_of (event.Act w stanza t) now = later now t
+moment_of (event.Pull w t) now = later now t
+moment_of (event.DropLine w t) now = later now t
+moment_of (event.CloseLine w t) now = later now t
+moment_of (event.Sweep w t) now = later now t
+moment_of e now = now
 
-abbrev pub turned : Event → State → State
-turned e st = record st { turns = st.turns + 1; moment = moment_of e st.moment }
+abbrev pub turned : Event → Head → Head
+turned e h = record h { turns = h.turns + 1; moment = moment_of e h.moment }
 
-abbrev pub kept_turned : Event → Kept → Kept
-kept_turned e k = record k { turns = k.turns + 1; moment = moment_of e k.moment }
+abbrev pub turn : {T : Type 0} → Event → House T → House T
+turn e st = record st { head = turned e st.head }
 
--- the state after an event, the reply and the text
-pub record Step : Type 0 where
-  pub state : State
+-- the house after an event, the reply and the text
+pub record Step (T : Type 0) : Type 0 where
+  pub state : House T
   pub reply : Reply
   pub text : List ℕ
 
-abbrev pub concluded : State → Verdict → Step
-concluded st v = record { state = apply_all st v.effects; reply = v.reply; text = v.text }
-
-abbrev pub step : State → Event → Step
-step st e = concluded (turned e st) (verdict (keep (turned e st)) e)
-
--- the same on what is kept
-pub record KeptStep : Type 0 where
-  pub state : Kept
-  pub reply : Reply
-  pub text : List ℕ
-
-abbrev pub kept_concluded : Kept → Verdict → KeptStep
-kept_concluded k v = record { state = kept_all k v.effects; reply = v.reply; text = v.text }
-
-abbrev pub kept_step : Kept → Event → KeptStep
-kept_step k e = kept_concluded (kept_turned e k) (verdict (kept_turned e k) e)
+abbrev pub concluded : {T : Type 0} → Ways T → House T → Verdict → Step T
+concluded z st v = record { state = record st { world = apply_all z st.world v.effects }; reply = v.reply; text = v.text }

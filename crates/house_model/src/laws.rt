@@ -1,11 +1,143 @@
-//! What holds of every history of a house, whatever code keeps it: the contract is the law, and the body is empty.
-ghost use Rattle.std.specs.Prelude.{List};
-ghost use Rattle.house_model.specs.States.{State};
-ghost use Rattle.house_model.specs.Histories.{Turn, IsOpening, Legal};
-ghost use Rattle.house_model.specs.Frames.{AllHear};
+//! What holds of every history of a house, whatever code keeps it: each function's contract is a law, and its body is
+//! empty.
+ghost use Rattle.std.specs.Prelude.{◌≡◌, ℕ, ◌<◌, ◌≤◌, List, [], ◌∷◌, ◌++◌, length, slice_get, Some, Bool, true};
+ghost use Rattle.stanza_tree.specs.Entries.{frame};
+ghost use Rattle.stanza_tree.specs.Spelling.{text};
+ghost use Rattle.stanza_tree.specs.declared.frame.Entry.{Entry};
+ghost use Rattle.stanza_tree.specs.declared.node.Element.{Element};
+ghost use Rattle.jid_core.specs.Addresses.{Address, address_text};
+ghost use Rattle.stanza_model.specs.Stanzas.{to_in};
+ghost use Rattle.stanza_model.specs.declared.condition.Condition.{Condition};
+ghost use Rattle.stanza_model.specs.declared.kinds.Kind.{Kind};
+ghost use Rattle.stanza_model.specs.declared.stanza.Stanza.{Stanza};
+ghost use Rattle.session_table.specs.declared.line.Line.TheVariants.{Bound};
+ghost use Rattle.house_model.specs.declared.event.Event.{Event};
+ghost use Rattle.house_model.specs.declared.event.Event.TheVariants as event;
+ghost use Rattle.house_model.specs.Traffic.{Traffic, whole, brief};
+ghost use Rattle.house_model.specs.States.{World, State, Kept, keep, keep_world};
+ghost use Rattle.house_model.specs.Effects.{Effect, apply_all};
+ghost use Rattle.house_model.specs.Steps.{verdict, turn, headline_in, entry_for, unavailable};
+ghost use Rattle.house_model.specs.Histories.{Turn, step, kept_step, StanzaFits, GivesNoText, after, kept_next_by, openings, Allowed, Legal, IsOpening, StandsFor};
+ghost use Rattle.house_model.specs.Sound.{Sound, Back, Fits};
+ghost use Rattle.house_model.specs.Bridge.{core_of, ops_of, alone_of};
+ghost use Rattle.house_model.specs.Lines.{lines, carried, arrivals, acted, asks};
+ghost use Rattle.house_model.specs.Accounts.{IsAccountOf, handled};
+ghost use Rattle.house_model.specs.Promises.{session_in, counted, Resumption, Safe};
+ghost use Rattle.house_model.specs.Story.{small_house, faulty, whole_story, her_account};
+ghost use Rattle.sm_account.specs.Prefixes.{IsPrefixOf};
+ghost use Rattle.sm_account.specs.Sessions as alone;
+ghost use Rattle.sm_account.specs.Connections.{connections};
+ghost use Rattle.sm_account.specs.Accounts.{Account, IsAccount};
+ghost use Rattle.sm_account.specs.Logs.{AllAre, AreDistinct, latest_first, numbers};
 
-/// The connection that holds a session pulled the answer to its binding, and then the frames of what was queued for the session, up to
-/// the last that is marked as sent, in their order and each once (RFC 6120, 10.1).
-pub fn connections_hear_in_order()
-    ensures { (o : State) (h : List Turn) → IsOpening o → Legal o h → AllHear o h }
+/// What the code keeps is enough to go on: it follows by itself what any list of effects does, and what one event does, with
+/// its reply and the text of its frame. Where it stands for a history, it then stands for that history and one turn more.
+pub fn kept_is_enough()
+    ensures effects { (world : World Traffic) (es : List Effect) → Sound world
+        → keep_world (apply_all whole world es) ≡ apply_all brief (keep_world world) es }
+    ensures step { (st : State) (e : Event) → Sound st.world → keep (step st e).state ≡ (kept_step (keep st) e).state }
+    ensures reply { (st : State) (e : Event) → (step st e).reply ≡ (kept_step (keep st) e).reply }
+    ensures text { (st : State) (e : Event) → (step st e).text ≡ (kept_step (keep st) e).text }
+    ensures history { (o : State) (h : List Turn) (k : Kept) (x : Turn) → StandsFor o h k → Allowed (after o h) x
+        → StandsFor o (h ++ x ∷ []) (kept_next_by k x.event x.outcome) }
+{}
+
+/// After any history a bound line holds its session, and a session that a line holds is bound there; sessions to come are
+/// unmade, and the places of each session's traffic are in order. What each event does fits the lines that it writes.
+pub fn always_sound()
+    ensures sound { (o : State) (h : List Turn) → IsOpening o → Sound (after o h).world }
+    ensures back { (o : State) (h : List Turn) → IsOpening o → Back (after o h).world }
+    ensures fits { (o : State) (h : List Turn) (e : Event) → IsOpening o
+        → Fits (after o h).world (verdict (keep (turn e (after o h))) e).effects }
+{}
+
+/// The house has counted as many events as there were, and as many connections as came. How many lines there are never
+/// changes.
+pub fn numbers_are_the_history()
+    ensures turns { (o : State) (h : List Turn) → IsOpening o → (after o h).head.turns ≡ length h }
+    ensures opened { (o : State) (h : List Turn) → IsOpening o → Legal o h → (after o h).world.opened ≡ openings h }
+    ensures workers { (o : State) (h : List Turn) → (after o h).head.workers ≡ o.head.workers }
+{}
+
+/// No event but a Pull gives the text of a frame.
+pub fn pulls_alone_give_texts()
+    ensures { (st : State) (e : Event) → GivesNoText e → (step st e).text ≡ [] }
+{}
+
+/// A headline message that a stream can bring has an element of at most 196,608 canonical bytes. What it is queued as, and the
+/// error that answers it, have at most 524,288 bytes as frames, where each address has at most 3,071.
+pub fn headlines_are_small()
+    ensures element { (stanza : Stanza) (e : Element) → StanzaFits stanza → headline_in stanza ≡ Some e → length (text e) ≤ 196608 }
+    ensures entry { (stanza : Stanza) (e : Element) (sender a : Address) → StanzaFits stanza → headline_in stanza ≡ Some e
+        → length (address_text sender) ≤ 3071 → length (address_text a) ≤ 3071 → length (frame (entry_for sender a e)) ≤ 524288 }
+    ensures error { (stanza : Stanza) (e : Element) (sender a : Address) → StanzaFits stanza → headline_in stanza ≡ Some e → to_in stanza ≡ Some a
+        → length (address_text sender) ≤ 3071 → length (address_text a) ≤ 3071 → length (frame (unavailable sender a stanza)) ≤ 524288 }
+{}
+
+/// What a client that counts has handled, over all connections of its session, is a prefix of what was queued for it since
+/// stanzas are counted: whatever is sent, cut or resumed, nothing is lost, nothing comes twice, and nothing out of order.
+pub fn handled_is_a_prefix()
+    ensures { (o : State) (h : List Turn) (s : ℕ) (a : Account Stanza) → IsOpening o → Legal o h → IsAccountOf a o h s
+        → IsPrefixOf (handled a o h s) (counted o h s) }
+{}
+
+/// What the house acted on for a session since stanzas are counted is a prefix of what its client has to send: each stanza
+/// is acted on once, in order, and none is left out.
+pub fn acted_once()
+    ensures { (o : State) (h : List Turn) (s : ℕ) (a : Account Stanza) → IsOpening o → Legal o h → IsAccountOf a o h s
+        → IsPrefixOf (acted o h s) a.stanzas }
+{}
+
+/// A session of the house is what its own operations make of it. Its connections are those that the history says held it,
+/// and they differ. Each carried what Pull gave there while stanzas were counted, and had the stanzas arrive whose Act was
+/// Done, or found no memory. Where no answer waits, Pull gives the text of the next entry. What was acted on, and what its
+/// client was told at each Ask, is what the history says. What a client that counts tells of the history, it tells of the
+/// session alone.
+pub fn lines_are_the_history()
+    ensures session { (o : State) (h : List Turn) (s : ℕ) → IsOpening o
+        → core_of (session_in o h s) ≡ (alone_of s o h).core }
+    ensures connections { (o : State) (h : List Turn) (s : ℕ) → IsOpening o → Legal o h → (session_in o h s).counts ≡ true
+        → numbers (connections (alone_of s o h).trace) ≡ latest_first (lines o h s) [] }
+    ensures distinct { (o : State) (h : List Turn) (s : ℕ) → IsOpening o → Legal o h
+        → AreDistinct (latest_first (lines o h s) []) }
+    ensures shares { (o : State) (h : List Turn) (s : ℕ) → IsOpening o → Legal o h
+        → AllAre (carried o h s) (arrivals o h s) (connections (alone_of s o h).trace) }
+    ensures frames { (o : State) (h : List Turn) (w t c s : ℕ) (e : Entry) → IsOpening o
+        → ((after o h).world.lines w).stage ≡ Bound c s → ((after o h).world.lines w).answers ≡ []
+        → slice_get (session_in o h s).traffic.queued (session_in o h s).traffic.sent ≡ Some e
+        → (step (after o h) (event.Pull w t)).text ≡ frame e }
+    ensures asks { (o : State) (h : List Turn) (s : ℕ) → IsOpening o → Legal o h
+        → (alone_of s o h).trace.told ≡ latest_first (asks o h s) [] }
+    ensures acted { (o : State) (h : List Turn) (s : ℕ) → IsOpening o → Legal o h
+        → alone.acted (core_of (session_in o h s)) ≡ acted o h s }
+    ensures account { (o : State) (h : List Turn) (s : ℕ) (a : Account Stanza) → IsOpening o → Legal o h
+        → (session_in o h s).counts ≡ true → IsAccountOf a o h s → IsAccount a (ops_of s o h) }
+{}
+
+/// A Resume in turn is one on a connection that logged in, where fewer than 8 answers wait. It fails with `item-not-found`
+/// exactly where its id can't be read or was given to no session, or that session departed, is another user's, or is over.
+/// Otherwise its count is too high exactly where it stands for no number, and the answer has the server's counts. In every
+/// other case the session is resumed, and what the new connection carries begins at the client's number. A client that
+/// counts, and says how much it handled, is resumed. A session departs by a Sweep where it is over or past its deadline, or
+/// by a Bind of its address, and not otherwise.
+pub fn resumption()
+    ensures { (o : State) (h : List Turn) → IsOpening o → Legal o h → Resumption o h }
+{}
+
+/// Every legal history is safe.
+pub fn safe()
+    ensures { (o : State) (h : List Turn) → IsOpening o → Legal o h → Safe o h }
+{}
+
+/// A client whose connection is lost after the first of its two stanzas was acted on, and that resumes: its history is
+/// legal, and it counts. So what the promises ask for can be met.
+pub fn a_cut_client_counts()
+    ensures starts { IsOpening small_house }
+    ensures legal { (kind : Kind) (answered : Bool) (condition : Condition)
+        → Legal small_house (whole_story (faulty kind answered condition)) }
+    ensures account { (kind : Kind) (answered : Bool) (condition : Condition) (next : Stanza)
+        → IsAccountOf (her_account (faulty kind answered condition) next) small_house
+        (whole_story (faulty kind answered condition)) 1 }
+    ensures acted { (kind : Kind) (answered : Bool) (condition : Condition)
+        → acted small_house (whole_story (faulty kind answered condition)) 1 ≡ faulty kind answered condition ∷ [] }
 {}

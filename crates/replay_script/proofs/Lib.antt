@@ -1,5 +1,6 @@
 mod CharacterLemmas
 mod NumberLemmas
+mod IdLemmas
 mod StanzaLemmas
 mod UserLemmas
 mod NoticeLemmas

@@ -1,7 +1,7 @@
 -- The element of a `note` line is proper, and is the headline message that the line says.
-use Rattle.std.proofs.Common.{◌≡◌, ℕ, ◌<◌, ◌≤◌, List, [], ◌∷◌, length, codes, nat_lt, ◌==◌, not, Bool, true, false, ◌&&◌, Some, Ok, refl, sym, ap, ◌∙◌, subst, inl, arith}
-use Rattle.std.proofs.lemmas.Str.{encodes-chars, IsUtf8-from_is_utf8}
-use Rattle.std.specs.Prelude.{encode_utf8_all, bytes_eq}
+use Rattle.std.proofs.Common.{◌≡◌, ℕ, ◌<◌, ◌≤◌, List, [], ◌∷◌, length, codes, nat_lt, ◌==◌, not, Bool, true, false, ◌&&◌, Some, Ok, refl, sym, subst, inl, arith}
+use Rattle.std.proofs.lemmas.Str.{encodes-chars}
+use Rattle.std.specs.Prelude.{bytes_eq}
 use Rattle.std.specs.List.{list_all, AllByRecursion, IsDistinct}
 use Rattle.std.specs.Char.{is_control}
 use Rattle.std.specs.Str.{IsUtf8, chars, is_utf8}
@@ -9,13 +9,12 @@ use Rattle.stanza_tree.specs.Spelling.{text, client_space}
 use Rattle.stanza_tree.specs.declared.node.Element.{Element}
 use Rattle.stanza_tree.specs.declared.node.Node.{Node}
 use Rattle.stanza_tree.specs.declared.node.Node.TheOpen.{Node-F, Child, Words}
-use Rattle.stanza_tree.specs.declared.node.Node.TheViews.{out-Node, roll-Node, out-roll-Node}
+use Rattle.stanza_tree.specs.declared.node.Node.TheViews.{out-roll-Node}
 use Rattle.stream_lex.specs.Classes as classes
-use Rattle.stream_grammar.specs.Proper.{IsXmlText, IsAttribute, IsElementName, same_name, IsJoined, AreJoined, IsProper, IsProperNode}
+use Rattle.stream_grammar.specs.Proper.{IsXmlText, same_name, IsJoined, AreJoined, IsProper, IsProperNode}
 use Rattle.stream_laws.proofs.ProperMaking.{from-parts, ascii-name, ascii-text}
 use Rattle.jid_core.specs.Addresses.{Address, address_of}
-use Rattle.stanza_model.specs.Stanzas.{stanza_of, address_if}
-use Rattle.stanza_model.specs.declared.stanza.Stanza.{Stanza}
+use Rattle.stanza_model.specs.Stanzas.{stanza_of}
 use Rattle.stanza_model.specs.declared.stanza.Stanza.TheVariants.{Message}
 use Rattle.stanza_model.specs.declared.kinds.MessageForm.TheVariants.{Headline}
 use Rattle.house_model.specs.Histories.{StanzaFits}

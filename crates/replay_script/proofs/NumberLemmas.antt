@@ -24,7 +24,7 @@ parts true b h = (refl, h)
 parts false b h = absurd (cc)
 
 -- nothing, where something would be absurd
-none-is : {X : Type 0} (o : Option X) → ((x : X) → o ≡ Some x → ⊥) → None ≡ o
+pub none-is : {X : Type 0} (o : Option X) → ((x : X) → o ≡ Some x → ⊥) → None ≡ o
 none-is None never = refl
 none-is (Some x) never = absurd (never x refl)
 
@@ -83,7 +83,7 @@ tests-dice bytes h =
     let both = parts (length bytes == 16) (list_all (λ b. nat_lt b 256) bytes) h in
     record { count = eqb-true (length bytes) 16 both.0; bytes = below-all bytes both.1 }
 
-dice-found : (text dice : List ℕ) → AreDigits dice → hexadecimal dice ≡ text → dice_of text ≡ Some dice
+pub dice-found : (text dice : List ℕ) → AreDigits dice → hexadecimal dice ≡ text → dice_of text ≡ Some dice
 unfolding dice_of
 dice-found text dice are is =
     let value : paired text ≡ dice = ap paired (sym is) ∙ paired-hexadecimal dice are.bytes in
@@ -93,7 +93,7 @@ dice-found text dice are is =
     (both (are_dice (paired text)) (bytes_eq (hexadecimal (paired text)) text) fit same)
     ∙ ap Some value
 
-dice-spelt : (text dice : List ℕ) → dice_of text ≡ Some dice → AreDigits dice × (hexadecimal dice ≡ text)
+pub dice-spelt : (text dice : List ℕ) → dice_of text ≡ Some dice → AreDigits dice × (hexadecimal dice ≡ text)
 unfolding dice_of
 dice-spelt text dice h =
     let found = cond_some (are_dice (paired text) && bytes_eq (hexadecimal (paired text)) text) (paired text) dice h in

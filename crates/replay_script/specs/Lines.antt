@@ -1,17 +1,17 @@
 -- What each line of a script is. Its fields are separated by one space.
-use Rattle.std.specs.Prelude.{◌≡◌, ◌≤◌, ⊤, ℕ, ◌==◌, nat_lt, nat_le, Bool, true, not, ◌&&◌, List, [], ◌∷◌, length, codes, bytes_eq, Option, Some, None, Result, Ok, Err, is_some, if◌then◌else◌}
+use Rattle.std.specs.Prelude.{◌≡◌, ◌≤◌, ⊤, ℕ, ◌==◌, nat_lt, nat_le, Bool, true, false, not, ◌&&◌, List, [], ◌∷◌, length, codes, bytes_eq, Option, Some, None, Result, Ok, Err, is_some, if◌then◌else◌}
 use Rattle.std.specs.List.{slice_split, list_all, list_any}
 use Rattle.jid_core.specs.Addresses.{Address, address_of}
 use Rattle.jid_core.specs.Preparation.{is_local, local_of, resource_of}
 use Rattle.jid_core.specs.declared.fault.JidFault.{JidFault}
 use Rattle.house_model.specs.declared.event.Event.{Event}
-use Rattle.house_model.specs.declared.event.Event.TheVariants.{OpenLine, Login, Bind, Act, Pull}
+use Rattle.house_model.specs.declared.event.Event.TheVariants.{OpenLine, Login, Bind, Enable, Resume, Act, Ack, Ask, Pull, DropLine, CloseLine, Sweep}
 use Rattle.house_model.specs.Histories.{Meets}
 use Rattle.replay_script.specs.declared.step.Step.{Step}
 use Rattle.replay_script.specs.declared.step.Step.TheVariants as step
 use Rattle.replay_script.specs.Characters.{is_token}
 use Rattle.replay_script.specs.Notices.{notice_of}
-use Rattle.replay_script.specs.Numbers.{number_of, line_number_of, dice_of, bytes_of}
+use Rattle.replay_script.specs.Numbers.{number_of, line_number_of, count_in, dice_of, id_spelt, bytes_of}
 use Rattle.replay_script.specs.Readings.{on, cut}
 use Rattle.replay_script.specs.Stanzas.{stanza_in}
 
@@ -62,6 +62,50 @@ note_of text =
     cut rest (λ t rest. on (number_of t) (λ t.
     cut rest (λ address words. on (notice_of address words) (λ stanza. Some (Act w stanza t)))))))
 
+-- `enable W yes DICE`, `enable W no DICE`
+abbrev pub yes_of : List ℕ → Option Bool
+yes_of text = if bytes_eq text (codes "yes") then Some true else if bytes_eq text (codes "no") then Some false else None
+
+abbrev pub enable_of : List ℕ → Option Event
+enable_of text =
+    cut text (λ w rest. on (line_number_of w) (λ w.
+    cut rest (λ wants dice. on (yes_of wants) (λ wants. on (dice_of dice) (λ dice. Some (Enable w wants dice))))))
+
+-- `resume W T H TOKEN`: a token that spells no id is taken for none
+abbrev pub resume_of : List ℕ → Option Event
+resume_of text =
+    cut text (λ w rest. on (line_number_of w) (λ w.
+    cut rest (λ t rest. on (number_of t) (λ t.
+    cut rest (λ h token. on (count_in h) (λ h. if is_token token then Some (Resume w (id_spelt token) h t) else None))))))
+
+-- `ack W H`
+abbrev pub ack_of : List ℕ → Option Event
+ack_of text = cut text (λ w h. on (line_number_of w) (λ w. on (count_in h) (λ h. Some (Ack w h))))
+
+-- `ask W`
+abbrev pub ask_of : List ℕ → Option Event
+ask_of text = on (line_number_of text) (λ w. Some (Ask w))
+
+-- `drop W T`, `close W T`, `sweep W T`
+abbrev pub goes_by : List ℕ → ℕ → ℕ → Option Event
+goes_by word w t =
+    if bytes_eq word (codes "drop") then Some (DropLine w t)
+    else if bytes_eq word (codes "close") then Some (CloseLine w t)
+    else if bytes_eq word (codes "sweep") then Some (Sweep w t)
+    else None
+
+abbrev pub going_by : List ℕ → List ℕ → Option Event
+going_by word text = cut text (λ w t. on (line_number_of w) (λ w. on (number_of t) (λ t. goes_by word w t)))
+
+-- a line of stream management (XEP-0198), or of a connection that goes, by its word
+abbrev pub counting_by : List ℕ → List ℕ → Option Event
+counting_by word rest =
+    if bytes_eq word (codes "enable") then enable_of rest
+    else if bytes_eq word (codes "resume") then resume_of rest
+    else if bytes_eq word (codes "ack") then ack_of rest
+    else if bytes_eq word (codes "ask") then ask_of rest
+    else going_by word rest
+
 -- the event of a line, by its word
 abbrev pub event_by : List ℕ → List ℕ → Option Event
 event_by word rest =
@@ -70,7 +114,7 @@ event_by word rest =
     else if bytes_eq word (codes "login") then login_of rest
     else if bytes_eq word (codes "bind") then bind_of rest
     else if bytes_eq word (codes "note") then note_of rest
-    else None
+    else counting_by word rest
 
 -- DOMAIN: an address that is a prepared domain alone, as it is written, of at most 1,017 bytes
 abbrev pub whole : List ℕ → Address → Option Address

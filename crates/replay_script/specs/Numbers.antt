@@ -7,6 +7,9 @@ use Rattle.std.specs.Str.Parse.{digits_value}
 use Rattle.hex.specs.Hex.{decode_of}
 use Rattle.hex.specs.declared.error.FromHexError.{FromHexError}
 use Rattle.sm_resume.specs.Spelling.{hexadecimal}
+use Rattle.sm_resume.specs.declared.id.ResumeId.{ResumeId}
+use Rattle.std.specs.Option.{option_and_then}
+use Rattle.jid_core.specs.Cuts.{before, after}
 
 -- the number below 2^64 that is written so in decimal, without leading zeros
 unfoldable pub number_of : List ℕ → Option ℕ
@@ -21,6 +24,10 @@ below most (Some n) = if nat_lt n most then Some n else None
 abbrev pub line_number_of : List ℕ → Option ℕ
 line_number_of text = below 1024 (number_of text)
 
+-- a count of stanzas, modulo 2^32 (XEP-0198, 4)
+abbrev pub count_in : List ℕ → Option ℕ
+count_in text = below (2 ^ 32) (number_of text)
+
 -- the byte of each two hexadecimal digits, the higher half first
 abbrev pub paired : List ℕ → List ℕ
 paired [] = []
@@ -33,6 +40,16 @@ are_dice bytes = (length bytes == 16) && list_all (λ b. nat_lt b 256) bytes
 -- the sixteen bytes that are written so, as 32 lower-case hexadecimal digits
 unfoldable pub dice_of : List ℕ → Option (List ℕ)
 dice_of text = if are_dice (paired text) && bytes_eq (hexadecimal (paired text)) text then Some (paired text) else None
+
+-- an id by its number and its bytes, where both were read
+abbrev pub id_by : Option ℕ → Option (List ℕ) → Option ResumeId
+id_by None digits = None
+id_by (Some session) None = None
+id_by (Some session) (Some digits) = Some (record { session = session; digits = digits })
+
+-- the id that is written so: its number, a dash (45) and its sixteen bytes
+abbrev pub id_spelt : List ℕ → Option ResumeId
+id_spelt text = option_and_then (λ rest. id_by (number_of (before 45 text)) (dice_of rest)) (after 45 text)
 
 abbrev pub decoded : Result (List ℕ) FromHexError → Option (List ℕ)
 decoded (Ok bytes) = Some bytes

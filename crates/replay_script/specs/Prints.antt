@@ -2,7 +2,9 @@
 use Rattle.std.specs.Prelude.{ℕ, List, [], ◌∷◌, ◌++◌, Bool, true, false, codes}
 use Rattle.std.specs.Fmt.{decimal}
 use Rattle.house_model.specs.declared.reply.Reply.{Reply}
-use Rattle.house_model.specs.declared.reply.Reply.TheVariants.{Opened, Done, Bound, Frame, Nothing, Absent, Unready, NoUser}
+use Rattle.house_model.specs.declared.reply.Reply.TheVariants.{Opened, Done, Bound, Resumed, Frame, Nothing, Swept, Over, Absent, Unready, NoUser}
+use Rattle.sm_resume.specs.declared.decision.Cause.{Cause}
+use Rattle.sm_resume.specs.declared.decision.Cause.TheVariants.{Moved, Replaced, Overfull, TooHigh, Flood, Closed, Lost}
 use Rattle.house_model.specs.Histories.{Outcome, Made, Short}
 use Rattle.stanza_tree.specs.Spelling.{text}
 use Rattle.stream_grammar.specs.declared.FrameFault.{FrameFault}
@@ -21,6 +23,15 @@ abbrev pub nothing_line : Bool → List ℕ
 nothing_line true = line (codes "nothing due")
 nothing_line false = line (codes "nothing")
 
+abbrev pub cause_text : Cause → List ℕ
+cause_text (Moved conn) = codes "moved " ++ decimal conn
+cause_text (Replaced s) = codes "replaced " ++ decimal s
+cause_text (Overfull kept queued) = codes "overfull " ++ (decimal kept ++ (codes " " ++ decimal queued))
+cause_text (TooHigh h kept sent) = codes "toohigh " ++ (decimal h ++ (codes " " ++ (decimal kept ++ (codes " " ++ decimal sent))))
+cause_text (Flood answers) = codes "flood " ++ decimal answers
+cause_text Closed = codes "closed"
+cause_text Lost = codes "lost"
+
 abbrev pub print_of : Reply → List ℕ → List ℕ
 print_of (Opened n) text = line (codes "opened " ++ decimal n)
 print_of Done text = line (codes "done")
@@ -30,6 +41,9 @@ print_of (Nothing due) text = nothing_line due
 print_of Absent text = line (codes "absent")
 print_of Unready text = line (codes "unready")
 print_of NoUser text = line (codes "no user")
+print_of Resumed text = line (codes "resumed")
+print_of (Swept s) text = line (codes "swept " ++ decimal s)
+print_of (Over cause) text = line (codes "over " ++ cause_text cause)
 
 -- a turn without memory prints nothing
 abbrev pub print_outcome : Outcome → List ℕ

@@ -3,8 +3,7 @@ use Rattle.std.specs.Prelude.{◌≡◌, ℕ, ◌+◌, ◌<◌, ◌≤◌, ◌==
 use Rattle.jid_core.specs.Addresses.{Address}
 use Rattle.jid_core.specs.Cuts.{before}
 use Rattle.house_model.specs.declared.event.Event.{Event}
-use Rattle.house_model.specs.States.{State, opening}
-use Rattle.house_model.specs.Keeping.{keep}
+use Rattle.house_model.specs.States.{State, keep, opening}
 use Rattle.house_model.specs.Plain.{is_plain}
 use Rattle.house_model.specs.Histories.{after, line_of, IsOpening, Legal}
 use Rattle.replay_script.specs.declared.step.Step.{Step}
@@ -69,15 +68,15 @@ pub record IsPlayed (lines : List (List ℕ)) (o : State) (ds : List Deed) : Typ
 
 -- the event may come in this state: its line is there, and every case that it reaches is built
 pub record IsPossible (st : State) (e : Event) : Type 0 where
-  pub line : line_of e < st.workers
+  pub line : line_of e < st.head.workers
   pub plain : is_plain (keep st) e ≡ true
 
--- the step may come there; nothing is built of a stanza that is no headline message
+-- the step may come there
 abbrev pub MayCome : State → Step → Type 0
 MayCome st (step.Begin domain users workers) = ⊥
 MayCome st (step.Event e) = IsPossible st e
-MayCome st (step.Feed w bytes) = w < st.workers
-MayCome st (step.Fresh w) = w < st.workers
+MayCome st (step.Feed w bytes) = w < st.head.workers
+MayCome st (step.Fresh w) = w < st.head.workers
 
 -- the line is no first line, or no later one after these
 abbrev pub IsOutside : List (List ℕ) → State → List Deed → List ℕ → Type 0

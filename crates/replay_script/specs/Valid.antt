@@ -1,7 +1,7 @@
 -- Scripts that can be played from the first line to the last.
 use Rattle.std.specs.Prelude.{◌≡◌, ℕ, ◌+◌, List, [], ◌∷◌, length, Some, ⊤}
 use Rattle.house_model.specs.States.{State}
-use Rattle.house_model.specs.Steps as house
+use Rattle.house_model.specs.Histories as house
 use Rattle.replay_script.specs.declared.step.Step.{Step}
 use Rattle.replay_script.specs.declared.step.Step.TheVariants as step
 use Rattle.replay_script.specs.Scripts.{Makes, IsWithin, MayCome, lines_of, text_of, step_in}

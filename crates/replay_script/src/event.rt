@@ -2,13 +2,13 @@
 ghost use Rattle.std.specs.Prelude.{◌≡◌, IfOk, IfSome, IsTrue};
 ghost use Rattle.jid_core.specs.Preparation.{is_local};
 ghost use Rattle.house_model.specs.Histories.{IdFits, Meets};
-ghost use Rattle.replay_script.specs.Lines.{open_of, pull_of, user_of, login_of, id_of, resource_in, bind_of, note_of, event_by};
+ghost use Rattle.replay_script.specs.Lines.{open_of, pull_of, user_of, login_of, id_of, resource_in, bind_of, note_of, yes_of, enable_of, resume_of, ack_of, going_by, counting_by, event_by};
 ghost use Rattle.replay_script.specs.Readings.{Gives};
 
 use crate::fault::LineFault;
 use crate::fields::{first_field, is_token};
 use crate::notice::read_notice;
-use crate::numbers::{read_decimal, read_dice, read_line_number};
+use crate::numbers::{read_count, read_decimal, read_dice, read_line_number, read_resume_id};
 use house_model::Event;
 use jid_core::Part;
 use stanza_tree::Text;
@@ -37,7 +37,99 @@ pub(crate) fn read_event(alloc: Global, word: &[u8], rest: &[u8]) -> Result<Even
     if word == b"note".as_slice() {
         return read_note(alloc, rest);
     }
-    Err(LineFault::Bad)
+    read_counting(word, rest).ok_or(LineFault::Bad)
+}
+
+/// The event of a line of stream management (XEP-0198), or of a connection that goes.
+fn read_counting(word: &[u8], rest: &[u8]) -> Option<Event>
+    ensures read { result ≡ counting_by word.now rest.now }
+    ensures meets { IfSome result Meets }
+{
+    if word == b"enable".as_slice() {
+        return read_enable(rest);
+    }
+    if word == b"resume".as_slice() {
+        return read_resume(rest);
+    }
+    if word == b"ack".as_slice() {
+        return read_ack(rest);
+    }
+    if word == b"ask".as_slice() {
+        let w = read_line_number(rest)?;
+        return Some(Event::Ask { w });
+    }
+    read_going(word, rest)
+}
+
+fn read_going(word: &[u8], rest: &[u8]) -> Option<Event>
+    ensures read { result ≡ going_by word.now rest.now }
+    ensures meets { IfSome result Meets }
+{
+    let (w, t) = first_field(rest)?;
+    let w = read_line_number(w)?;
+    let t = read_decimal(t)?;
+    if word == b"drop".as_slice() {
+        return Some(Event::DropLine { w, t });
+    }
+    if word == b"close".as_slice() {
+        return Some(Event::CloseLine { w, t });
+    }
+    if word == b"sweep".as_slice() {
+        return Some(Event::Sweep { w, t });
+    }
+    None
+}
+
+/// Whether a session that is enabled is to be resumed: `yes` or `no`.
+fn read_yes(field: &[u8]) -> Option<bool>
+    ensures { result ≡ yes_of field.now }
+{
+    if field == b"yes".as_slice() {
+        Some(true)
+    } else if field == b"no".as_slice() {
+        Some(false)
+    } else {
+        None
+    }
+}
+
+fn read_enable(rest: &[u8]) -> Option<Event>
+    ensures read { result ≡ enable_of rest.now }
+    ensures meets { IfSome result Meets }
+{
+    let (w, rest) = first_field(rest)?;
+    let w = read_line_number(w)?;
+    let (resume, dice) = first_field(rest)?;
+    let resume = read_yes(resume)?;
+    let dice = read_dice(dice)?;
+    Some(Event::Enable { w, resume, dice })
+}
+
+fn read_resume(rest: &[u8]) -> Option<Event>
+    ensures read { result ≡ resume_of rest.now }
+    ensures meets { IfSome result Meets }
+{
+    let (w, rest) = first_field(rest)?;
+    let w = read_line_number(w)?;
+    let (t, rest) = first_field(rest)?;
+    let t = read_decimal(t)?;
+    let (h, token) = first_field(rest)?;
+    let h = read_count(h)?;
+    if !is_token(token) {
+        return None;
+    }
+    let id = read_resume_id(token);
+    Some(Event::Resume { w, id, h, t })
+}
+
+fn read_ack(rest: &[u8]) -> Option<Event>
+    ensures read { result ≡ ack_of rest.now }
+    ensures meets { IfSome result Meets }
+{
+    let (w, h) = first_field(rest)?;
+    let w = read_line_number(w)?;
+    let h = read_count(h)?;
+    Some(Event::Ack { w, h })
 }
 
 fn read_open(rest: &[u8]) -> Option<Event>

@@ -1,13 +1,13 @@
-//! Numbers, dice and bytes, as a script writes them.
+//! Numbers, dice, ids and bytes, as a script writes them.
 ghost use Rattle.std.specs.Prelude.{◌≡◌, IfSome, ◌<◌};
 ghost use Rattle.std.specs.Char.{is_ascii_uppercase};
 ghost use Rattle.std.specs.List.{list_any};
-ghost use Rattle.replay_script.specs.Numbers.{number_of, line_number_of, dice_of, may_be_bytes, bytes_of};
+ghost use Rattle.replay_script.specs.Numbers.{number_of, line_number_of, count_in, dice_of, id_spelt, may_be_bytes, bytes_of};
 ghost use Rattle.replay_script.specs.Readings.{Gives};
 
 use crate::fault::LineFault;
 use hex::FromHexError;
-use sm_resume::{read_digits, read_number};
+use sm_resume::{ResumeId, read_digits, read_number};
 use stanza_tree::Several;
 use std::alloc::Global;
 
@@ -33,11 +33,25 @@ pub(crate) fn read_line_number(field: &[u8]) -> Option<u32>
     }
 }
 
+/// A count of stanzas, below 2^32.
+pub(crate) fn read_count(field: &[u8]) -> Option<u32>
+    ensures { result ≡ count_in field.now }
+{
+    u32::try_from(read_decimal(field)?).ok()
+}
+
 /// Sixteen bytes as 32 lower-case hexadecimal digits.
 pub(crate) fn read_dice(field: &[u8]) -> Option<[u8; 16]>
     ensures { result ≡ dice_of field.now }
 {
     read_digits(field)
+}
+
+/// The id of a session that a token spells, or None where it spells none.
+pub(crate) fn read_resume_id(token: &[u8]) -> Option<ResumeId>
+    ensures { result ≡ id_spelt token.now }
+{
+    ResumeId::read(token)
 }
 
 fn has_upper(field: &[u8]) -> bool

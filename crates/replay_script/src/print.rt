@@ -1,9 +1,10 @@
 //! What is printed of a reply, and of an item of a stream.
 ghost use Rattle.std.specs.Prelude.{◌≡◌, ◌++◌, OnOk, OnErr, codes};
 ghost use Rattle.stanza_tree.specs.Spelling.{text};
-ghost use Rattle.replay_script.specs.Prints.{print_of, frame_line, line, fault_number, print_item};
+ghost use Rattle.replay_script.specs.Prints.{print_of, cause_text, frame_line, line, fault_number, print_item};
 
 use house_model::Reply;
+use sm_resume::Cause;
 use stanza_tree::{Element, NoMemory, write};
 use std::alloc::Global;
 use stream_frames::{FrameFault, Item};
@@ -27,7 +28,37 @@ pub fn print_reply(reply: &Reply, frame: &[u8], out: &mut Vec<u8>) -> Result<(),
         Reply::Absent => out.extend_from_slice(b"absent\n"),
         Reply::Unready => out.extend_from_slice(b"unready\n"),
         Reply::NoUser => out.extend_from_slice(b"no user\n"),
+        Reply::Resumed => out.extend_from_slice(b"resumed\n"),
+        Reply::Swept(number) => {
+            let alloc: Global = *out.allocator();
+            let line = format!(in alloc; "swept {}\n", number)?;
+            out.extend_from_slice(line.as_bytes())
+        }
+        Reply::Over(cause) => print_over(cause, out),
     }
+}
+
+/// Appends the line of a connection that is over.
+fn print_over(cause: Cause, out: &mut Vec<u8>) -> Result<(), NoMemory>
+    ensures ok { OnOk result (out.new.items ≡ out.old.items ++ line (codes "over " ++ cause_text cause)) }
+    ensures err { OnErr result (out.new.items ≡ out.old.items) }
+{
+    let alloc: Global = *out.allocator();
+    let line = match cause {
+        Cause::Moved(conn) => format!(in alloc; "over moved {}\n", conn)?,
+        Cause::Replaced(session) => format!(in alloc; "over replaced {}\n", session)?,
+        Cause::Overfull { kept, queued } => format!(in alloc;
+            "over overfull {} {}\n",
+            kept, queued
+        )?,
+        Cause::TooHigh { h, kept, sent } => {
+            format!(in alloc; "over toohigh {} {} {}\n", h, kept, sent)?
+        }
+        Cause::Flood(answers) => format!(in alloc; "over flood {}\n", answers)?,
+        Cause::Closed => format!(in alloc; "over closed\n")?,
+        Cause::Lost => format!(in alloc; "over lost\n")?,
+    };
+    out.extend_from_slice(line.as_bytes())
 }
 
 fn print_frame(text: &[u8], out: &mut Vec<u8>) -> Result<(), NoMemory>

@@ -13,7 +13,8 @@ use crate::step::Step;
 use std::alloc::Global;
 
 /// The step of a line, which has no line feed: `house DOMAIN USER,USER WORKERS`, `open W`, `login W USER`,
-/// `bind W T DICE ID RESOURCE`, `note W T ADDRESS WORDS`, `pull W T`, `stanza W T XML`, `feed W HEX` or `fresh W`. Costs the line,
+/// `bind W T DICE ID RESOURCE`, `enable W yes DICE`, `enable W no DICE`, `resume W T H TOKEN`, `note W T ADDRESS WORDS`,
+/// `stanza W T XML`, `ack W H`, `ask W`, `pull W T`, `drop W T`, `close W T`, `sweep W T`, `feed W HEX` or `fresh W`. Costs the line,
 /// of a `house` line the square of its users, and of a `stanza` line the square of the attributes of each tag.
 pub fn read_line(alloc: Global, line: &[u8]) -> Result<Step, LineFault>
     ensures read { Gives (step_of line.now) result }

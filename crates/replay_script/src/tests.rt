@@ -1,7 +1,8 @@
 //! Lines and prints by hand.
 
 use super::*;
-use house_model::Reply;
+use house_model::{Event, Reply};
+use sm_resume::Cause;
 use stanza_tree::{Element, Text};
 use std::alloc::Global;
 use std::process::Abort;
@@ -59,6 +60,93 @@ fn lines_are_read(rt: HostRuntime) {
     for (line, want) in LINES {
         let step = read_line(rt.alloc(), line);
         assert!(rt; word_of(&step) == want, "{line:?}");
+    }
+}
+
+// What a line of stream management, or of a connection that goes, says: its word and its numbers.
+fn told(event: &Event) -> (&[u8], [u64; 4]) {
+    match event {
+        Event::Enable { w, resume, dice } => {
+            (b"enable", [*w as u64, *resume as u64, dice[1] as u64, 0])
+        }
+        Event::Resume { w, id, h, t } => match id {
+            Some(id) => (b"resume", [*w as u64, *t, *h as u64, id.session]),
+            None => (b"resume none", [*w as u64, *t, *h as u64, 0]),
+        },
+        Event::Ack { w, h } => (b"ack", [*w as u64, *h as u64, 0, 0]),
+        Event::Ask { w } => (b"ask", [*w as u64, 0, 0, 0]),
+        Event::DropLine { w, t } => (b"drop", [*w as u64, *t, 0, 0]),
+        Event::CloseLine { w, t } => (b"close", [*w as u64, *t, 0, 0]),
+        Event::Sweep { w, t } => (b"sweep", [*w as u64, *t, 0, 0]),
+        _ => (b"", [0; 4]),
+    }
+}
+
+fn told_by(step: &Result<Step, LineFault>) -> (&[u8], [u64; 4]) {
+    match step {
+        Ok(Step::Event(event)) => told(event),
+        _ => (b"bad", [0; 4]),
+    }
+}
+
+const COUNTED_LINES: [(&[u8], &[u8], [u64; 4]); 17] = [
+    (
+        b"enable 0 yes 000102030405060708090a0b0c0d0e0f",
+        b"enable",
+        [0, 1, 1, 0],
+    ),
+    (
+        b"enable 1023 no ffeeddccbbaa99887766554433221100",
+        b"enable",
+        [1023, 0, 238, 0],
+    ),
+    (
+        b"enable 0 maybe 000102030405060708090a0b0c0d0e0f",
+        b"bad",
+        [0; 4],
+    ),
+    (
+        b"enable 0 yes 000102030405060708090a0b0c0d0e",
+        b"bad",
+        [0; 4],
+    ),
+    (
+        b"resume 0 1000 4294967295 1-000102030405060708090a0b0c0d0e0f",
+        b"resume",
+        [0, 1000, 4_294_967_295, 1],
+    ),
+    (
+        b"resume 0 1000 4294967296 1-000102030405060708090a0b0c0d0e0f",
+        b"bad",
+        [0; 4],
+    ),
+    (
+        b"resume 3 1000 5 01-000102030405060708090a0b0c0d0e0f",
+        b"resume none",
+        [3, 1000, 5, 0],
+    ),
+    (b"resume 3 1000 5 no id", b"bad", [0; 4]),
+    (b"ack 0 7", b"ack", [0, 7, 0, 0]),
+    (b"ack 0 007", b"bad", [0; 4]),
+    (b"ask 9", b"ask", [9, 0, 0, 0]),
+    (b"ask 0 0", b"bad", [0; 4]),
+    (b"drop 0 5", b"drop", [0, 5, 0, 0]),
+    (b"close 0 5", b"close", [0, 5, 0, 0]),
+    (
+        b"sweep 0 18446744073709551615",
+        b"sweep",
+        [0, u64::MAX, 0, 0],
+    ),
+    (b"sweep 0 18446744073709551616", b"bad", [0; 4]),
+    (b"leave 0 5", b"bad", [0; 4]),
+];
+
+#[test]
+fn counted_lines_are_read(rt: HostRuntime) {
+    for (line, word, numbers) in COUNTED_LINES {
+        let step = read_line(rt.alloc(), line);
+        let (is_word, are_numbers) = told_by(&step);
+        assert!(rt; is_word == word && are_numbers == numbers, "{line:?}");
     }
 }
 
@@ -145,7 +233,7 @@ fn stanzas_are_read(rt: HostRuntime) {
     }
 }
 
-const PRINTS: [(Reply, &[u8]); 9] = [
+const PRINTS: [(Reply, &[u8]); 18] = [
     (Reply::Opened(17), b"opened 17\n"),
     (Reply::Done, b"done\n"),
     (Reply::Bound, b"bound\n"),
@@ -155,6 +243,25 @@ const PRINTS: [(Reply, &[u8]); 9] = [
     (Reply::Absent, b"absent\n"),
     (Reply::Unready, b"unready\n"),
     (Reply::NoUser, b"no user\n"),
+    (Reply::Resumed, b"resumed\n"),
+    (Reply::Swept(3), b"swept 3\n"),
+    (Reply::Over(Cause::Moved(3)), b"over moved 3\n"),
+    (Reply::Over(Cause::Replaced(4)), b"over replaced 4\n"),
+    (
+        Reply::Over(Cause::Overfull { kept: 1, queued: 2 }),
+        b"over overfull 1 2\n",
+    ),
+    (
+        Reply::Over(Cause::TooHigh {
+            h: 5,
+            kept: 6,
+            sent: 7,
+        }),
+        b"over toohigh 5 6 7\n",
+    ),
+    (Reply::Over(Cause::Flood(8)), b"over flood 8\n"),
+    (Reply::Over(Cause::Closed), b"over closed\n"),
+    (Reply::Over(Cause::Lost), b"over lost\n"),
 ];
 
 #[test]

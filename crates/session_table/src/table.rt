@@ -192,6 +192,13 @@ impl Table {
         self.lines[w as usize] = Line::Empty;
     }
 
+    /// How many sessions were made.
+    pub fn made(&self) -> u64
+        ensures { result ≡ self.now.made }
+    {
+        self.made
+    }
+
     /// How many connections were opened.
     pub fn opened(&self) -> u64
         ensures { result ≡ self.now.opened }

@@ -3,12 +3,12 @@ use Rattle.std.proofs.Common.{◌≡◌, ℕ, suc, ◌+◌, ◌^◌, ◌<◌, �
 use Rattle.std.specs.Prelude.{map, Option, Some, None}
 use Rattle.std.proofs.lemmas.List.{map-append}
 use Rattle.std.proofs.lemmas.Grind.{flat_map-append}
-use Rattle.house_model.specs.States.{State, nowhere, opening}
-use Rattle.house_model.specs.Keeping.{Kept}
+use Rattle.house_model.specs.Sessions.{nobody}
+use Rattle.house_model.specs.States.{State, Kept, opening}
 use Rattle.house_model.specs.Plain.{is_plain}
-use Rattle.house_model.specs.Histories.{Turn, after, StandsFor}
-use Rattle.house_model.proofs.HearLaws.{all-hear}
-use Rattle.house_model.proofs.Turns.{turns-counted, lines-kept}
+use Rattle.house_model.specs.Histories.{Turn, next, after, StandsFor}
+use Rattle.house_model.proofs.SafeLaws.{safe}
+use Rattle.house_model.proofs.Turns.{turns-counted, workers-kept}
 use Rattle.replay_script.specs.declared.step.Step.{Step}
 use Rattle.replay_script.specs.declared.step.Step.TheVariants as step
 use Rattle.replay_script.specs.Lines.{step_of}
@@ -31,9 +31,11 @@ spells-push (first ∷ more) o ds line d some spelt is = (
       ∙ sym (map-append step_at ds (d ∷ [])),
 )
 
-done-push : (o : State) (ds : List Deed) (d : Deed) → AreDone o ds → IsDone o d → AreDone o (ds ++ d ∷ [])
+done-push : (o : State) (ds : List Deed) (d : Deed) → AreDone o ds → IsDone (after o (turns_of ds)) d → AreDone o (ds ++ d ∷ [])
 done-push o [] d all one = (one, tt)
-done-push o (e ∷ ds) d all one = (all.0, done-push o ds d all.1 one)
+done-push o (Turned x ∷ ds) d all one = (all.0, done-push (next o x) ds d all.1 one)
+done-push o (Fed w bytes ∷ ds) d all one = (all.0, done-push o ds d all.1 one)
+done-push o (Renewed w ∷ ds) d all one = (all.0, done-push o ds d all.1 one)
 
 turns-push : (ds : List Deed) (d : Deed) → turns_of (ds ++ d ∷ []) ≡ turns_of ds ++ turn_in d
 turns-push ds d = flat_map-append turn_in ds (d ∷ []) ∙ ap (λ (h : List Turn). turns_of ds ++ h) (append-nil (turn_in d))
@@ -79,12 +81,12 @@ along-on left coming coming_now given given_now house house_now framers framers_
       (next.0, (next.1.0, old.1.1 ∙ ap (λ more. lines ++ more) next.1.1 ∙ sym (append_assoc lines (t.line ∷ []) (lines_of next.0))));
 }
 
-pub turns-few : (left coming took took_now : Option (List ℕ)) (given : ℕ) (house : Kept) (framers : Framers) (number : ℕ) → Going left coming took took_now given house framers number → house.turns < 2 ^ 63
+pub turns-few : (left coming took took_now : Option (List ℕ)) (given : ℕ) (house : Kept) (framers : Framers) (number : ℕ) → Going left coming took took_now given house framers number → house.head.turns < 2 ^ 63
 turns-few left coming took took_now given house framers number g =
     let a = g.along in
     let counted = turns-counted g.start (turns_of g.deeds) house a.stands in
     let few = length-spelt g.lines g.start g.deeds a.spelt in
-    less house.turns (length (turns_of g.deeds)) (length g.lines) given counted few a.each a.most
+    less house.head.turns (length (turns_of g.deeds)) (length g.lines) given counted few a.each a.most
   where
     length-map : {X Y : Type 0} (f : X → Y) (xs : List X) → length (map f xs) ≡ length xs
     length-map f [] = refl
@@ -147,7 +149,7 @@ stop-done left coming held left_now took now given house framers number g ends =
   start = g.start;
   deeds = g.deeds;
   played = played left coming given house framers number g.lines g.start g.deeds g.along;
-  heard = all-hear g.start (turns_of g.deeds) g.along.stands.starts g.along.stands.legal;
+  safe = safe g.start (turns_of g.deeds) g.along.stands.starts g.along.stands.legal;
   number = tt;
   read = λ all told.
       let old = g.along.read all told in
@@ -165,7 +167,7 @@ stop-taking left coming left_now took now given house framers number (status.Scr
   start = g.start;
   deeds = g.deeds;
   played = played left coming given house framers number g.lines g.start g.deeds g.along;
-  heard = all-hear g.start (turns_of g.deeds) g.along.stands.starts g.along.stands.legal;
+  safe = safe g.start (turns_of g.deeds) g.along.stands.starts g.along.stands.legal;
   number = stop.0 ∙ g.along.count;
   read = λ all told.
       let old = g.along.read all told in
@@ -178,7 +180,7 @@ stop-taking left coming left_now took now given house framers number status.Read
   start = g.start;
   deeds = g.deeds;
   played = played left coming given house framers number g.lines g.start g.deeds g.along;
-  heard = all-hear g.start (turns_of g.deeds) g.along.stands.starts g.along.stands.legal;
+  safe = safe g.start (turns_of g.deeds) g.along.stands.starts g.along.stands.legal;
   number = tt;
   read = λ all told. let old = g.along.read all told in (lines_of old.0, (old.1.1, tt));
   written = g.written;
@@ -189,7 +191,7 @@ stop-taking left coming left_now took now given house framers number status.NoMe
   start = g.start;
   deeds = g.deeds;
   played = played left coming given house framers number g.lines g.start g.deeds g.along;
-  heard = all-hear g.start (turns_of g.deeds) g.along.stands.starts g.along.stands.legal;
+  safe = safe g.start (turns_of g.deeds) g.along.stands.starts g.along.stands.legal;
   number = tt;
   read = λ all told. let old = g.along.read all told in (lines_of old.0, (old.1.1, tt));
   written = g.written;
@@ -206,9 +208,9 @@ outside-later (first ∷ more) o ds line some never = never
 -- what may come by the machine may come by what is kept
 may-come : (o : State) (h : List Turn) (house : Kept) (s : Step) → StandsFor o h house → MayCome (after o h) s → MayComeHere house s
 may-come o h house (step.Begin domain users workers) stands may = may
-may-come o h house (step.Event e) stands may = (omega (arith, may.line, lines-kept o h house stands), ap (λ (k : Kept). is_plain k e) stands.kept ∙ may.plain)
-may-come o h house (step.Feed w bytes) stands may = omega (arith, may, lines-kept o h house stands)
-may-come o h house (step.Fresh w) stands may = omega (arith, may, lines-kept o h house stands)
+may-come o h house (step.Event e) stands may = (omega (arith, may.line, workers-kept o h house stands), ap (λ (k : Kept). is_plain k e) stands.kept ∙ may.plain)
+may-come o h house (step.Feed w bytes) stands may = omega (arith, may, workers-kept o h house stands)
+may-come o h house (step.Fresh w) stands may = omega (arith, may, workers-kept o h house stands)
 
 -- the line can't be played
 pub stop-bad : (left coming coming_now left_now took now : Option (List ℕ)) (given given_now : ℕ) (house : Kept) (framers : Framers) (number : ℕ) (text : List ℕ)
@@ -220,7 +222,7 @@ stop-bad left coming coming_now left_now took now given given_now house framers 
   start = g.start;
   deeds = g.deeds;
   played = played left coming given house framers number g.lines g.start g.deeds g.along;
-  heard = all-hear g.start (turns_of g.deeds) g.along.stands.starts g.along.stands.legal;
+  safe = safe g.start (turns_of g.deeds) g.along.stands.starts g.along.stands.legal;
   number = g.along.count;
   read = λ all told.
       let old = g.along.read all told in
@@ -273,9 +275,9 @@ stop-writing left coming coming_now left_now took before now given given_now hou
   deeds = g.deeds ++ p.plays.deed ∷ [];
   played = played left coming_now given_now house_now framers_now (number + 1) (g.lines ++ t.line ∷ []) g.start (g.deeds ++ p.plays.deed ∷ [])
       (along-on left coming coming_now given given_now house house_now framers framers_now number text out g.lines g.start g.deeds g.along t p);
-  heard =
+  safe =
       let next = along-on left coming coming_now given given_now house house_now framers framers_now number text out g.lines g.start g.deeds g.along t p in
-      all-hear g.start (turns_of (g.deeds ++ p.plays.deed ∷ [])) next.stands.starts next.stands.legal;
+      safe g.start (turns_of (g.deeds ++ p.plays.deed ∷ [])) next.stands.starts next.stands.legal;
   number = tt;
   read = λ all told.
       let old = (along-on left coming coming_now given given_now house house_now framers framers_now number text out g.lines g.start g.deeds g.along t p).read all told in
@@ -291,8 +293,8 @@ unread-nil : (o : Option (List ℕ)) → unread [] o ≡ o
 unread-nil None = refl
 unread-nil (Some left) = refl
 
-none-played : IsPlayed [] (opening nowhere [] 0) []
-none-played = record { starts = (nowhere, [], 0, refl); legal = tt; spelt = refl; done = tt; within = tt }
+none-played : IsPlayed [] (opening nobody [] 0) []
+none-played = record { starts = (nobody, [], 0, refl); legal = tt; spelt = refl; done = tt; within = tt }
 
 none-written : (took : Option (List ℕ)) (taken : List ℕ) → took ≡ Some taken → took ≡ Some (taken ++ [])
 none-written took taken told = told ∙ ap Some (sym (append-nil taken))
@@ -300,10 +302,10 @@ none-written took taken told = told ∙ ap Some (sym (append-nil taken))
 pub first-done : (left left_now took : Option (List ℕ)) (held : List ℕ) → Ends (unread [] left) (unread held left_now) → Replayed left left_now took took status.Done
 first-done left left_now took held ends = record {
   lines = [];
-  start = opening nowhere [] 0;
+  start = opening nobody [] 0;
   deeds = [];
   played = none-played;
-  heard = all-hear (opening nowhere [] 0) [] none-played.starts none-played.legal;
+  safe = safe (opening nobody [] 0) [] none-played.starts none-played.legal;
   number = tt;
   read = λ all told.
       let end = ends all (unread-nil left ∙ told) in
@@ -315,10 +317,10 @@ pub first-taking : (left left_now took : Option (List ℕ)) (s : Status) → Sto
 first-taking left left_now took status.Done stop = absurd stop
 first-taking left left_now took (status.Script n) stop = record {
   lines = [];
-  start = opening nowhere [] 0;
+  start = opening nobody [] 0;
   deeds = [];
   played = none-played;
-  heard = all-hear (opening nowhere [] 0) [] none-played.starts none-played.legal;
+  safe = safe (opening nobody [] 0) [] none-played.starts none-played.legal;
   number = stop.0;
   read = λ all told.
       let passes = stop.1 all (unread-nil left ∙ told) in
@@ -327,10 +329,10 @@ first-taking left left_now took (status.Script n) stop = record {
 }
 first-taking left left_now took status.ReadFault stop = record {
   lines = [];
-  start = opening nowhere [] 0;
+  start = opening nobody [] 0;
   deeds = [];
   played = none-played;
-  heard = all-hear (opening nowhere [] 0) [] none-played.starts none-played.legal;
+  safe = safe (opening nobody [] 0) [] none-played.starts none-played.legal;
   number = tt;
   read = λ all told. (lines_of all, (refl, tt));
   written = none-written took;
@@ -338,10 +340,10 @@ first-taking left left_now took status.ReadFault stop = record {
 first-taking left left_now took status.WriteFault stop = absurd stop
 first-taking left left_now took status.NoMemory stop = record {
   lines = [];
-  start = opening nowhere [] 0;
+  start = opening nobody [] 0;
   deeds = [];
   played = none-played;
-  heard = all-hear (opening nowhere [] 0) [] none-played.starts none-played.legal;
+  safe = safe (opening nobody [] 0) [] none-played.starts none-played.legal;
   number = tt;
   read = λ all told. (lines_of all, (refl, tt));
   written = none-written took;
@@ -354,10 +356,10 @@ pub first-bad : (left coming_now left_now took : Option (List ℕ)) (given_now :
     → ((o : State) → Makes text o → ⊥) → Replayed left left_now took took (status.Script 1)
 first-bad left coming_now left_now took given_now text t never = record {
   lines = [];
-  start = opening nowhere [] 0;
+  start = opening nobody [] 0;
   deeds = [];
   played = none-played;
-  heard = all-hear (opening nowhere [] 0) [] none-played.starts none-played.legal;
+  safe = safe (opening nobody [] 0) [] none-played.starts none-played.legal;
   number = refl;
   read = λ all told.
       let first = t.first all (unread-nil left ∙ told) in

@@ -5,8 +5,7 @@ use Rattle.std.proofs.lemmas.List.{get_or-set_same, get_or-set_other}
 use Rattle.std.proofs.lemmas.Grind.{flat_map-append}
 use Rattle.std.specs.Prelude.{Option, Some, None, if◌then◌else◌, option_to_list}
 use Rattle.house_model.specs.Histories.{Turn, StandsFor}
-use Rattle.house_model.specs.Keeping.{Kept}
-use Rattle.house_model.specs.States.{State}
+use Rattle.house_model.specs.States.{State, Kept}
 use Rattle.stream_grammar.specs.declared.item.Item.{Item}
 use Rattle.stream_grammar.specs.declared.item.Limits.{Limits}
 use Rattle.stream_grammar.specs.Reading.{Reading, reads, stopped, first_reading, reading_next, reading_after, handed, is_ready, is_none, is_done, taken, went, waiting}

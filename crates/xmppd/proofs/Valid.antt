@@ -1,55 +1,21 @@
 -- Scripts that are played to their end are the valid ones.
 use Rattle.std.proofs.Common.{◌≡◌, ℕ, ◌+◌, ◌<◌, List, [], ◌∷◌, ◌++◌, length, refl, sym, ap, subst, ◌∙◌, arith, inl, inr, append-nil}
 use Rattle.std.specs.Prelude.{map, Option, Some, ◌⊎◌}
-use Rattle.house_model.specs.States.{State, opening}
-use Rattle.house_model.specs.Keeping.{Kept, keep}
-use Rattle.house_model.specs.Effects.{Effect, Open, Log, Begin, Acted, Queue, Answered, Sent, apply, apply_all}
-use Rattle.house_model.specs.Steps.{turned, verdict}
+use Rattle.house_model.specs.States.{State, Kept, opening}
 use Rattle.house_model.specs.Histories.{Outcome, Made, Short, Turn, next, next_by, after, Legal, StandsFor}
-use Rattle.house_model.proofs.Turns.{lines-kept}
+use Rattle.house_model.proofs.Turns.{workers-kept}
 use Rattle.replay_script.specs.declared.step.Step.{Step}
 use Rattle.replay_script.specs.declared.step.Step.TheVariants as step
 use Rattle.replay_script.specs.Deeds.{Deed, Turned, Fed, Renewed, IsMade, AreDone, step_at, turns_of}
 use Rattle.replay_script.specs.Scripts.{Makes, AreWithin, IsWithin, IsPlayed, MayCome, IsRefused, size_of, text_of, step_in}
 use Rattle.replay_script.specs.Valid.{state_by, CanBePlayed, AreValid, IsValid}
-use Rattle.house_model.specs.Steps as house
+use Rattle.house_model.specs.Histories as house
 use Rattle.xmppd.specs.declared.status.Status.{Status}
 use Rattle.xmppd.specs.declared.status.Status.TheVariants as status
 use Rattle.xmppd.specs.Runs.{Replayed}
 
--- How many places there are doesn't change.
-
-workers-effect : (st : State) (e : Effect) → (apply st e).workers ≡ st.workers
-workers-effect st (Open w) = refl
-workers-effect st (Log w user) = refl
-workers-effect st (Begin w address id) = refl
-workers-effect st (Acted s stanza) = refl
-workers-effect st (Queue s entry) = refl
-workers-effect st (Answered w) = refl
-workers-effect st (Sent s) = refl
-
-workers-effects : (st : State) (es : List Effect) → (apply_all st es).workers ≡ st.workers
-workers-effects st [] = refl
-workers-effects st (e ∷ more) = workers-effects (apply st e) more ∙ workers-effect st e
-
-workers-next : (st : State) (x : Turn) (outcome : Outcome) → (next_by st x.event outcome).workers ≡ st.workers
-workers-next st x (Made reply text) = workers-effects (turned x.event st) (verdict (keep (turned x.event st)) x.event).effects
-workers-next st x Short = refl
-
-workers-after : (st : State) (h : List Turn) → (after st h).workers ≡ st.workers
-workers-after st [] = refl
-workers-after st (x ∷ more) = workers-after (next st x) more ∙ workers-next st x x.outcome
-
-pub there : (o : State) (h : List Turn) (house : Kept) (w : ℕ) → StandsFor o h house → w < length house.lines → w < o.workers
-there o h house w stands lies = omega (arith, lies, lines-kept o h house stands, workers-after o h)
-
--- Done deeds, one by one.
-
-done-next : (st : State) (x : Turn) (ds : List Deed) → AreDone st ds → AreDone (next st x) ds
-done-next st x [] all = tt
-done-next st x (Turned y ∷ ds) all = (all.0, done-next st x ds all.1)
-done-next st x (Fed w bytes ∷ ds) all = (subst (λ (n : ℕ). w < n) (sym (workers-next st x x.outcome)) all.0, done-next st x ds all.1)
-done-next st x (Renewed w ∷ ds) all = (subst (λ (n : ℕ). w < n) (sym (workers-next st x x.outcome)) all.0, done-next st x ds all.1)
+pub there : (o : State) (h : List Turn) (house : Kept) (w : ℕ) → StandsFor o h house → w < house.head.workers → w < (after o h).head.workers
+there o h house w stands lies = omega (arith, lies, workers-kept o h house stands)
 
 -- What these lines lead to, where others follow them: what was played could be, and what can be played goes on from there.
 
@@ -76,8 +42,8 @@ go-on-by : (line : List ℕ) (lines rest : List (List ℕ)) (d : Deed) (ds : Lis
     → GoOn lines rest ds → CanBePlayed (after st (turns_of (d ∷ ds))) (read + size_of (line ∷ lines)) rest
 go-on-by line lines rest (Turned x) ds st read s is done can go =
     let now : CanBePlayed (house.step st x.event).state (read + length line) (lines ++ rest) = subst (λ (y : Step). CanBePlayed (state_by st y) (read + length line) (lines ++ rest)) (some-same s (step.Event x.event) is) can in
-    let next-now = made-next st x x.outcome (λ (y : State). CanBePlayed y (read + length line) (lines ++ rest)) refl done.0 now in
-    subst (λ (n : ℕ). CanBePlayed (after (next st x) (turns_of ds)) n rest) (omega arith) (go (next st x) (read + length line) (done-next st x ds done.1) next-now)
+    let next-now = made-next st x x.outcome (λ (y : State). CanBePlayed y (read + length line) (lines ++ rest)) refl done.0.0 now in
+    subst (λ (n : ℕ). CanBePlayed (after (next st x) (turns_of ds)) n rest) (omega arith) (go (next st x) (read + length line) done.1 next-now)
 go-on-by line lines rest (Fed w bytes) ds st read s is done can go =
     let now : CanBePlayed st (read + length line) (lines ++ rest) = subst (λ (y : Step). CanBePlayed (state_by st y) (read + length line) (lines ++ rest)) (some-same s (step.Feed w bytes) is) can in
     subst (λ (n : ℕ). CanBePlayed (after st (turns_of ds)) n rest) (omega arith) (go st (read + length line) done.1 now)
@@ -127,8 +93,8 @@ WasPlayed lines ds = (st : State) (read : ℕ) → AreDone st ds → Legal st (t
 was-by : (line : List ℕ) (lines : List (List ℕ)) (d : Deed) (ds : List Deed) (st : State) (read : ℕ) → step_in line ≡ step_at d → AreDone st (d ∷ ds) → Legal st (turns_of (d ∷ ds)) → AreWithin read (line ∷ lines)
     → WasPlayed lines ds → CanBePlayed st read (line ∷ lines)
 was-by line lines (Turned x) ds st read is done legal within go =
-    let rest : CanBePlayed (next st x) (read + length line) lines = go (next st x) (read + length line) (done-next st x ds done.1) legal.1 within.1 in
-    (within.0, (step.Event x.event, is, record { line = legal.0.line; plain = legal.0.plain }, made-step st x x.outcome (λ (y : State). CanBePlayed y (read + length line) lines) refl done.0 rest))
+    let rest : CanBePlayed (next st x) (read + length line) lines = go (next st x) (read + length line) done.1 legal.1 within.1 in
+    (within.0, (step.Event x.event, is, record { line = legal.0.line; plain = done.0.1 }, made-step st x x.outcome (λ (y : State). CanBePlayed y (read + length line) lines) refl done.0.0 rest))
   where
     made-step : (st : State) (x : Turn) (o : Outcome) (P : State → Type 0) → x.outcome ≡ o → IsMade o → P (next st x) → P (house.step st x.event).state
     made-step st x (Made reply text) P is made can = subst (λ (y : Outcome). P (next_by st x.event y)) is can

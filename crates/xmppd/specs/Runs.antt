@@ -1,12 +1,10 @@
 -- How a script is played, line by line, and how its play ends.
 use Rattle.std.specs.Prelude.{◌≡◌, ℕ, ◌+◌, ◌<◌, ◌≤◌, List, [], ◌∷◌, ◌++◌, length, Bool, true, false, Option, Some, None, Result, Ok, Err, ⊤}
-use Rattle.house_model.specs.declared.event.Event.{Event}
-use Rattle.house_model.specs.declared.reply.Reply.{Reply}
-use Rattle.house_model.specs.States.{State}
-use Rattle.house_model.specs.Keeping.{Kept}
+use Rattle.house_model.specs.States.{State, Kept}
 use Rattle.house_model.specs.Plain.{is_plain}
-use Rattle.house_model.specs.Frames.{AllHear}
-use Rattle.house_model.specs.Histories.{Turn, made, short, line_of, StandsFor}
+use Rattle.house_model.specs.Promises.{Safe}
+use Rattle.house_model.specs.Histories.{Turn, line_of, after, StandsFor}
+use Rattle.house_core.specs.Houses.{HouseRecord, held}
 use Rattle.replay_script.specs.declared.step.Step.{Step}
 use Rattle.replay_script.specs.declared.step.Step.TheVariants as step
 use Rattle.replay_script.specs.declared.fault.LineFault.{LineFault}
@@ -58,15 +56,14 @@ IsWritten status.Usage taken prints now = ⊥
 IsWritten (status.Accounts n) taken prints now = ⊥
 IsWritten status.ListenFault taken prints now = ⊥
 
--- A script was played. The first lines of what the source had left are these deeds, whose turns are a legal history; what follows
--- them says why the play stopped there, what the sink took since are their prints, and each connection pulled its session's frames
--- in order.
+-- A script was played. The first lines of what the source had left are these deeds, whose turns are a legal history, of which the promises of
+-- sessions hold; what follows them says why the play stopped there, and what the sink took since are their prints.
 pub record Replayed (left left_now took took_now : Option (List ℕ)) (s : Status) : Type 0 where
   pub lines : List (List ℕ)
   pub start : State
   pub deeds : List Deed
   pub played : IsPlayed lines start deeds
-  pub heard : AllHear start (turns_of deeds)
+  pub safe : Safe start (turns_of deeds)
   pub number : IsNumbered s (length lines)
   pub read : (all : List ℕ) → left ≡ Some all → (more : List (List ℕ)) × ((lines_of all ≡ lines ++ more) × StopsAt s lines start deeds more left_now)
   pub written : (taken : List ℕ) → took ≡ Some taken → IsWritten s taken (prints deeds) took_now
@@ -115,19 +112,19 @@ abbrev pub Opens : List ℕ → Kept → Type 0
 Opens text house = (o : State) × (Makes text o × StandsFor o [] house)
 
 -- a step was played as a deed, and this is its print; or it is none that can be played here
-pub record PlaysDeed (before after : Kept) (framers framers_now : Framers) (s : Step) (out : List ℕ) : Type 0 where
+pub record PlaysDeed (before now : Kept) (framers framers_now : Framers) (s : Step) (out : List ℕ) : Type 0 where
   pub deed : Deed
   pub spelt : Some s ≡ step_at deed
-  pub done : (o : State) (h : List Turn) → StandsFor o h before → IsDone o deed
-  pub stands : (o : State) (h : List Turn) → StandsFor o h before → StandsFor o (h ++ turn_in deed) after
+  pub done : (o : State) (h : List Turn) → StandsFor o h before → IsDone (after o h) deed
+  pub stands : (o : State) (h : List Turn) → StandsFor o h before → StandsFor o (h ++ turn_in deed) now
   pub framed : framers_now ≡ framers_next framers deed
   pub printed : out ≡ print_deed framers deed
 
 abbrev pub MayComeHere : Kept → Step → Type 0
 MayComeHere house (step.Begin domain users workers) = ⊥
-MayComeHere house (step.Event e) = (line_of e < length house.lines) × (is_plain house e ≡ true)
-MayComeHere house (step.Feed w bytes) = w < length house.lines
-MayComeHere house (step.Fresh w) = w < length house.lines
+MayComeHere house (step.Event e) = (line_of e < house.head.workers) × (is_plain house e ≡ true)
+MayComeHere house (step.Feed w bytes) = w < house.head.workers
+MayComeHere house (step.Fresh w) = w < house.head.workers
 
 abbrev pub PlaysStep : {X : Type 0} → Kept → Kept → Framers → Framers → Step → List ℕ → Result X LineFault → Type 0
 PlaysStep before after framers framers_now s out (Ok x) = PlaysDeed before after framers framers_now s out
@@ -145,14 +142,9 @@ Plays before after framers framers_now text out (Ok x) = PlaysLine before after 
 Plays before after framers framers_now text out (Err Bad) = (s : Step) → step_of text ≡ Some s → MayComeHere before s → ⊥
 Plays before after framers framers_now text out (Err NoMemory) = ⊤
 
--- the turn of an event: what was answered and the text of a frame, or nothing for want of memory
-abbrev pub told : {E : Type 0} → Event → Result Reply E → List ℕ → Turn
-told e (Ok reply) text = made e reply text
-told e (Err fault) text = short e
-
 -- what came of the first line
-abbrev pub Opening : Option (List ℕ) → Option (List ℕ) → Option (List ℕ) → Option (List ℕ) → ℕ → Result (Option Kept) Status → Type 0
-Opening left coming left_now took given (Ok (Some house)) = Going left coming took took given house no_framers 2
+abbrev pub Opening : Option (List ℕ) → Option (List ℕ) → Option (List ℕ) → Option (List ℕ) → ℕ → Result (Option HouseRecord) Status → Type 0
+Opening left coming left_now took given (Ok (Some house)) = Going left coming took took given (held house) no_framers 2
 Opening left coming left_now took given (Ok None) = Replayed left left_now took took status.Done
 Opening left coming left_now took given (Err s) = Replayed left left_now took took s
 

@@ -10,6 +10,8 @@ mod output;
 mod place;
 mod replay;
 mod run;
+#[cfg(test)]
+mod session_tests;
 mod standard;
 mod status;
 #[cfg(test)]

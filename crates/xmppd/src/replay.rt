@@ -1,7 +1,7 @@
 //! `replay`: plays a script and prints the reply of each line.
 ghost use Rattle.std.specs.Prelude.{◌≡◌, ℕ, ◌<◌, ◌≤◌, ◌^◌, ◌+◌, ◌++◌, ◌∷◌, List, [], length, vec_capacity, ◌≢◌, Option, Some, IfOk, IfErr, IsTrue, OnOk, OnErr};
-ghost use Rattle.house_model.specs.Histories.{Meets, StandsFor, Turn, line_of};
-ghost use Rattle.house_model.specs.Plain.{is_plain};
+ghost use Rattle.house_core.specs.Houses.{held};
+ghost use Rattle.house_model.specs.Histories.{Meets};
 ghost use Rattle.house_model.specs.States.{State};
 ghost use Rattle.outside.specs.Devices.{Rose};
 ghost use Rattle.replay_script.specs.Deeds.{no_framers};
@@ -10,17 +10,16 @@ ghost use Rattle.replay_script.specs.Scripts.{Makes};
 ghost use Rattle.replay_script.specs.declared.step.Step.TheVariants as step;
 ghost use Rattle.xmppd.specs.Streams.{framers_of};
 ghost use Rattle.xmppd.specs.Readings.{unread};
-ghost use Rattle.xmppd.specs.Runs.{Replayed, Going, Taking, Opens, Plays, PlaysStep, Opening, Turning, Ending, told};
+ghost use Rattle.xmppd.specs.Runs.{Replayed, Going, Taking, Opens, Plays, PlaysStep, Opening, Turning, Ending};
 
 use crate::lines::{Reader, Taken};
 use crate::output::write_all;
 use crate::status::Status;
 use crate::streams::Streams;
 use house_core::House;
-use house_model::{Event, Reply};
+use house_model::Event;
 use outside::{Sink, Source};
 use replay_script::{LineFault, Step, print_reply, read_line};
-use stanza_tree::NoMemory;
 use std::alloc::Global;
 
 /// How many bytes a frame may have.
@@ -44,17 +43,13 @@ fn play_all<S: Source, K: Sink>(alloc: Global, source: &mut S, sink: &mut K) -> 
     ensures written { IfErr result (λ s. s ≡ Status.WriteFault → Rose (K.faults sink.old) (K.faults sink.new)) }
 {
     let mut reader = Reader::new();
-    let house = match open_house(alloc, &mut reader, source)? {
-        Some(house) => house,
-        None => return Ok(()),
-    };
-    let mut player = Player::new(alloc, house);
-    for number in 2..u64::MAX {
-        if !player.turn(alloc, &mut reader, source, sink, number)? {
-            return Ok(());
+    match open_house(alloc, &mut reader, source)? {
+        Some(house) => {
+            let mut player = Player::new(alloc, house);
+            player.play_on(alloc, &mut reader, source, sink)
         }
+        None => Ok(()),
     }
-    unreachable!()
 }
 
 /// Takes the first line and makes its house. None where there is no line.
@@ -83,7 +78,7 @@ fn open_house<S: Source>(
 
 /// The house of a first line.
 fn house_of(alloc: Global, line: &[u8]) -> Result<House, LineFault>
-    ensures opens { IfOk result (Opens line.now) }
+    ensures opens { IfOk result (λ h. Opens line.now (held h)) }
     ensures bad { IfErr result (λ f. f ≡ LineFault.Bad → (o : State) → Makes line.now o → ⊥) }
 {
     match read_line(alloc, line)? {
@@ -139,6 +134,28 @@ impl Player {
         }
     }
 
+    /// Plays the lines after the first.
+    fn play_on<S: Source, K: Sink>(
+        &mut self,
+        alloc: Global,
+        reader: &mut Reader,
+        source: &mut S,
+        sink: &mut K,
+    ) -> Result<(), Status>
+        requires going { (left : Option (List ℕ)) × ((took : Option (List ℕ)) × Going left (unread reader.old.held (S.left source.old)) took (K.took sink.old) reader.old.given (held self.old.house) (framers_of self.old.streams.places.items) 2) }
+        ensures source_falls { S.faults source.old ≤ S.faults source.new }
+        ensures read { IfErr result (λ s. s ≡ Status.ReadFault → Rose (S.faults source.old) (S.faults source.new)) }
+        ensures written { IfErr result (λ s. s ≡ Status.WriteFault → Rose (K.faults sink.old) (K.faults sink.new)) }
+        ensures ends { (left took : Option (List ℕ)) → Going left (unread reader.old.held (S.left source.old)) took (K.took sink.old) reader.old.given (held self.old.house) (framers_of self.old.streams.places.items) 2 → Ending left (S.left source.new) took (K.took sink.new) result }
+    {
+        for number in 2..u64::MAX {
+            if !self.turn(alloc, reader, source, sink, number)? {
+                return Ok(());
+            }
+        }
+        unreachable!()
+    }
+
     /// Takes the next line, plays it and writes its print. False where no line is left.
     fn turn<S: Source, K: Sink>(
         &mut self,
@@ -153,7 +170,7 @@ impl Player {
         ensures sink_falls { K.faults sink.old ≤ K.faults sink.new }
         ensures read { IfErr result (λ s. s ≡ Status.ReadFault → Rose (S.faults source.old) (S.faults source.new)) }
         ensures written { IfErr result (λ s. s ≡ Status.WriteFault → Rose (K.faults sink.old) (K.faults sink.new)) }
-        ensures turns { (left took : Option (List ℕ)) → Going left (unread reader.old.held (S.left source.old)) took (K.took sink.old) reader.old.given self.old.house (framers_of self.old.streams.places.items) number → Turning left (unread reader.new.held (S.left source.new)) (S.left source.new) took (K.took sink.new) reader.new.given self.new.house (framers_of self.new.streams.places.items) number result }
+        ensures turns { (left took : Option (List ℕ)) → Going left (unread reader.old.held (S.left source.old)) took (K.took sink.old) reader.old.given (held self.old.house) (framers_of self.old.streams.places.items) number → Turning left (unread reader.new.held (S.left source.new)) (S.left source.new) took (K.took sink.new) reader.new.given (held self.new.house) (framers_of self.new.streams.places.items) number result }
     {
         if !take(reader, source, &mut self.line, number)? {
             return Ok(false);
@@ -170,7 +187,7 @@ impl Player {
     /// Plays the line, and makes its print.
     fn play(&mut self, alloc: Global) -> Result<(), LineFault>
         requires { self.old.house.turns < 2 ^ 63 }
-        ensures { Plays self.old.house self.new.house (framers_of self.old.streams.places.items) (framers_of self.new.streams.places.items) self.old.line.items self.new.print.items result }
+        ensures { Plays (held self.old.house) (held self.new.house) (framers_of self.old.streams.places.items) (framers_of self.new.streams.places.items) self.old.line.items self.new.print.items result }
     {
         let step = read_line(alloc, self.line.as_slice())?;
         self.take_step(step)
@@ -180,7 +197,7 @@ impl Player {
     fn take_step(&mut self, step: Step) -> Result<(), LineFault>
         requires turns { self.old.house.turns < 2 ^ 63 }
         requires fits { StepFits step }
-        ensures { PlaysStep self.old.house self.new.house (framers_of self.old.streams.places.items) (framers_of self.new.streams.places.items) step self.new.print.items result }
+        ensures { PlaysStep (held self.old.house) (held self.new.house) (framers_of self.old.streams.places.items) (framers_of self.new.streams.places.items) step self.new.print.items result }
     {
         self.print.clear();
         match step {
@@ -209,40 +226,15 @@ impl Player {
         requires turns { self.old.house.turns < 2 ^ 63 }
         requires meets { Meets event.now }
         requires print { self.old.print.items ≡ [] }
-        ensures { PlaysStep self.old.house self.new.house (framers_of self.old.streams.places.items) (framers_of self.new.streams.places.items) (step.Event event.now) self.new.print.items result }
+        ensures { PlaysStep (held self.old.house) (held self.new.house) (framers_of self.old.streams.places.items) (framers_of self.new.streams.places.items) (step.Event event.now) self.new.print.items result }
     {
         if event.line() as usize >= self.house.workers() || !self.house.is_plain(event) {
             return Err(LineFault::Bad);
         }
         self.frame.clear();
         self.frame.reserve(MOST_FRAME)?;
-        let reply = enact(&mut self.house, event, &mut self.frame)?;
+        let reply = self.house.submit(event, &mut self.frame)?;
         print_reply(&reply, self.frame.as_slice(), &mut self.print)?;
         Ok(())
-    }
-}
-
-/// Hands an event to the house. `frame` is the text of the frame that is given.
-fn enact(house: &mut House, event: &Event, frame: &mut Vec<u8>) -> Result<Reply, NoMemory>
-    requires line { line_of event.now < length house.old.lines }
-    requires turns { house.old.turns < 2 ^ 63 }
-    requires meets { Meets event.now }
-    requires plain { IsTrue (is_plain house.old event.now) }
-    requires frame { frame.old.items ≡ [] }
-    requires room { 524288 ≤ vec_capacity frame.old }
-    ensures history { (o : State) (h : List Turn) → StandsFor o h house.old → StandsFor o (h ++ told event.now result frame.new.items ∷ []) house.new }
-{
-    match event {
-        Event::OpenLine { w } => Ok(house.open_line(*w)),
-        Event::Login { w, user } => Ok(house.login(*w, user)),
-        Event::Bind {
-            w,
-            id,
-            resource,
-            t,
-            dice,
-        } => house.bind(*w, id, resource.as_ref(), *t, *dice),
-        Event::Act { w, stanza, t } => house.act(*w, stanza, *t),
-        Event::Pull { w, t } => Ok(house.pull(*w, *t, frame)),
     }
 }

@@ -133,7 +133,7 @@ const STORIES: [Story; 9] = [
         Status::Done,
         b"opened 1\nno user\n",
     ),
-    (b"open 0\nopen 0\n", Status::Script(3), b"opened 1\n"),
+    (b"open 0\nopen 0\n", Status::Done, b"opened 1\nopened 2\n"),
     (
         b"open 1\nopen 2\npull 0 0\n",
         Status::Script(3),

@@ -1,11 +1,10 @@
-use Rattle.std.proofs.Common.{rules, ◌≡◌, ◌<◌, ◌≤◌, length, true, false, Some, sym, ap, ◌∙◌, subst, arith}
+use Rattle.std.proofs.Common.{rules, ◌≡◌, ◌<◌, ◌≤◌, length, true, Some, sym, subst, arith}
 use Rattle.stanza_tree.specs.Spelling.{text}
 use Rattle.stanza_tree.specs.declared.node.Element.{Element}
 use Rattle.stanza_model.specs.declared.stanza.Stanza.TheVariants.{Message}
 use Rattle.stanza_model.specs.declared.kinds.MessageForm.TheVariants.{Headline}
 use Rattle.house_model.specs.Histories.{StanzaFits}
 use Rattle.replay_script.specs.Characters.{is_token, is_xml}
-use Rattle.replay_script.specs.Notices.{notice}
 use Rattle.replay_script.proofs.NoticeLemmas.{notice_fits}
 use Rattle.replay_script.proofs.notice.read_notice.Goals as goal
 

@@ -1,5 +1,6 @@
 use Rattle.std.proofs.Common.{rules, subst, sym}
 use Rattle.replay_script.specs.Scripts.{Makes}
+use Rattle.house_core.specs.Houses.{held}
 use Rattle.xmppd.specs.Readings.{unread}
 use Rattle.xmppd.proofs.Plays.{first-done, first-taking, first-bad, first-short, first-going, fresh-ends, fresh-stopping, fresh-line}
 use Rattle.xmppd.proofs.replay.open_house.Goals as goal
@@ -21,7 +22,7 @@ pub returns-in-Ok-clause-opens : goal.returns-in-Ok-clause-opens
 returns-in-Ok-clause-opens g c = λ took.
     let line = fresh-line (g.S.Source.left c.args.source.now) (unread c.take.new.reader.held (g.S.Source.left c.take.new.source)) c.args.reader.now.held c.args.reader.now.given
     c.take.new.reader.given c.take.new.line.items c.requires.held c.requires.given (search rules) in
-    first-going (g.S.Source.left c.args.source.now) (unread c.take.new.reader.held (g.S.Source.left c.take.new.source)) took c.take.new.reader.given c.take.new.line.items c.in-Ok.house
+    first-going (g.S.Source.left c.args.source.now) (unread c.take.new.reader.held (g.S.Source.left c.take.new.source)) took c.take.new.reader.given c.take.new.line.items (held c.in-Ok.house)
     c.in-Ok.ensures.opens.0 line (subst (λ text. Makes text c.in-Ok.ensures.opens.0) c.as_slice.ensures.value c.in-Ok.ensures.opens.1.0) c.in-Ok.ensures.opens.1.1
 
 pub returns-in-Err-Bad-clause-opens : goal.returns-in-Err-Bad-clause-opens

@@ -1,30 +1,28 @@
 use Rattle.std.proofs.Common.{rules}
+use Rattle.house_core.specs.Houses.{held}
 use Rattle.replay_script.specs.Deeds.{no_framers}
 use Rattle.xmppd.specs.Readings.{unread}
 use Rattle.xmppd.specs.Streams.{framers_of}
 use Rattle.xmppd.specs.Runs.{Going}
-use Rattle.xmppd.proofs.Plays.{turns-few}
 use Rattle.xmppd.proofs.replay.play_all.Goals as goal
+
+pub play_on-requires : goal.play_on-requires
+play_on-requires g c =
+    let left = g.S.Source.left c.args.source.now in
+    let took = g.K.Sink.took c.args.sink.now in
+    let opened : Going left (unread c.open_house.new.reader.held (g.S.Source.left c.open_house.new.source)) took took c.open_house.new.reader.given
+    (held c.in-Some.house) no_framers 2 = search (rules, c.in_ok-house.ensures.opens took) in
+    record { going = (left, (took, search (rules, opened))) }
+
+pub returns-in-Some-clause-replayed : goal.returns-in-Some-clause-replayed
+returns-in-Some-clause-replayed g c =
+    let left = g.S.Source.left c.args.source.now in
+    let took = g.K.Sink.took c.args.sink.now in
+    let opened : Going left (unread c.open_house.new.reader.held (g.S.Source.left c.open_house.new.source)) took took c.open_house.new.reader.given
+    (held c.in-Some.house) no_framers 2 = search (rules, c.in_ok-house.ensures.opens took) in
+    let going : Going left (unread c.open_house.new.reader.held (g.S.Source.left c.open_house.new.source)) took took c.open_house.new.reader.given
+    (held c.new-player.result.house) (framers_of c.new-player.result.streams.places.items) 2 = search (rules, opened) in
+    c.play_on.ensures.ends left took going
 
 pub returns-in-None-clause-replayed : goal.returns-in-None-clause-replayed
 returns-in-None-clause-replayed g c = search (rules, c.in_ok-house.ensures.opens (g.K.Sink.took c.args.sink.now))
-
-pub loop-number-init : goal.loop-number-init
-loop-number-init g c = record {
-  source_falls = search rules;
-  sink_falls = search rules;
-  going =
-      let going : Going (g.S.Source.left c.args.source.now) (unread c.open_house.new.reader.held (g.S.Source.left c.open_house.new.source)) (g.K.Sink.took c.args.sink.now)
-      (g.K.Sink.took c.args.sink.now) c.open_house.new.reader.given c.in-Some.house no_framers 2 = search (rules, c.in_ok-house.ensures.opens (g.K.Sink.took c.args.sink.now)) in
-      search (rules, going);
-}
-
-pub turn-requires : goal.turn-requires
-turn-requires g c = record {
-  turns = turns-few (g.S.Source.left c.args.source.now) (unread c.loop-number.reader.held (g.S.Source.left c.loop-number.source)) (g.K.Sink.took c.args.sink.now)
-      (g.K.Sink.took c.loop-number.sink) c.loop-number.reader.given c.loop-number.player.house (framers_of c.loop-number.player.streams.places.items) c.loop-number.number c.loop-number.invariant.going;
-}
-
-pub returns-then-not-branch-clause-replayed : goal.returns-then-not-branch-clause-replayed
-returns-then-not-branch-clause-replayed g c =
-    search (rules, c.in_ok-turn.ensures.turns (g.S.Source.left c.args.source.now) (g.K.Sink.took c.args.sink.now) c.loop-number.invariant.going)

@@ -1,76 +1,190 @@
-use Rattle.std.proofs.Common.{arith, ◌≡◌, ◌<◌, ◌+◌, ◌++◌, ◌∷◌, [], List, Some, length, set, max, ap, sym, ◌∙◌, subst}
+use Rattle.std.proofs.Common.{rules, ◌≡◌, ◌+◌, [], refl, sym, ap, subst, arith, ◌∙◌}
 use Rattle.std.specs.Option.{option_copied}
-use Rattle.jid_core.specs.Addresses.{Address, address_text}
-use Rattle.house_model.specs.declared.stage.Stage.TheVariants.{Bound}
-use Rattle.house_model.specs.declared.stage.Answer.TheVariants as answer
-use Rattle.house_model.specs.declared.event.Event.TheVariants as Event
-use Rattle.house_model.specs.States.{Line, empty_line}
-use Rattle.house_model.specs.Keeping.{Kept}
-use Rattle.house_model.specs.Effects.{kept_line}
-use Rattle.house_model.specs.Steps.{kept_turned, resource_or, bound_address}
-use Rattle.house_core.specs.Houses.{IsWhole}
-use Rattle.house_core.specs.Seats.{Seat, seated}
-use Rattle.house_core.specs.contracts.house.House.{the_view}
-use Rattle.house_core.proofs.HouseLemmas.{whole-turn, whole-begin, binding-made, read-there, user-local}
 use Rattle.jid_core.specs.Preparation.{is_local}
+use Rattle.session_table.specs.Tables.{line_of}
+use Rattle.house_model.specs.declared.event.Event.TheVariants.{Bind}
+use Rattle.house_model.specs.declared.reply.Reply.TheVariants.{Unready}
+use Rattle.house_model.specs.Gate.{gate}
+use Rattle.house_model.specs.Histories.{kept_step, passed}
+use Rattle.house_model.specs.Steps.{resource_or, turn, verdict}
+use Rattle.house_core.specs.declared.world.World as code
+use Rattle.house_core.specs.Houses.{HouseRecord, held}
+use Rattle.house_core.specs.Worlds.{Did, seen}
+use Rattle.house_core.proofs.BoundLemmas.{all_at, bind_ends, bound_is, on_err, other_ends, passed_is, same_did}
+use Rattle.house_core.proofs.CallLemmas.{house, later_passed, state_ends, whole_ends, whole_is}
+use Rattle.house_core.proofs.EndsLemmas.{stop_ends}
+use Rattle.house_core.proofs.WorldLemmas.{few_later}
 use Rattle.house_core.proofs.house.House.apply_bind.Goals as goal
 
-pub invariant_of-self-in_err-reserve-in-Logged : goal.invariant_of-self-in_err-reserve-in-Logged
-invariant_of-self-in_err-reserve-in-Logged c =
-    whole-turn c.self.inside.users.items c.self.inside.turns c.self.inside.opened (c.self.inside.turns + 1) c.self.inside.lines.items
-    (length c.self.inside.sessions.items) (length c.reserve.new.self.items) c.self.invariant (omega arith) (omega (arith, ap length c.reserve.ensures.items))
-
-pub invariant_of-self-in-Logged : goal.invariant_of-self-in-Logged
-invariant_of-self-in-Logged c =
-    let items : c.push_reserved.new.self.items ≡ c.self.inside.sessions.items ++ c.in_ok-session-in-Logged.session ∷ [] =
-    c.push_reserved.ensures.items ∙ ap (λ (xs : List Seat). xs ++ c.in_ok-session-in-Logged.session ∷ []) c.reserve.ensures.items in
-    let count : length c.push_reserved.new.self.items ≡ length c.self.inside.sessions.items + 1 = grind (arith, items) in
-    let number : c.len.result ≡ length c.self.inside.sessions.items + 1 = grind (arith, items) in
-    subst (λ n. IsWhole c.self.inside.users.items (c.self.inside.turns + 1) c.self.inside.opened (set c.self.inside.lines.items c.args.w c.bind.new.self) n) (sym count)
-    (whole-begin c.self.inside.users.items c.self.inside.turns c.self.inside.opened (c.self.inside.turns + 1) c.self.inside.lines.items (length c.self.inside.sessions.items)
-    c.args.w c.bind.new.self c.self.invariant (omega arith) (ap (λ (l : Line). l.stage) c.bind.ensures ∙ ap (λ n. Bound n) number))
-
-pub returns-in_ok-reserve-in-Logged-clause-state : goal.returns-in_ok-reserve-in-Logged-clause-state
-returns-in_ok-reserve-in-Logged-clause-state c =
-    let low : c.args.w < length c.self.inside.lines.items = subst (λ (k : Kept). c.args.w < length k.lines) (sym c.self.view_is) c.requires.line in
-    let line = read-there c.self.inside.lines.items c.args.w empty_line c.index-line.result.now low ∙ sym c.index-line.ensures in
-    let logged = ap (λ (l : Line). l.stage) line ∙ sym c.stage.ensures.stage ∙ c.in-Logged.is in
-    let there = c.self.invariant.logged c.args.w c.in-Logged.user logged in
-    let items : c.push_reserved.new.self.items ≡ c.self.inside.sessions.items ++ c.in_ok-session-in-Logged.session ∷ [] =
-    c.push_reserved.ensures.items ∙ ap (λ (xs : List Seat). xs ++ c.in_ok-session-in-Logged.session ∷ []) c.reserve.ensures.items in
-    let number : c.len.result ≡ length c.self.inside.sessions.items + 1 = grind (arith, items) in
-    let address : c.in_ok-address-in-Logged.address ≡ bound_address (the_view c.self.inside) c.in-Logged.user (resource_or c.args.dice (option_copied c.args.resource)) =
-    c.in_ok-address-in-Logged.ensures
-    ∙ (λ i. record { local = Some ((c.index.ensures ∙ read-there c.self.inside.users.items c.in-Logged.user c.index.result.now [] there) i); domain = c.self.inside.domain.domain; resource = Some (resource_or c.args.dice (option_copied c.args.resource)) }) in
-    let told : c.in_ok-address-in-Logged.address ≡ bound_address (kept_turned (Event.Bind c.args.w c.args.id.now (option_copied c.args.resource) c.args.t c.args.dice) c.args.self.now) c.in-Logged.user (resource_or c.args.dice (option_copied c.args.resource)) =
-    address ∙ ap (λ (x : Kept). bound_address x c.in-Logged.user (resource_or c.args.dice (option_copied c.args.resource))) c.self.view_is in
-    let same : c.index_mut-line.result.now ≡ kept_line (kept_turned (Event.Bind c.args.w c.args.id.now (option_copied c.args.resource) c.args.t c.args.dice) c.args.self.now) c.args.w =
-    c.index_mut-line.ensures.value ∙ read-there c.self.inside.lines.items c.args.w c.index_mut-line.result.now empty_line low ∙ ap (λ (x : Kept). kept_line x c.args.w) c.self.view_is in
-    let answered = c.in_ok-session-in-Logged.ensures.answer ∙ ap (λ (x : Address). answer.Bound c.args.id.now (address_text x)) told in
-    let made = binding-made (kept_turned (Event.Bind c.args.w c.args.id.now (option_copied c.args.resource) c.args.t c.args.dice) c.args.self.now) c.args.w c.in-Logged.user c.args.id.now
-    (resource_or c.args.dice (option_copied c.args.resource)) c.self.inside.sessions.items c.in_ok-session-in-Logged.session c.bind.new.self
-    (ap (λ (x : Kept). (kept_line x c.args.w).stage) (sym c.self.view_is) ∙ logged)
-    (ap (λ (x : Kept). x.sessions) (sym c.self.view_is))
-    (c.in_ok-session-in-Logged.ensures.session ∙ (λ i. record { address = told i; waiting = [] }))
-    (c.bind.ensures ∙ (λ i. record (same i) { stage = Bound (number i); answers = (same i).answers ++ answered i ∷ [] })) in
-    (λ i. record (the_view c.self.inside) {
-      turns = c.self.inside.turns + 1;
-      moment = c.max-self-inside-in-Logged.ensures i;
-      sessions = seated (items i);
-      lines = set c.self.inside.lines.items c.args.w c.bind.new.self;
-    })
-    ∙ ap (λ (x : Kept). record x {
-      turns = x.turns + 1;
-      moment = max x.moment c.args.t;
-      sessions = seated (c.self.inside.sessions.items ++ c.in_ok-session-in-Logged.session ∷ []);
-      lines = set x.lines c.args.w c.bind.new.self;
-    }) c.self.view_is
-    ∙ made
+pub index-requires : goal.index-requires
+index-requires c =
+    let h = c.self.inside in
+    let k = turn (Bind c.args.w c.args.id.now (option_copied c.args.resource) c.args.t c.args.dice) (held (house h.domain h.users.items h.turns h.moment h.world)) in
+    let same = (c.in-Knows.ensures.passes k refl (sym c.later-moment.ensures)).1 in
+    let low = c.self.invariant.known c.args.w c.in-Knows.conn c.in-Knows.user (ap (λ (x : code.World). line_of c.args.w x.table) (sym same) ∙ c.in-Knows.ensures.found.0) in
+    search (rules, low)
 
 pub make_address-requires : goal.make_address-requires
 make_address-requires c =
-    let low : c.args.w < length c.self.inside.lines.items = subst (λ (k : Kept). c.args.w < length k.lines) (sym c.self.view_is) c.requires.line in
-    let line = read-there c.self.inside.lines.items c.args.w empty_line c.index-line.result.now low ∙ sym c.index-line.ensures in
-    let logged = ap (λ (l : Line). l.stage) line ∙ sym c.stage.ensures.stage ∙ c.in-Logged.is in
-    let there = c.self.invariant.logged c.args.w c.in-Logged.user logged in
-    ap is_local c.index.ensures ∙ user-local c.self.inside.users.items c.in-Logged.user c.index.result.now c.self.invariant.prepared there
+    let h = c.self.inside in
+    let k = turn (Bind c.args.w c.args.id.now (option_copied c.args.resource) c.args.t c.args.dice) (held (house h.domain h.users.items h.turns h.moment h.world)) in
+    let same = (c.in-Knows.ensures.passes k refl (sym c.later-moment.ensures)).1 in
+    let low = c.self.invariant.known c.args.w c.in-Knows.conn c.in-Knows.user (ap (λ (x : code.World). line_of c.args.w x.table) (sym same) ∙ c.in-Knows.ensures.found.0) in
+    ap is_local c.index.ensures ∙ all_at is_local h.users.items c.in-Knows.user c.index.result.now low c.self.invariant.prepared
+
+pub invariant_of-self-in_err-address-in-Knows : goal.invariant_of-self-in_err-address-in-Knows
+invariant_of-self-in_err-address-in-Knows c =
+    let h = c.self.inside in
+    let k = turn (Bind c.args.w c.args.id.now (option_copied c.args.resource) c.args.t c.args.dice) (held (house h.domain h.users.items h.turns h.moment h.world)) in
+    let same = (c.in-Knows.ensures.passes k refl (sym c.later-moment.ensures)).1 in
+    whole_is h.users.items h.turns h.moment h.moment h.world c.check.new.self [] 0 c.self.invariant c.self.invariant.passed (omega arith)
+    (same_did h.world c.check.new.self c.check.ensures.tied same)
+
+pub returns-in_err-address-in-Knows-clause-refused : goal.returns-in_err-address-in-Knows-clause-refused
+returns-in_err-address-in-Knows-clause-refused c =
+    let h = c.self.inside in
+    let k = turn (Bind c.args.w c.args.id.now (option_copied c.args.resource) c.args.t c.args.dice) (held (house h.domain h.users.items h.turns h.moment h.world)) in
+    let same = (c.in-Knows.ensures.passes k refl (sym c.later-moment.ensures)).1 in
+    on_err c.from_residual.result
+    (subst (λ (x : HouseRecord). held (house h.domain h.users.items (h.turns + 1) h.moment c.check.new.self) ≡ passed (held x)) c.self.view_is
+    (passed_is h.domain h.users.items h.turns h.moment h.world c.check.new.self (same_did h.world c.check.new.self c.check.ensures.tied same)))
+
+pub bind-requires-clause-small : goal.bind-requires-clause-small
+bind-requires-clause-small c =
+    let h = c.self.inside in
+    let turns : h.turns ≡ c.args.self.now.turns = ap (λ (x : HouseRecord). x.turns) c.self.view_is in
+    few_later h.turns 18446744073709551614 c.check.new.self.table (c.check.ensures.few h.turns c.self.invariant.counted) (omega (arith, turns, c.requires.turns))
+
+pub invariant_of-self-in_default : goal.invariant_of-self-in_default
+invariant_of-self-in_default c =
+    let h = c.self.inside in
+    let e = Bind c.args.w c.args.id.now (option_copied c.args.resource) c.args.t c.args.dice in
+    let now = c.later-moment.result in
+    let k = turn e (held (house h.domain h.users.items h.turns h.moment h.world)) in
+    let ends = other_ends k c.args.w c.args.t c.args.id.now (option_copied c.args.resource) c.args.dice c.check.result (gate k e) h.world c.check.new.self
+    c.check.ensures.tied c.in_default.not-Stop c.in_default.not-Knows (c.check.ensures.passes k refl (sym c.later-moment.ensures)) in
+    whole_ends h.users.items h.turns h.moment now 0 h.world c.check.new.self (verdict k e) Unready c.self.invariant
+    (later_passed h.moment c.args.t now c.self.invariant.passed c.later-moment.ensures) (omega arith) ends
+
+pub returns-in_default-clause-state : goal.returns-in_default-clause-state
+returns-in_default-clause-state c =
+    let h = c.self.inside in
+    let e = Bind c.args.w c.args.id.now (option_copied c.args.resource) c.args.t c.args.dice in
+    let now = c.later-moment.result in
+    let k = turn e (held (house h.domain h.users.items h.turns h.moment h.world)) in
+    let ends = other_ends k c.args.w c.args.t c.args.id.now (option_copied c.args.resource) c.args.dice c.check.result (gate k e) h.world c.check.new.self
+    c.check.ensures.tied c.in_default.not-Stop c.in_default.not-Knows (c.check.ensures.passes k refl (sym c.later-moment.ensures)) in
+    subst (λ (x : HouseRecord). held (house h.domain h.users.items (h.turns + 1) now c.check.new.self) ≡ (kept_step (held x) e).state) c.self.view_is
+    (state_ends h.domain h.users.items h.turns h.moment now 0 h.world c.check.new.self e Unready c.later-moment.ensures ends)
+
+pub returns-in_default-clause-reply : goal.returns-in_default-clause-reply
+returns-in_default-clause-reply c =
+    let h = c.self.inside in
+    let e = Bind c.args.w c.args.id.now (option_copied c.args.resource) c.args.t c.args.dice in
+    let k = turn e (held (house h.domain h.users.items h.turns h.moment h.world)) in
+    let ends = other_ends k c.args.w c.args.t c.args.id.now (option_copied c.args.resource) c.args.dice c.check.result (gate k e) h.world c.check.new.self
+    c.check.ensures.tied c.in_default.not-Stop c.in_default.not-Knows (c.check.ensures.passes k refl (sym c.later-moment.ensures)) in
+    subst (λ (x : HouseRecord). Unready ≡ (kept_step (held x) e).reply) c.self.view_is ends.answer
+
+pub invariant_of-self-in-Stop : goal.invariant_of-self-in-Stop
+invariant_of-self-in-Stop c =
+    let h = c.self.inside in
+    let e = Bind c.args.w c.args.id.now (option_copied c.args.resource) c.args.t c.args.dice in
+    let now = c.later-moment.result in
+    let k = turn e (held (house h.domain h.users.items h.turns h.moment h.world)) in
+    let ends = stop_ends k e (gate k e) c.in-Stop.reply h.world c.check.new.self (c.in-Stop.ensures.passes k refl (sym c.later-moment.ensures)) in
+    whole_ends h.users.items h.turns h.moment now 0 h.world c.check.new.self (verdict k e) c.in-Stop.reply c.self.invariant
+    (later_passed h.moment c.args.t now c.self.invariant.passed c.later-moment.ensures) (omega arith) ends
+
+pub returns-in-Stop-clause-state : goal.returns-in-Stop-clause-state
+returns-in-Stop-clause-state c =
+    let h = c.self.inside in
+    let e = Bind c.args.w c.args.id.now (option_copied c.args.resource) c.args.t c.args.dice in
+    let now = c.later-moment.result in
+    let k = turn e (held (house h.domain h.users.items h.turns h.moment h.world)) in
+    let ends = stop_ends k e (gate k e) c.in-Stop.reply h.world c.check.new.self (c.in-Stop.ensures.passes k refl (sym c.later-moment.ensures)) in
+    subst (λ (x : HouseRecord). held (house h.domain h.users.items (h.turns + 1) now c.check.new.self) ≡ (kept_step (held x) e).state) c.self.view_is
+    (state_ends h.domain h.users.items h.turns h.moment now 0 h.world c.check.new.self e c.in-Stop.reply c.later-moment.ensures ends)
+
+pub returns-in-Stop-clause-reply : goal.returns-in-Stop-clause-reply
+returns-in-Stop-clause-reply c =
+    let h = c.self.inside in
+    let e = Bind c.args.w c.args.id.now (option_copied c.args.resource) c.args.t c.args.dice in
+    let k = turn e (held (house h.domain h.users.items h.turns h.moment h.world)) in
+    let ends = stop_ends k e (gate k e) c.in-Stop.reply h.world c.check.new.self (c.in-Stop.ensures.passes k refl (sym c.later-moment.ensures)) in
+    subst (λ (x : HouseRecord). c.in-Stop.reply ≡ (kept_step (held x) e).reply) c.self.view_is ends.answer
+
+pub invariant_of-self-in_err-reply-in-Knows : goal.invariant_of-self-in_err-reply-in-Knows
+invariant_of-self-in_err-reply-in-Knows c =
+    let h = c.self.inside in
+    let e = Bind c.args.w c.args.id.now (option_copied c.args.resource) c.args.t c.args.dice in
+    let k = turn e (held (house h.domain h.users.items h.turns h.moment h.world)) in
+    let same = (c.in-Knows.ensures.passes k refl (sym c.later-moment.ensures)).1 in
+    whole_is h.users.items h.turns h.moment h.moment h.world c.bind.new.self [] 0 c.self.invariant c.self.invariant.passed (omega arith)
+    (subst (λ (x : code.World). Did [] 0 x c.bind.new.self) same c.in_err-reply-in-Knows.ensures.refused)
+
+pub returns-in_err-reply-in-Knows-clause-refused : goal.returns-in_err-reply-in-Knows-clause-refused
+returns-in_err-reply-in-Knows-clause-refused c =
+    let h = c.self.inside in
+    let e = Bind c.args.w c.args.id.now (option_copied c.args.resource) c.args.t c.args.dice in
+    let k = turn e (held (house h.domain h.users.items h.turns h.moment h.world)) in
+    let same = (c.in-Knows.ensures.passes k refl (sym c.later-moment.ensures)).1 in
+    let did = subst (λ (x : code.World). Did [] 0 x c.bind.new.self) same c.in_err-reply-in-Knows.ensures.refused in
+    on_err c.from_residual-in_err-reply-in-Knows.result
+    (subst (λ (x : HouseRecord). held (house h.domain h.users.items (h.turns + 1) h.moment c.bind.new.self) ≡ passed (held x)) c.self.view_is
+    (passed_is h.domain h.users.items h.turns h.moment h.world c.bind.new.self did))
+
+pub invariant_of-self-in-Knows : goal.invariant_of-self-in-Knows
+invariant_of-self-in-Knows c =
+    let h = c.self.inside in
+    let b = c.check.new.self in
+    let d = c.bind.new.self in
+    let reply = c.in_ok-reply-in-Knows.reply in
+    let address = c.in_ok-address-in-Knows.address in
+    let e = Bind c.args.w c.args.id.now (option_copied c.args.resource) c.args.t c.args.dice in
+    let now = c.later-moment.result in
+    let k = turn e (held (house h.domain h.users.items h.turns h.moment h.world)) in
+    let passes = c.in-Knows.ensures.passes k refl (sym c.later-moment.ensures) in
+    let low = c.self.invariant.known c.args.w c.in-Knows.conn c.in-Knows.user (ap (λ (x : code.World). line_of c.args.w x.table) (sym passes.1) ∙ c.in-Knows.ensures.found.0) in
+    let place = bound_is k c.in-Knows.user c.index.result.now (resource_or c.args.dice (option_copied c.args.resource)) low c.index.ensures in
+    let ends = bind_ends k c.args.w c.args.t c.in-Knows.conn c.in-Knows.user c.args.id.now (option_copied c.args.resource) c.args.dice (gate k e) reply address
+    h.world b d passes.0 passes.1 c.in-Knows.ensures.found.0 (c.in_ok-address-in-Knows.ensures ∙ place)
+    (c.in_ok-reply-in-Knows.ensures.done k (ap seen (sym passes.1))) in
+    whole_ends h.users.items h.turns h.moment now 1 h.world d (verdict k e) reply c.self.invariant
+    (later_passed h.moment c.args.t now c.self.invariant.passed c.later-moment.ensures) (omega arith) ends
+
+pub returns-in_ok-reply-in-Knows-clause-state : goal.returns-in_ok-reply-in-Knows-clause-state
+returns-in_ok-reply-in-Knows-clause-state c =
+    let h = c.self.inside in
+    let b = c.check.new.self in
+    let d = c.bind.new.self in
+    let reply = c.in_ok-reply-in-Knows.reply in
+    let address = c.in_ok-address-in-Knows.address in
+    let e = Bind c.args.w c.args.id.now (option_copied c.args.resource) c.args.t c.args.dice in
+    let now = c.later-moment.result in
+    let k = turn e (held (house h.domain h.users.items h.turns h.moment h.world)) in
+    let passes = c.in-Knows.ensures.passes k refl (sym c.later-moment.ensures) in
+    let low = c.self.invariant.known c.args.w c.in-Knows.conn c.in-Knows.user (ap (λ (x : code.World). line_of c.args.w x.table) (sym passes.1) ∙ c.in-Knows.ensures.found.0) in
+    let place = bound_is k c.in-Knows.user c.index.result.now (resource_or c.args.dice (option_copied c.args.resource)) low c.index.ensures in
+    let ends = bind_ends k c.args.w c.args.t c.in-Knows.conn c.in-Knows.user c.args.id.now (option_copied c.args.resource) c.args.dice (gate k e) reply address
+    h.world b d passes.0 passes.1 c.in-Knows.ensures.found.0 (c.in_ok-address-in-Knows.ensures ∙ place)
+    (c.in_ok-reply-in-Knows.ensures.done k (ap seen (sym passes.1))) in
+    subst (λ (x : HouseRecord). held (house h.domain h.users.items (h.turns + 1) now d) ≡ (kept_step (held x) e).state) c.self.view_is
+    (state_ends h.domain h.users.items h.turns h.moment now 1 h.world d e reply c.later-moment.ensures ends)
+
+pub returns-in_ok-reply-in-Knows-clause-reply : goal.returns-in_ok-reply-in-Knows-clause-reply
+returns-in_ok-reply-in-Knows-clause-reply c =
+    let h = c.self.inside in
+    let b = c.check.new.self in
+    let d = c.bind.new.self in
+    let reply = c.in_ok-reply-in-Knows.reply in
+    let address = c.in_ok-address-in-Knows.address in
+    let e = Bind c.args.w c.args.id.now (option_copied c.args.resource) c.args.t c.args.dice in
+    let k = turn e (held (house h.domain h.users.items h.turns h.moment h.world)) in
+    let passes = c.in-Knows.ensures.passes k refl (sym c.later-moment.ensures) in
+    let low = c.self.invariant.known c.args.w c.in-Knows.conn c.in-Knows.user (ap (λ (x : code.World). line_of c.args.w x.table) (sym passes.1) ∙ c.in-Knows.ensures.found.0) in
+    let place = bound_is k c.in-Knows.user c.index.result.now (resource_or c.args.dice (option_copied c.args.resource)) low c.index.ensures in
+    let ends = bind_ends k c.args.w c.args.t c.in-Knows.conn c.in-Knows.user c.args.id.now (option_copied c.args.resource) c.args.dice (gate k e) reply address
+    h.world b d passes.0 passes.1 c.in-Knows.ensures.found.0 (c.in_ok-address-in-Knows.ensures ∙ place)
+    (c.in_ok-reply-in-Knows.ensures.done k (ap seen (sym passes.1))) in
+    subst (λ (x : HouseRecord). reply ≡ (kept_step (held x) e).reply) c.self.view_is ends.answer

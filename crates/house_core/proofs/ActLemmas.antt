@@ -1,0 +1,166 @@
+-- A stanza is acted on, and queues what it queues.
+use Rattle.std.proofs.Common.{◌≡◌, inl, inr, ℕ, ◌+◌, ◌<◌, List, [], ◌∷◌, true, false, Option, Some, None, refl, sym, ap, subst, ◌∙◌, arith}
+use Rattle.std.specs.Prelude.{IsSomeAnd, OnOk, Result, Ok, Err, if◌then◌else◌}
+use Rattle.std.specs.Option.{option_map}
+use Rattle.std.proofs.lemmas.Bool.Decides.{eqb_tells}
+use Rattle.std.proofs.lemmas.Option.{same_Some}
+use Rattle.stanza_tree.specs.declared.node.Element.{Element}
+use Rattle.sm_queue.specs.Queues.{Queue, spare}
+use Rattle.sm_resume.specs.declared.decision.Cause.{Cause}
+use Rattle.session_table.specs.declared.line.Line as stage
+use Rattle.jid_core.specs.Addresses.{Address}
+use Rattle.stanza_model.specs.Stanzas.{to_in}
+use Rattle.stanza_model.specs.declared.stanza.Stanza.{Stanza}
+use Rattle.stanza_model.specs.declared.stanza.Stanza.TheVariants.{Faulty}
+use Rattle.stanza_model.specs.declared.kinds.Kind.TheVariants.{Message}
+use Rattle.stanza_model.specs.declared.condition.Condition.TheVariants.{BadRequest}
+use Rattle.session_table.specs.declared.life.Life.{Life}
+use Rattle.session_table.specs.declared.life.Life.TheVariants.{Live, Over}
+use Rattle.session_table.specs.Sessions.{SessionRecord}
+use Rattle.session_table.specs.Tables.{TableRecord, session_of, with_session}
+use Rattle.house_model.specs.declared.event.Event.TheVariants as event
+use Rattle.house_model.specs.declared.reply.Reply.TheVariants as reply
+use Rattle.house_model.specs.Sessions.{Act, nobody}
+use Rattle.house_model.specs.Steps.{body, delivered, goes_on, headline_in, if_it_goes_on}
+use Rattle.house_model.specs.Traffic.{KeptTraffic}
+use Rattle.house_model.specs.States.{World, Kept}
+use Rattle.house_model.specs.Effects.{Effect, On}
+use Rattle.house_model.specs.Gate as model
+use Rattle.house_core.specs.declared.acting.Delivery.{Delivery}
+use Rattle.house_core.specs.declared.world.World as code
+use Rattle.house_core.specs.Deliveries.{queued}
+use Rattle.house_core.specs.Houses.{hold_by, session_by, sessions_of}
+use Rattle.house_core.specs.Wholes.{HasSpare, IsHeldBy, IsTied}
+use Rattle.house_core.specs.Worlds.{seen, Did, Ends}
+use Rattle.house_core.proofs.DidLemmas.{did_then, put_same}
+use Rattle.house_core.proofs.ReadLemmas.{sessions_put}
+use Rattle.house_core.proofs.TiedLemmas.{changed_else, changed_here, changed_is, tied_with, few_with}
+
+-- a session whose queue has other room is seen as before
+module _ (a : code.World) (s room : ℕ) (x : SessionRecord) (tied : IsTied a.table) (at : session_of s a.table ≡ Some x) where
+  abbrev pub roomy : SessionRecord
+  roomy = record x { queue = record x.queue { room = room } }
+
+  room_did : Did [] 0 a (record a { table = with_session s a.table roomy })
+  room_did = record {
+    world = λ i. record (seen a) {
+      sessions = (sessions_put a.table (λ _. roomy) s x at
+          ∙ put_same s (session_by a.table.lines (Some x)) (sessions_of a.table) (ap (session_by a.table.lines) (sym at))) i;
+    };
+    tied = tied_with s a.table x roomy tied at refl refl (let ready = tied.each s x at in record {
+      given = ready.given;
+      asked = ready.asked;
+      base_in = ready.base_in;
+      short = ready.short;
+      away = ready.away;
+      known = ready.known;
+    });
+    known = λ many users. users;
+    few = λ turns few. few_with s turns (turns + 0) a.table x roomy few at (omega arith)
+        (let old = few.sent s x at in omega (arith, old)) (let old = few.acted s x at in omega (arith, old));
+    lines = refl;
+    answered = refl;
+  }
+
+  pub roomy_did : (y : SessionRecord) → y ≡ roomy → Did [] 0 a (record a { table = with_session s a.table y })
+  roomy_did y is = subst (λ (z : SessionRecord). Did [] 0 a (record a { table = with_session s a.table z })) (sym is) room_did
+
+-- who holds a session is the same, whatever its room is
+still_held : (s w n : ℕ) (t : TableRecord) (x y : SessionRecord) → session_of s t ≡ Some x → y.state ≡ x.state → y.holder ≡ x.holder
+    → IsHeldBy w n t → IsHeldBy w n (with_session s t y)
+still_held s w n t x y at state holder held =
+    elim (eqb_tells s n) [
+      | inl p ↦
+          subst (λ (o : Option SessionRecord). IsSomeAnd o (λ z. (z.state ≡ Live) × (z.holder ≡ Some w)))
+          (sym (changed_here s (λ _. y) t x at) ∙ ap (λ (k : ℕ). session_of k (with_session s t y)) p.1)
+          (let old = subst (λ (o : Option SessionRecord). IsSomeAnd o (λ z. (z.state ≡ Live) × (z.holder ≡ Some w)))
+          (ap (λ (k : ℕ). session_of k t) (sym p.1) ∙ at) held in (state ∙ old.0, holder ∙ old.1))
+      | inr p ↦
+          subst (λ (o : Option SessionRecord). IsSomeAnd o (λ z. (z.state ≡ Live) × (z.holder ≡ Some w)))
+          (sym (changed_else s n (λ _. y) t (λ e. p.1 (sym e)))) held
+    ]
+
+pub held_still : (s w n : ℕ) (t : TableRecord) (x y : SessionRecord) (room : ℕ) → session_of s t ≡ Some x
+    → y ≡ record x { queue = record x.queue { room = room } } → IsHeldBy w n t → IsHeldBy w n (with_session s t y)
+held_still s w n t x y room at is held =
+    still_held s w n t x y at (ap (λ (z : SessionRecord). z.state) is) (ap (λ (z : SessionRecord). z.holder) is) held
+
+-- there is room in the queue of a session, whatever else one becomes
+pub spare_with : (s n : ℕ) (t : TableRecord) (x y : SessionRecord) → session_of s t ≡ Some x → y.queue ≡ x.queue
+    → HasSpare n t → HasSpare n (with_session s t y)
+spare_with s n t x y at same has z is =
+    elim (changed_is s n (λ _. y) t z is) [
+      | inl p ↦
+          let yz : y ≡ z = same_Some y z (ap (option_map (λ (_ : SessionRecord). y)) (sym at) ∙ p.1) in
+          subst (λ (u : SessionRecord). 0 < spare u.queue) yz
+          (subst (λ (q : Queue). 0 < spare q) (sym same)
+          (has x (ap (λ (k : ℕ). session_of k t) p.0 ∙ at)))
+      | inr p ↦ has z p.1
+    ]
+
+pub spare_here : (s : ℕ) (t : TableRecord) (x y : SessionRecord) → session_of s t ≡ Some x → 0 < spare y.queue → HasSpare s (with_session s t y)
+spare_here s t x y at has z is =
+    subst (λ (u : SessionRecord). 0 < spare u.queue)
+    (same_Some y z (sym (changed_here s (λ _. y) t x at) ∙ is)) has
+
+-- the session at an address, where it goes on
+live_goes : (l : Life) (h : Option ℕ) (ls : List stage.Line) → l ≡ Live → goes_on (hold_by l h ls) ≡ true
+live_goes Live None ls is = refl
+live_goes Live (Some w) ls is = refl
+live_goes (Over cause) h ls is = absurd (cc)
+
+over_stops : (l : Life) (h : Option ℕ) (ls : List stage.Line) (cause : Cause) → l ≡ Over cause → goes_on (hold_by l h ls) ≡ false
+over_stops Live h ls cause is = absurd (cc)
+over_stops (Over c) h ls cause is = refl
+
+goes_at : (k : Kept) (a : code.World) (s : ℕ) (x : SessionRecord) → k.world ≡ seen a → session_of s a.table ≡ Some x
+    → goes_on (k.world.sessions s).hold ≡ goes_on (hold_by x.state x.holder a.table.lines)
+goes_at k a s x world at =
+    ap (λ (z : World KeptTraffic). goes_on (z.sessions s).hold) world
+    ∙ ap (λ (o : Option SessionRecord). goes_on (session_by a.table.lines o).hold) at
+
+pub goes : (k : Kept) (a : code.World) (s : ℕ) (x : SessionRecord) → k.world ≡ seen a → session_of s a.table ≡ Some x → x.state ≡ Live
+    → if_it_goes_on k (Some s) ≡ Some s
+goes k a s x world at live =
+    ap (λ b. if b then Some s else None) (goes_at k a s x world at ∙ live_goes x.state x.holder a.table.lines live)
+
+pub stops : (k : Kept) (a : code.World) (s : ℕ) (x : SessionRecord) (cause : Cause) → k.world ≡ seen a → session_of s a.table ≡ Some x → x.state ≡ Over cause
+    → if_it_goes_on k (Some s) ≡ None
+stops k a s x cause world at over =
+    ap (λ b. if b then Some s else None) (goes_at k a s x world at ∙ over_stops x.state x.holder a.table.lines cause over)
+
+-- what is queued, by what was found
+pub nothing_queued : (k : Kept) (s : ℕ) (sender : Address) (x : Stanza) (to : Option Address) (e : Option Element)
+    → ((e' : Element) (a : Address) → to ≡ Some a → e ≡ Some e' → ⊥) → [] ≡ delivered k s sender x to e
+nothing_queued k s sender x to None none = refl
+nothing_queued k s sender x None (Some e) none = refl
+nothing_queued k s sender x (Some a) (Some e) none = absurd (none e a refl refl)
+
+abbrev pub some_stanza : Stanza
+some_stanza = Faulty Message None None false BadRequest
+
+-- a state that is seen so
+abbrev pub some_kept : World KeptTraffic → ℕ → Kept
+some_kept world moment = record {
+  head = record { domain = nobody; users = []; workers = 0; turns = 0; moment = moment };
+  world = world;
+}
+
+-- the act as a whole
+pub act_ends : (k : Kept) (p : model.Pass) (c s t w : ℕ) (x : Stanza) (a b d f : code.World) (made : Option Delivery) → k.world ≡ seen a
+    → p ≡ model.Holds c s → b ≡ a → Did [] 0 b d → Did (On s (Act x) ∷ queued made) 1 d f
+    → queued made ≡ delivered k s (k.world.sessions s).rest.address x (to_in x) (headline_in x)
+    → Ends (body k (event.Act w x t) p) 1 reply.Done a f
+act_ends k p c s t w x a b d f made world pass same ready did is =
+    subst (λ (q : model.Pass). Ends (body k (event.Act w x t) q) 1 reply.Done a f) (sym pass)
+    (record {
+      answer = refl;
+      did =
+          subst (λ (es : List Effect). Did (On s (Act x) ∷ es) 1 a f) is
+          (subst (λ (z : code.World). Did (On s (Act x) ∷ queued made) 1 z f) same
+          (did_then [] (On s (Act x) ∷ queued made) 0 1 b d f ready did));
+    })
+
+pub on_ok : {T E A B : Type 0} (r : Result T E) → (A → B) → OnOk r A → OnOk r B
+on_ok (Ok x) f a = f a
+on_ok (Err e) f a = tt

@@ -1,0 +1,103 @@
+//! What a client says of the stanzas that it handled (XEP-0198, 4).
+ghost use Rattle.std.specs.Prelude.{◌≡◌, ◌<◌, ◌≤◌, ◌^◌, ◌-◌, ℕ, Some, IfSome, length};
+ghost use Rattle.session_table.specs.Sessions.{SessionRecord};
+ghost use Rattle.session_table.specs.Tables.{session_of};
+ghost use Rattle.sm_queue.specs.Queues.{acknowledged};
+ghost use Rattle.house_model.specs.declared.event.Event.{Event};
+ghost use Rattle.house_model.specs.States.{Kept};
+ghost use Rattle.house_model.specs.Steps.{acks, last_moment, verdict};
+ghost use Rattle.house_model.specs.Traffic.{brief};
+ghost use Rattle.house_core.specs.Wholes.{IsFew, IsHeldBy, IsTied};
+ghost use Rattle.house_core.specs.Worlds.{Ends, IsHeld, seen};
+
+use crate::deeds::given;
+use crate::gate::{Needs, Pass};
+use crate::world::World;
+use house_model::Reply;
+use session_table::Session;
+use sm_counters::{Count, within};
+use sm_resume::Cause;
+
+const TO_ACK: Needs = Needs {
+    fresh: false,
+    logged: false,
+    bound: true,
+    answers: false,
+};
+
+// How many of the stanzas that were given a count acknowledges.
+fn handled_of(session: &Session, h: u32) -> Option<u32>
+    requires { session.now.queue.given ≤ length session.now.queue.waiting }
+    ensures handled { result ≡ acknowledged h session.now.queue }
+    ensures within { IfSome result (λ n. n ≤ session.now.queue.given) }
+{
+    within(session.queue.kept(), given(session), Count(h))
+}
+
+impl World {
+    fn handled(&self, s: u64, h: u32) -> Option<u32>
+        requires tied { IsTied self.now.table }
+        requires held { IsHeld s self.now.table }
+        ensures handled { (x : SessionRecord) → session_of s self.now.table ≡ Some x → result ≡ acknowledged h x.queue }
+        ensures within { (x : SessionRecord) → session_of s self.now.table ≡ Some x → IfSome result (λ n. n ≤ x.queue.given) }
+    {
+        match self.table.session(s) {
+            Some(session) => handled_of(session, h),
+            None => None,
+        }
+    }
+
+    fn too_high(&self, s: u64, h: u32) -> Cause
+        requires { IsHeld s self.now.table }
+        ensures { result ≡ brief.too_high ((seen self.now).sessions s).traffic h }
+    {
+        match self.table.session(s) {
+            Some(session) => Cause::TooHigh {
+                h,
+                kept: session.queue.kept().0,
+                sent: session.queue.sent().0,
+            },
+            None => Cause::Lost,
+        }
+    }
+
+    fn hear(&mut self, w: u32, s: u64, h: u32) -> Reply
+        requires line { w < length self.old.table.lines }
+        requires answered { length self.old.answers.items ≡ length self.old.table.lines }
+        requires tied { IsTied self.old.table }
+        requires small { IsFew (2 ^ 64 - 2) self.old.table }
+        requires held { IsHeldBy w s self.old.table }
+        ensures { Ends (acks ((seen self.old).sessions s).counts s h ((seen self.old).sessions s).traffic) 0 result self.old self.new }
+    {
+        if !self.counts(s) {
+            return Reply::Done;
+        }
+        match self.handled(s, h) {
+            Some(n) => {
+                self.ack(s, h, n);
+                Reply::Done
+            }
+            None => {
+                let cause = self.too_high(s, h);
+                self.end_held(w, s, cause);
+                Reply::Over(cause)
+            }
+        }
+    }
+
+    /// What the client says of the stanzas that it handled, once it is checked.
+    pub(crate) fn acknowledge(&mut self, w: u32, h: u32, moment: u64) -> Reply
+        requires line { w < length self.old.table.lines }
+        requires answered { length self.old.answers.items ≡ length self.old.table.lines }
+        requires moment { moment ≤ last_moment }
+        requires tied { IsTied self.old.table }
+        requires small { IsFew (2 ^ 64 - 2) self.old.table }
+        ensures { (k : Kept) → k.world ≡ seen self.old → k.head.moment ≡ moment → Ends (verdict k (Event.Ack w h)) 0 result self.old self.new }
+    {
+        match self.check(&TO_ACK, w, moment) {
+            Pass::Stop(reply) => reply,
+            Pass::Holds { session, .. } => self.hear(w, session, h),
+            _ => Reply::Unready,
+        }
+    }
+}

@@ -1,0 +1,203 @@
+//! Stream management (XEP-0198): stanzas are counted, acknowledged and asked for.
+ghost use Rattle.std.specs.Prelude.{◌≡◌, ◌<◌, ◌≤◌, ◌+◌, ◌-◌, ◌^◌, ◌++◌, ◌∷◌, [], ℕ, List, length, slice_index_or};
+ghost use Rattle.sm_counters.specs.Numbers.{count_of};
+ghost use Rattle.house_model.specs.declared.event.Event.{Event};
+ghost use Rattle.house_model.specs.States.{Kept, State};
+ghost use Rattle.house_model.specs.Steps.{asks, enables, id_if, last_moment, verdict};
+ghost use Rattle.house_model.specs.Histories.{Turn, StandsFor, kept_step, made};
+ghost use Rattle.house_core.specs.Houses.{held};
+ghost use Rattle.house_core.specs.Wholes.{IsFew, IsHeldBy, IsTied};
+ghost use Rattle.house_core.specs.Worlds.{Did, Ends, IsHeld, seen};
+
+use crate::gate::{Needs, Pass};
+use crate::house::House;
+use crate::world::World;
+use house_model::{Answer, Reply};
+use session_table::Session;
+use sm_resume::ResumeId;
+
+pub(crate) const TO_MANAGE: Needs = Needs {
+    fresh: false,
+    logged: true,
+    bound: true,
+    answers: true,
+};
+
+const TO_ASK: Needs = Needs {
+    fresh: false,
+    logged: false,
+    bound: true,
+    answers: true,
+};
+
+/// The count of the client's stanzas that were acted on.
+pub(crate) fn inward(session: &Session) -> u32
+    requires { session.now.base_in ≤ session.now.acted }
+    ensures { result ≡ count_of (session.now.acted - session.now.base_in) }
+{
+    ((session.acted - session.base_in) % 4_294_967_296) as u32
+}
+
+fn id_if(wants: bool, session: u64, digits: [u8; 16]) -> Option<ResumeId>
+    ensures { result ≡ id_if wants session digits }
+{
+    if wants {
+        Some(ResumeId { session, digits })
+    } else {
+        None
+    }
+}
+
+impl House {
+    fn apply_enable(&mut self, w: u32, resume: bool, dice: [u8; 16]) -> Reply
+        requires line { w < length self.old.table.lines }
+        requires turns { self.old.turns < 2 ^ 63 + 2 ^ 62 }
+        ensures state { held self.new ≡ (kept_step (held self.old) (Event.Enable w resume dice)).state }
+        ensures reply { result ≡ (kept_step (held self.old) (Event.Enable w resume dice)).reply }
+    {
+        self.turns += 1;
+        self.world.manage(w, resume, dice, self.moment)
+    }
+
+    /// The connection asks that its stanzas be counted (XEP-0198, 3). Takes no memory.
+    pub fn enable(&mut self, w: u32, resume: bool, dice: [u8; 16]) -> Reply
+        requires line { w < length self.old.table.lines }
+        requires turns { self.old.turns < 2 ^ 63 + 2 ^ 62 }
+        ensures state { held self.new ≡ (kept_step (held self.old) (Event.Enable w resume dice)).state }
+        ensures reply { result ≡ (kept_step (held self.old) (Event.Enable w resume dice)).reply }
+        ensures history { (o : State) (h : List Turn) → StandsFor o h (held self.old) → StandsFor o (h ++ made (Event.Enable w resume dice) result [] ∷ []) (held self.new) }
+    {
+        self.apply_enable(w, resume, dice)
+    }
+
+    fn apply_ack(&mut self, w: u32, h: u32) -> Reply
+        requires line { w < length self.old.table.lines }
+        requires turns { self.old.turns < 2 ^ 63 + 2 ^ 62 }
+        ensures state { held self.new ≡ (kept_step (held self.old) (Event.Ack w h)).state }
+        ensures reply { result ≡ (kept_step (held self.old) (Event.Ack w h)).reply }
+    {
+        self.turns += 1;
+        self.world.acknowledge(w, h, self.moment)
+    }
+
+    /// The client says how many stanzas it handled (XEP-0198, 4). Takes no memory.
+    pub fn ack(&mut self, w: u32, h: u32) -> Reply
+        requires line { w < length self.old.table.lines }
+        requires turns { self.old.turns < 2 ^ 63 + 2 ^ 62 }
+        ensures state { held self.new ≡ (kept_step (held self.old) (Event.Ack w h)).state }
+        ensures reply { result ≡ (kept_step (held self.old) (Event.Ack w h)).reply }
+        ensures history { (o : State) (h' : List Turn) → StandsFor o h' (held self.old) → StandsFor o (h' ++ made (Event.Ack w h) result [] ∷ []) (held self.new) }
+    {
+        self.apply_ack(w, h)
+    }
+
+    fn apply_ask(&mut self, w: u32) -> Reply
+        requires line { w < length self.old.table.lines }
+        requires turns { self.old.turns < 2 ^ 63 + 2 ^ 62 }
+        ensures state { held self.new ≡ (kept_step (held self.old) (Event.Ask w)).state }
+        ensures reply { result ≡ (kept_step (held self.old) (Event.Ask w)).reply }
+    {
+        self.turns += 1;
+        self.world.ask(w, self.moment)
+    }
+
+    /// The client asks how many of its stanzas were handled (XEP-0198, 4). Takes no memory.
+    pub fn ask(&mut self, w: u32) -> Reply
+        requires line { w < length self.old.table.lines }
+        requires turns { self.old.turns < 2 ^ 63 + 2 ^ 62 }
+        ensures state { held self.new ≡ (kept_step (held self.old) (Event.Ask w)).state }
+        ensures reply { result ≡ (kept_step (held self.old) (Event.Ask w)).reply }
+        ensures history { (o : State) (h : List Turn) → StandsFor o h (held self.old) → StandsFor o (h ++ made (Event.Ask w) result [] ∷ []) (held self.new) }
+    {
+        self.apply_ask(w)
+    }
+}
+
+impl World {
+    // What the client asks for, once it is checked.
+    fn ask(&mut self, w: u32, moment: u64) -> Reply
+        requires line { w < length self.old.table.lines }
+        requires answered { length self.old.answers.items ≡ length self.old.table.lines }
+        requires moment { moment ≤ last_moment }
+        requires tied { IsTied self.old.table }
+        ensures { (k : Kept) → k.world ≡ seen self.old → k.head.moment ≡ moment → Ends (verdict k (Event.Ask w)) 0 result self.old self.new }
+    {
+        match self.check(&TO_ASK, w, moment) {
+            Pass::Stop(reply) => reply,
+            Pass::Holds { session, .. } => {
+                self.tell(w, session);
+                Reply::Done
+            }
+            _ => Reply::Unready,
+        }
+    }
+
+    /// The session's client is told the inward count, where it counts.
+    fn tell(&mut self, w: u32, s: u64)
+        requires line { w < length self.old.answers.items }
+        requires room { length (slice_index_or self.old.answers.items w []) < 8 }
+        requires tied { IsTied self.old.table }
+        requires held { IsHeldBy w s self.old.table }
+        ensures { Did (asks ((seen self.old).sessions s).counts w s ((seen self.old).sessions s).traffic).effects 0 self.old self.new }
+    {
+        let Some(session) = self.table.session(s) else {
+            return;
+        };
+        if session.counts {
+            let h = inward(session);
+            self.say(w, Answer::Counted { h });
+        }
+    }
+
+    // Whether the session counts already.
+    pub(crate) fn counts(&self, s: u64) -> bool
+        requires { IsHeld s self.now.table }
+        ensures { result ≡ ((seen self.now).sessions s).counts }
+    {
+        match self.table.session(s) {
+            Some(session) => session.counts,
+            None => false,
+        }
+    }
+
+    // The counts of a session begin, where they have not yet.
+    fn start(&mut self, w: u32, s: u64, resume: bool, dice: [u8; 16])
+        requires line { w < length self.old.answers.items }
+        requires room { length (slice_index_or self.old.answers.items w []) < 8 }
+        requires tied { IsTied self.old.table }
+        requires small { IsFew (2 ^ 64 - 2) self.old.table }
+        requires held { IsHeldBy w s self.old.table }
+        ensures { Did (enables ((seen self.old).sessions s).counts w s (id_if resume s dice)).effects 0 self.old self.new }
+    {
+        if self.counts(s) {
+            self.say(w, Answer::Unexpected);
+        } else {
+            let id = id_if(resume, s, dice);
+            self.enable(s, id);
+            self.say(w, Answer::Enabled { id });
+        }
+    }
+
+    // The client's request that its stanzas be counted.
+    fn manage(&mut self, w: u32, resume: bool, dice: [u8; 16], moment: u64) -> Reply
+        requires line { w < length self.old.table.lines }
+        requires answered { length self.old.answers.items ≡ length self.old.table.lines }
+        requires moment { moment ≤ last_moment }
+        requires tied { IsTied self.old.table }
+        requires small { IsFew (2 ^ 64 - 2) self.old.table }
+        ensures { (k : Kept) → k.world ≡ seen self.old → k.head.moment ≡ moment → Ends (verdict k (Event.Enable w resume dice)) 0 result self.old self.new }
+    {
+        match self.check(&TO_MANAGE, w, moment) {
+            Pass::Stop(reply) => reply,
+            Pass::Holds { session, .. } => {
+                self.start(w, session, resume, dice);
+                Reply::Done
+            }
+            Pass::Knows { .. } => {
+                self.say(w, Answer::Unexpected);
+                Reply::Done
+            }
+            Pass::Waits => Reply::Unready,
+        }
+    }
+}

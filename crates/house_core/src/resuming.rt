@@ -1,0 +1,174 @@
+//! A client asks for its session (XEP-0198, 5).
+ghost use Rattle.std.specs.Prelude.{◌≡◌, ◌<◌, ◌≤◌, ◌+◌, ◌^◌, ◌-◌, ◌++◌, ◌∷◌, [], ℕ, List, length, slice_index_or, true, Some, IsSome};
+ghost use Rattle.std.specs.Option.{option_copied};
+ghost use Rattle.jid_core.specs.Addresses.{same_bare};
+ghost use Rattle.session_table.specs.Sessions.{SessionRecord, is_over};
+ghost use Rattle.session_table.specs.Tables.{conn_of, is_logged, line_of, session_of};
+ghost use Rattle.house_model.specs.declared.event.Event.{Event};
+ghost use Rattle.house_model.specs.States.{Kept, State};
+ghost use Rattle.house_model.specs.Steps.{last_moment, resumes_by, verdict};
+ghost use Rattle.house_model.specs.Histories.{Turn, StandsFor, kept_step, made};
+ghost use Rattle.house_core.specs.Houses.{held};
+ghost use Rattle.house_core.specs.Resumes.{IsNarrow, facts_by, facts_with, is_known_to, users_address};
+ghost use Rattle.house_core.specs.Wholes.{AreUsers, IsFew, IsTied};
+ghost use Rattle.house_core.specs.Worlds.{Ends, seen};
+
+use crate::counting::TO_MANAGE;
+use crate::gate::Pass;
+use crate::house::House;
+use crate::world::World;
+use house_model::{Answer, Reply};
+use jid_core::{Jid, Part};
+use session_table::{Life, Session};
+use sm_counters::Count;
+use sm_resume::{Cause, Decision, Facts, ResumeId, decide};
+
+fn is_users(address: &Jid, user: &Part, domain: &Jid) -> bool
+    ensures { result ≡ same_bare address.now (users_address user.now domain.now.domain) }
+{
+    match &address.local {
+        Some(local) => local.bytes() == user.bytes()
+            && address.domain.bytes() == domain.domain.bytes(),
+        None => false,
+    }
+}
+
+fn is_over(session: &Session) -> bool
+    ensures { result ≡ is_over session.now.state }
+{
+    match session.state() {
+        Life::Live => false,
+        Life::Over(_) => true,
+    }
+}
+
+/// What is known of a session, for a user. None where it can't be resumed.
+fn facts_of(session: &Session, user: &Part, domain: &Jid) -> Option<Facts>
+    requires { session.now.queue.given ≤ length session.now.queue.waiting }
+    ensures facts { result ≡ facts_with user.now domain.now.domain session.now session.now.resume_id }
+    ensures narrow { IsSome session.now.resume_id → IsNarrow session.now }
+{
+    let id = session.resume_id?;
+    let digits = id.digits;
+    let _ = session.queue.len();
+    Some(Facts {
+        digits,
+        yours: is_users(session.address(), user, domain),
+        ended: is_over(session),
+        kept: session.queue.kept(),
+        sent: session.queue.sent(),
+    })
+}
+
+impl House {
+    fn apply_resume(&mut self, w: u32, id: Option<&ResumeId>, h: u32, t: u64) -> Reply
+        requires line { w < length self.old.table.lines }
+        requires turns { self.old.turns < 2 ^ 63 + 2 ^ 62 }
+        ensures state { held self.new ≡ (kept_step (held self.old) (Event.Resume w (option_copied id.entry) h t)).state }
+        ensures reply { result ≡ (kept_step (held self.old) (Event.Resume w (option_copied id.entry) h t)).reply }
+    {
+        self.turns += 1;
+        self.moment = self.later(t);
+        self.world
+            .go_on(w, id, h, self.moment, self.users.as_slice(), &self.domain)
+    }
+
+    /// The connection asks for the session of this id, of which it handled `h` stanzas (XEP-0198, 5). Takes no memory.
+    pub fn resume(&mut self, w: u32, id: Option<&ResumeId>, h: u32, t: u64) -> Reply
+        requires line { w < length self.old.table.lines }
+        requires turns { self.old.turns < 2 ^ 63 + 2 ^ 62 }
+        ensures state { held self.new ≡ (kept_step (held self.old) (Event.Resume w (option_copied id.entry) h t)).state }
+        ensures reply { result ≡ (kept_step (held self.old) (Event.Resume w (option_copied id.entry) h t)).reply }
+        ensures history { (o : State) (h' : List Turn) → StandsFor o h' (held self.old) → StandsFor o (h' ++ made (Event.Resume w (option_copied id.entry) h t) result [] ∷ []) (held self.new) }
+    {
+        self.apply_resume(w, id, h, t)
+    }
+}
+
+impl World {
+    fn facts(&self, s: u64, user: &Part, domain: &Jid) -> Option<Facts>
+        requires { IsTied self.now.table }
+        ensures facts { result ≡ facts_by user.now domain.now.domain (session_of s self.now.table) }
+        ensures narrow { (x : SessionRecord) → session_of s self.now.table ≡ Some x → IsSome x.resume_id → IsNarrow x }
+    {
+        match self.table.session(s) {
+            Some(session) => facts_of(session, user, domain),
+            None => None,
+        }
+    }
+
+    // The client of a user, at a line without a session, asks for the session of an id.
+    fn take_up(
+        &mut self,
+        w: u32,
+        conn: u64,
+        id: &ResumeId,
+        h: u32,
+        user: &Part,
+        domain: &Jid,
+    ) -> Reply
+        requires line { w < length self.old.table.lines }
+        requires logged { is_logged (line_of w self.old.table) ≡ true }
+        requires conn { conn ≡ conn_of (line_of w self.old.table) }
+        requires answered { length self.old.answers.items ≡ length self.old.table.lines }
+        requires room { length (slice_index_or self.old.answers.items w []) < 8 }
+        requires tied { IsTied self.old.table }
+        requires small { IsFew (2 ^ 64 - 2) self.old.table }
+        ensures { Ends (resumes_by (is_known_to user.now domain.now.domain id.now ((seen self.old).sessions id.now.session))
+            ((seen self.old).sessions id.now.session).hold w conn id.now.session h id.now ((seen self.old).sessions id.now.session).traffic) 0 result self.old self.new }
+    {
+        let facts = self.facts(id.session, user, domain);
+        match decide(id, facts.as_ref(), Count(h)) {
+            Decision::Take(n) => {
+                let count = self.resume(w, conn, id.session, h, n);
+                self.say(w, Answer::Resumed { h: count, id: *id });
+                Reply::Resumed
+            }
+            Decision::TooHigh { h, kept, sent } => {
+                let cause = Cause::TooHigh { h, kept, sent };
+                self.close_free(w, cause);
+                Reply::Over(cause)
+            }
+            _ => {
+                self.say(w, Answer::NotFound);
+                Reply::Done
+            }
+        }
+    }
+
+    // A client asks for the session of an id, once that is checked.
+    fn go_on(
+        &mut self,
+        w: u32,
+        id: Option<&ResumeId>,
+        h: u32,
+        moment: u64,
+        users: &[Part],
+        domain: &Jid,
+    ) -> Reply
+        requires line { w < length self.old.table.lines }
+        requires answered { length self.old.answers.items ≡ length self.old.table.lines }
+        requires moment { moment ≤ last_moment }
+        requires tied { IsTied self.old.table }
+        requires small { IsFew (2 ^ 64 - 2) self.old.table }
+        requires users { AreUsers (length users.now) self.old.table }
+        ensures { (k : Kept) → k.world ≡ seen self.old → k.head.moment ≡ moment → k.head.users ≡ users.now → k.head.domain ≡ domain.now
+            → (t : ℕ) → Ends (verdict k (Event.Resume w (option_copied id.entry) h t)) 0 result self.old self.new }
+    {
+        match self.check(&TO_MANAGE, w, moment) {
+            Pass::Stop(reply) => reply,
+            Pass::Knows { conn, user } => match id {
+                Some(id) => self.take_up(w, conn, id, h, &users[user as usize], domain),
+                None => {
+                    self.say(w, Answer::NotFound);
+                    Reply::Done
+                }
+            },
+            Pass::Holds { .. } => {
+                self.say(w, Answer::Unexpected);
+                Reply::Done
+            }
+            Pass::Waits => Reply::Unready,
+        }
+    }
+}

@@ -1,0 +1,47 @@
+//! Lines, sessions and answers, and what an effect on a line does to them.
+ghost use Rattle.std.specs.Prelude.{◌≡◌, ℕ, ◌+◌, ◌<◌, ◌≤◌, [], ◌∷◌, length, true, slice_index_or};
+ghost use Rattle.session_table.specs.Tables.{is_fresh, line_of};
+ghost use Rattle.house_model.specs.Answers.{answer_text};
+ghost use Rattle.house_model.specs.Traffic.{brief};
+ghost use Rattle.house_model.specs.Effects.{At, Log, Say, apply};
+ghost use Rattle.house_core.specs.Wholes.{AreUsers, IsFew, IsTied};
+ghost use Rattle.house_core.specs.Worlds.{Did, seen};
+
+use crate::answers::Answers;
+use house_model::Answer;
+use session_table::Table;
+
+/// Lines and sessions, and the answers that wait at each line.
+#[derive(Drop)]
+pub(crate) struct World {
+    pub(crate) table: Table,
+    pub(crate) answers: Vec<Answers>,
+}
+
+impl World {
+    /// An answer waits at a line.
+    pub(crate) fn say(&mut self, w: u32, answer: Answer)
+        requires line { w < length self.old.answers.items }
+        requires room { length (slice_index_or self.old.answers.items w []) < 8 }
+        requires short { length (answer_text answer) ≤ 524288 }
+        requires tied { IsTied self.old.table }
+        ensures { Did (At w (Say answer) ∷ []) 0 self.old self.new }
+    {
+        self.answers[w as usize].say(answer);
+    }
+
+    /// The connection at a line is the user's.
+    pub(crate) fn log(&mut self, w: u32, user: u32)
+        requires line { w < length self.old.table.lines }
+        requires fresh { is_fresh (line_of w self.old.table) ≡ true }
+        requires tied { IsTied self.old.table }
+        ensures world { seen self.new ≡ apply brief (seen self.old) (At w (Log user)) }
+        ensures tied { IsTied self.new.table }
+        ensures users { (many : ℕ) → AreUsers many self.old.table → user < many → AreUsers many self.new.table }
+        ensures few { (turns : ℕ) → IsFew turns self.old.table → IsFew turns self.new.table }
+        ensures answered { self.new.answers.items ≡ self.old.answers.items }
+        ensures lines { length self.new.table.lines ≡ length self.old.table.lines }
+    {
+        self.table.login(w, user);
+    }
+}

@@ -1,5 +1,0 @@
-use Rattle.house_machine.proofs.Prefixes.{handled_is}
-use Rattle.house_machine.proofs.laws.handled_is_a_prefix.Goals as goal
-
-pub returns : goal.returns
-returns c = handled_is
