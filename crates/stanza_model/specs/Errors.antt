@@ -38,11 +38,13 @@ abbrev pub error_child : Condition → Element
 error_child condition =
     element_of client_space (codes "error") (plain_attr (codes "type") (error_type condition) ∷ []) (roll-Node (Child (condition_element condition)) ∷ [])
 
--- to the sender, from the one that the stanza was for, with the stanza's id
+-- RFC 6120, 8.1.2.1 and 8.1.3: a reply is from the one that the stanza was for, and has the stanza's id
+abbrev pub reply_attrs : Stanza → List ℕ → List Attr
+reply_attrs st form = attr_if (codes "from") (option_map address_text (to_in st)) ++ attr_if (codes "id") (id_in st) ++ plain_attr (codes "type") form ∷ []
+
+-- to the sender
 abbrev pub error_attrs : Stanza → Address → List Attr
-error_attrs st sender =
-    plain_attr (codes "to") (address_text sender)
-    ∷ (attr_if (codes "from") (option_map address_text (to_in st)) ++ attr_if (codes "id") (id_in st) ++ plain_attr (codes "type") (codes "error") ∷ [])
+error_attrs st sender = plain_attr (codes "to") (address_text sender) ∷ reply_attrs st (codes "error")
 
 -- RFC 6120, 8.3.1: a stanza of the same kind and of the type `error`, with the error alone
 abbrev pub error_element : Stanza → Address → Condition → Element

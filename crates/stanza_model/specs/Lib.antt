@@ -3,4 +3,5 @@ pub mod Errors
 pub mod Forms
 pub mod Kinds
 pub mod Nonzas
+pub mod Replies
 pub mod Stanzas

@@ -2,18 +2,14 @@
 ghost use Rattle.std.specs.Prelude.{◌≡◌, [], ◌∷◌, ◌++◌, codes, IfOk, OnOk};
 ghost use Rattle.std.specs.Option.{option_copied, option_map};
 ghost use Rattle.jid_core.specs.Addresses.{address_text};
-ghost use Rattle.stanza_tree.specs.declared.node.Node.TheOpen.{Child};
-ghost use Rattle.stanza_tree.specs.declared.node.Node.TheViews.{roll-Node};
-ghost use Rattle.stanza_model.specs.Errors.{plain_attr, attr_if, condition_element, error_child, error_attrs, error_element};
+ghost use Rattle.stanza_model.specs.Errors.{plain_attr, attr_if, condition_element, error_child, error_element, reply_attrs};
 
 use crate::condition::Condition;
+use crate::make::{CLIENT_SPACE, element_of, one_child, push_attr, text_of, written};
 use crate::stanza::Stanza;
 use jid_core::Jid;
-use stanza_tree::{Attr, Element, Name, NoMemory, Node, Several, Text};
+use stanza_tree::{Attr, Element, NoMemory, Text};
 use std::alloc::Global;
-
-/// The namespace of stanzas (RFC 6120, 4.8.2).
-const CLIENT_SPACE: &str = "jabber:client";
 
 /// The namespace of conditions (RFC 6120, 8.3.2).
 const CONDITION_SPACE: &str = "urn:ietf:params:xml:ns:xmpp-stanzas";
@@ -28,47 +24,12 @@ pub fn error_reply(
 ) -> Result<Element, NoMemory>
     ensures { IfOk result (λ e. e ≡ error_element st.now sender.now condition) }
 {
-    let child = error_child(alloc, condition)?;
+    let content = one_child(alloc, error_child(alloc, condition)?)?;
     let mut attrs = Vec::new(alloc);
-    push_attrs(&mut attrs, alloc, st, sender)?;
-    Ok(Element {
-        name: name_of(alloc, CLIENT_SPACE, st.kind().name())?,
-        attrs: Several::of(attrs),
-        children: one_child(alloc, child)?,
-    })
-}
-
-fn text_of(alloc: Global, text: &str) -> Result<Text, NoMemory>
-    ensures { IfOk result (λ t. t ≡ text.now) }
-{
-    Ok(Text::of_string(String::from_str(alloc, text)?))
-}
-
-/// The text of an address.
-fn written(alloc: Global, address: &Jid) -> Result<Text, NoMemory>
-    ensures { IfOk result (λ t. t ≡ address_text address.now) }
-{
-    let mut bytes = Vec::new(alloc);
-    address.write(&mut bytes)?;
-    Ok(Text::of_vec(bytes))
-}
-
-fn name_of(alloc: Global, space: &str, local: &str) -> Result<Name, NoMemory>
-    ensures { IfOk result (λ n. n ≡ record { space = space.now; local = local.now }) }
-{
-    Ok(Name {
-        space: text_of(alloc, space)?,
-        local: text_of(alloc, local)?,
-    })
-}
-
-/// Adds an attribute in no namespace.
-fn push_attr(attrs: &mut Vec<Attr>, alloc: Global, local: &str, value: Text) -> Result<(), NoMemory>
-    ensures { OnOk result (attrs.new.items ≡ attrs.old.items ++ plain_attr local.now value ∷ []) }
-{
-    let name = name_of(alloc, "", local)?;
-    attrs.push(Attr { name, value })?;
-    Ok(())
+    let to = written(alloc, sender)?;
+    push_attr(&mut attrs, alloc, "to", to)?;
+    push_reply_attrs(&mut attrs, alloc, st, "error")?;
+    element_of(alloc, CLIENT_SPACE, st.kind().name(), attrs, content)
 }
 
 /// Adds the one that the stanza was for, where that is known.
@@ -96,51 +57,35 @@ fn push_id(attrs: &mut Vec<Attr>, alloc: Global, id: Option<&Text>) -> Result<()
     }
 }
 
-fn push_attrs(
+/// Adds the attributes of a reply of this type but for its `to`.
+pub(crate) fn push_reply_attrs(
     attrs: &mut Vec<Attr>,
     alloc: Global,
     st: &Stanza,
-    sender: &Jid,
+    form: &str,
 ) -> Result<(), NoMemory>
-    ensures { OnOk result (attrs.new.items ≡ attrs.old.items ++ error_attrs st.now sender.now) }
+    ensures { OnOk result (attrs.new.items ≡ attrs.old.items ++ reply_attrs st.now form.now) }
 {
-    let to = written(alloc, sender)?;
-    push_attr(attrs, alloc, "to", to)?;
     push_from(attrs, alloc, st.to())?;
     push_id(attrs, alloc, st.id())?;
-    let form = text_of(alloc, "error")?;
+    let form = text_of(alloc, form)?;
     push_attr(attrs, alloc, "type", form)
-}
-
-fn one_child(alloc: Global, child: Element) -> Result<Several<Node>, NoMemory>
-    ensures { IfOk result (λ nodes. nodes ≡ roll-Node (Child child) ∷ []) }
-{
-    let mut nodes = Vec::new(alloc);
-    nodes.push(Node::Child(child))?;
-    Ok(Several::of(nodes))
 }
 
 fn condition_element(alloc: Global, condition: Condition) -> Result<Element, NoMemory>
     ensures { IfOk result (λ e. e ≡ condition_element condition) }
 {
-    Ok(Element {
-        name: name_of(alloc, CONDITION_SPACE, condition.name())?,
-        attrs: Several::of(Vec::new(alloc)),
-        children: Several::of(Vec::new(alloc)),
-    })
+    let (attrs, children) = (Vec::new(alloc), Vec::new(alloc));
+    element_of(alloc, CONDITION_SPACE, condition.name(), attrs, children)
 }
 
 /// `<error type='TYPE'>` with the condition in it.
-fn error_child(alloc: Global, condition: Condition) -> Result<Element, NoMemory>
+pub(crate) fn error_child(alloc: Global, condition: Condition) -> Result<Element, NoMemory>
     ensures { IfOk result (λ e. e ≡ error_child condition) }
 {
-    let child = condition_element(alloc, condition)?;
+    let content = one_child(alloc, condition_element(alloc, condition)?)?;
     let form = text_of(alloc, condition.error_type())?;
     let mut attrs = Vec::new(alloc);
     push_attr(&mut attrs, alloc, "type", form)?;
-    Ok(Element {
-        name: name_of(alloc, CLIENT_SPACE, "error")?,
-        attrs: Several::of(attrs),
-        children: one_child(alloc, child)?,
-    })
+    element_of(alloc, CLIENT_SPACE, "error", attrs, content)
 }

@@ -1,0 +1,3 @@
+pub mod Discovery
+pub mod Messages
+pub mod Places

@@ -1,0 +1,18 @@
+//! Which place a stanza is for, what comes of a message, and what discovery answers (RFC 6120, 10; RFC 6121, 8.5; XEP-0030).
+#![tactic(auto)]
+
+pub mod discovery;
+#[cfg(test)]
+mod discovery_tests;
+pub mod listed;
+pub mod message;
+pub mod places;
+pub mod routing;
+#[cfg(test)]
+mod tests;
+
+pub use discovery::discover;
+pub use listed::Listed;
+pub use message::{deliver, message_receivers};
+pub use places::Place;
+pub use routing::place;
