@@ -1,19 +1,11 @@
 -- A stanza is acted on, and queues what it queues.
-use Rattle.std.proofs.Common.{◌≡◌, inl, inr, ℕ, ◌+◌, ◌<◌, List, [], ◌∷◌, true, false, Option, Some, None, refl, sym, ap, subst, ◌∙◌, arith}
-use Rattle.std.specs.Prelude.{IsSomeAnd, OnOk, Result, Ok, Err, if◌then◌else◌}
-use Rattle.std.specs.Option.{option_map}
+use Rattle.std.proofs.Common.{◌≡◌, inl, inr, ℕ, ◌+◌, List, [], ◌∷◌, true, false, Option, Some, None, refl, sym, ap, subst, ◌∙◌, arith}
+use Rattle.std.specs.Prelude.{map, IsSomeAnd, OnOk, Result, Ok, Err}
 use Rattle.std.proofs.lemmas.Bool.Decides.{eqb_tells}
-use Rattle.std.proofs.lemmas.Option.{same_Some}
-use Rattle.stanza_tree.specs.declared.node.Element.{Element}
-use Rattle.sm_queue.specs.Queues.{Queue, spare}
 use Rattle.sm_resume.specs.declared.decision.Cause.{Cause}
 use Rattle.session_table.specs.declared.line.Line as stage
-use Rattle.jid_core.specs.Addresses.{Address}
-use Rattle.stanza_model.specs.Stanzas.{to_in}
+use Rattle.stanza_model.specs.declared.effect.Effect as stanza
 use Rattle.stanza_model.specs.declared.stanza.Stanza.{Stanza}
-use Rattle.stanza_model.specs.declared.stanza.Stanza.TheVariants.{Faulty}
-use Rattle.stanza_model.specs.declared.kinds.Kind.TheVariants.{Message}
-use Rattle.stanza_model.specs.declared.condition.Condition.TheVariants.{BadRequest}
 use Rattle.session_table.specs.declared.life.Life.{Life}
 use Rattle.session_table.specs.declared.life.Life.TheVariants.{Live, Over}
 use Rattle.session_table.specs.Sessions.{SessionRecord}
@@ -21,20 +13,20 @@ use Rattle.session_table.specs.Tables.{TableRecord, session_of, with_session}
 use Rattle.house_model.specs.declared.event.Event.TheVariants as event
 use Rattle.house_model.specs.declared.reply.Reply.TheVariants as reply
 use Rattle.house_model.specs.Sessions.{Act, nobody}
-use Rattle.house_model.specs.Steps.{body, delivered, goes_on, headline_in, if_it_goes_on}
+use Rattle.house_model.specs.Lookups.{goes_on}
+use Rattle.house_model.specs.Routing.{effects, effects_in}
+use Rattle.house_model.specs.Steps.{body, queued}
 use Rattle.house_model.specs.Traffic.{KeptTraffic}
 use Rattle.house_model.specs.States.{World, Kept}
-use Rattle.house_model.specs.Effects.{Effect, On}
+use Rattle.house_model.specs.Effects.{On}
 use Rattle.house_model.specs.Gate as model
-use Rattle.house_core.specs.declared.acting.Delivery.{Delivery}
 use Rattle.house_core.specs.declared.world.World as code
-use Rattle.house_core.specs.Deliveries.{queued}
 use Rattle.house_core.specs.Houses.{hold_by, session_by, sessions_of}
-use Rattle.house_core.specs.Wholes.{HasSpare, IsHeldBy, IsTied}
+use Rattle.house_core.specs.Wholes.{IsHeldBy, IsTied}
 use Rattle.house_core.specs.Worlds.{seen, Did, Ends}
 use Rattle.house_core.proofs.DidLemmas.{did_then, put_same}
 use Rattle.house_core.proofs.ReadLemmas.{sessions_put}
-use Rattle.house_core.proofs.TiedLemmas.{changed_else, changed_here, changed_is, tied_with, few_with}
+use Rattle.house_core.proofs.TiedLemmas.{changed_else, changed_here, tied_with, few_with}
 
 -- a session whose queue has other room is seen as before
 module _ (a : code.World) (s room : ℕ) (x : SessionRecord) (tied : IsTied a.table) (at : session_of s a.table ≡ Some x) where
@@ -85,24 +77,6 @@ pub held_still : (s w n : ℕ) (t : TableRecord) (x y : SessionRecord) (room : �
 held_still s w n t x y room at is held =
     still_held s w n t x y at (ap (λ (z : SessionRecord). z.state) is) (ap (λ (z : SessionRecord). z.holder) is) held
 
--- there is room in the queue of a session, whatever else one becomes
-pub spare_with : (s n : ℕ) (t : TableRecord) (x y : SessionRecord) → session_of s t ≡ Some x → y.queue ≡ x.queue
-    → HasSpare n t → HasSpare n (with_session s t y)
-spare_with s n t x y at same has z is =
-    elim (changed_is s n (λ _. y) t z is) [
-      | inl p ↦
-          let yz : y ≡ z = same_Some y z (ap (option_map (λ (_ : SessionRecord). y)) (sym at) ∙ p.1) in
-          subst (λ (u : SessionRecord). 0 < spare u.queue) yz
-          (subst (λ (q : Queue). 0 < spare q) (sym same)
-          (has x (ap (λ (k : ℕ). session_of k t) p.0 ∙ at)))
-      | inr p ↦ has z p.1
-    ]
-
-pub spare_here : (s : ℕ) (t : TableRecord) (x y : SessionRecord) → session_of s t ≡ Some x → 0 < spare y.queue → HasSpare s (with_session s t y)
-spare_here s t x y at has z is =
-    subst (λ (u : SessionRecord). 0 < spare u.queue)
-    (same_Some y z (sym (changed_here s (λ _. y) t x at) ∙ is)) has
-
 -- the session at an address, where it goes on
 live_goes : (l : Life) (h : Option ℕ) (ls : List stage.Line) → l ≡ Live → goes_on (hold_by l h ls) ≡ true
 live_goes Live None ls is = refl
@@ -113,31 +87,15 @@ over_stops : (l : Life) (h : Option ℕ) (ls : List stage.Line) (cause : Cause) 
 over_stops Live h ls cause is = absurd (cc)
 over_stops (Over c) h ls cause is = refl
 
-goes_at : (k : Kept) (a : code.World) (s : ℕ) (x : SessionRecord) → k.world ≡ seen a → session_of s a.table ≡ Some x
-    → goes_on (k.world.sessions s).hold ≡ goes_on (hold_by x.state x.holder a.table.lines)
-goes_at k a s x world at =
-    ap (λ (z : World KeptTraffic). goes_on (z.sessions s).hold) world
-    ∙ ap (λ (o : Option SessionRecord). goes_on (session_by a.table.lines o).hold) at
+pub goes_live : (a : code.World) (s : ℕ) (x : SessionRecord) → session_of s a.table ≡ Some x → x.state ≡ Live
+    → goes_on ((seen a).sessions s).hold ≡ true
+goes_live a s x at live =
+    ap (λ (o : Option SessionRecord). goes_on (session_by a.table.lines o).hold) at ∙ live_goes x.state x.holder a.table.lines live
 
-pub goes : (k : Kept) (a : code.World) (s : ℕ) (x : SessionRecord) → k.world ≡ seen a → session_of s a.table ≡ Some x → x.state ≡ Live
-    → if_it_goes_on k (Some s) ≡ Some s
-goes k a s x world at live =
-    ap (λ b. if b then Some s else None) (goes_at k a s x world at ∙ live_goes x.state x.holder a.table.lines live)
-
-pub stops : (k : Kept) (a : code.World) (s : ℕ) (x : SessionRecord) (cause : Cause) → k.world ≡ seen a → session_of s a.table ≡ Some x → x.state ≡ Over cause
-    → if_it_goes_on k (Some s) ≡ None
-stops k a s x cause world at over =
-    ap (λ b. if b then Some s else None) (goes_at k a s x world at ∙ over_stops x.state x.holder a.table.lines cause over)
-
--- what is queued, by what was found
-pub nothing_queued : (k : Kept) (s : ℕ) (sender : Address) (x : Stanza) (to : Option Address) (e : Option Element)
-    → ((e' : Element) (a : Address) → to ≡ Some a → e ≡ Some e' → ⊥) → [] ≡ delivered k s sender x to e
-nothing_queued k s sender x to None none = refl
-nothing_queued k s sender x None (Some e) none = refl
-nothing_queued k s sender x (Some a) (Some e) none = absurd (none e a refl refl)
-
-abbrev pub some_stanza : Stanza
-some_stanza = Faulty Message None None false BadRequest
+pub goes_over : (a : code.World) (s : ℕ) (x : SessionRecord) (cause : Cause) → session_of s a.table ≡ Some x → x.state ≡ Over cause
+    → goes_on ((seen a).sessions s).hold ≡ false
+goes_over a s x cause at over =
+    ap (λ (o : Option SessionRecord). goes_on (session_by a.table.lines o).hold) at ∙ over_stops x.state x.holder a.table.lines cause over
 
 -- a state that is seen so
 abbrev pub some_kept : World KeptTraffic → ℕ → Kept
@@ -146,19 +104,24 @@ some_kept world moment = record {
   world = world;
 }
 
+-- what the rules on stanzas read is the same
+pub scene_is : (k : Kept) (domain : List ℕ) (users : List (List ℕ)) (world : World KeptTraffic) (s : ℕ) (x : Stanza) → k.world ≡ world
+    → k.head.domain.domain ≡ domain → k.head.users ≡ users
+    → effects_in (record { domain = domain; users = users; world = world }) s x ≡ effects k s x
+scene_is k domain users world s x same at names =
+    λ i. effects_in (record { domain = sym at i; users = sym names i; world = sym same i }) s x
+
 -- the act as a whole
-pub act_ends : (k : Kept) (p : model.Pass) (c s t w : ℕ) (x : Stanza) (a b d f : code.World) (made : Option Delivery) → k.world ≡ seen a
-    → p ≡ model.Holds c s → b ≡ a → Did [] 0 b d → Did (On s (Act x) ∷ queued made) 1 d f
-    → queued made ≡ delivered k s (k.world.sessions s).rest.address x (to_in x) (headline_in x)
-    → Ends (body k (event.Act w x t) p) 1 reply.Done a f
-act_ends k p c s t w x a b d f made world pass same ready did is =
+pub act_ends : (k : Kept) (p : model.Pass) (c s t w : ℕ) (x : Stanza) (a b d f : code.World) (es : List stanza.Effect) → p ≡ model.Holds c s
+    → b ≡ a → Did [] 0 b d → Did (On s (Act x) ∷ map queued es) 1 d f → es ≡ effects k s x → Ends (body k (event.Act w x t) p) 1 reply.Done a f
+act_ends k p c s t w x a b d f es pass same ready did is =
     subst (λ (q : model.Pass). Ends (body k (event.Act w x t) q) 1 reply.Done a f) (sym pass)
     (record {
       answer = refl;
       did =
-          subst (λ (es : List Effect). Did (On s (Act x) ∷ es) 1 a f) is
-          (subst (λ (z : code.World). Did (On s (Act x) ∷ queued made) 1 z f) same
-          (did_then [] (On s (Act x) ∷ queued made) 0 1 b d f ready did));
+          subst (λ (os : List stanza.Effect). Did (On s (Act x) ∷ map queued os) 1 a f) is
+          (subst (λ (z : code.World). Did (On s (Act x) ∷ map queued es) 1 z f) same
+          (did_then [] (On s (Act x) ∷ map queued es) 0 1 b d f ready did));
     })
 
 pub on_ok : {T E A B : Type 0} (r : Result T E) → (A → B) → OnOk r A → OnOk r B

@@ -9,7 +9,7 @@ use Rattle.session_table.specs.Tables.{Rises, TableRecord, number_at, session_of
 use Rattle.house_model.specs.declared.answer.Answer.{Answer}
 use Rattle.house_model.specs.Numbered.{least}
 use Rattle.house_model.specs.States.{World, Kept}
-use Rattle.house_model.specs.Steps.{is_there_by, is_there, is_at, session_at}
+use Rattle.house_model.specs.Lookups.{is_there_by, is_there, is_at, session_at}
 use Rattle.house_model.specs.Traffic.{KeptTraffic}
 use Rattle.house_core.specs.Houses.{hold_by, session_by, sessions_of, world_of}
 use Rattle.house_core.specs.Wholes.{IsSession, IsTied}

@@ -15,7 +15,8 @@ use Rattle.house_model.specs.declared.reply.Reply.TheVariants as reply
 use Rattle.house_model.specs.Answers.{answer_text}
 use Rattle.house_model.specs.Effects.{Effect, At, Begin, Say}
 use Rattle.house_model.specs.States.{Kept}
-use Rattle.house_model.specs.Steps.{binds, body, bound_address, has_place, replaces, resource_or, session_at}
+use Rattle.house_model.specs.Lookups.{session_at}
+use Rattle.house_model.specs.Steps.{binds, body, bound_address, has_place, replaces, resource_or}
 use Rattle.house_model.specs.Gate as model
 use Rattle.house_model.specs.Gate.{Verdict}
 use Rattle.house_model.specs.Histories.{passed}

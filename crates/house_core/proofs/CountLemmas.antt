@@ -10,7 +10,8 @@ use Rattle.session_table.specs.Tables.{Rises, TableRecord, session_of}
 use Rattle.house_model.specs.declared.answer.Answer.{Answer}
 use Rattle.house_model.specs.Numbered.{passing}
 use Rattle.house_model.specs.States.{World, Kept}
-use Rattle.house_model.specs.Steps.{is_there, is_at, has_place}
+use Rattle.house_model.specs.Lookups.{is_there, is_at}
+use Rattle.house_model.specs.Steps.{has_place}
 use Rattle.house_model.specs.Traffic.{KeptTraffic}
 use Rattle.house_core.specs.Houses.{session_by, sessions_of, world_of}
 use Rattle.house_core.specs.Wholes.{IsSession, IsTied}
@@ -67,14 +68,14 @@ passing_most (suc n) test =
     most_one true = omega arith
     most_one false = omega arith
 
-rises_most : (last made : ℕ) (es : List (ℕ × SessionRecord)) → Rises last es made → last ≤ made
+pub rises_most : (last made : ℕ) (es : List (ℕ × SessionRecord)) → Rises last es made → last ≤ made
 rises_most last made [] rises = rises
 rises_most last made (e ∷ more) rises =
     let first = rises.0 in
     let rest = rises_most e.0 made more rises.1 in
     omega (arith, first, rest)
 
-none_below : (n last made : ℕ) (es : List (ℕ × SessionRecord)) → Rises last es made → n ≤ last → lookup (nat_eq n) es ≡ None
+pub none_below : (n last made : ℕ) (es : List (ℕ × SessionRecord)) → Rises last es made → n ≤ last → lookup (nat_eq n) es ≡ None
 none_below n last made [] rises low = refl
 none_below n last made (e ∷ more) rises low =
     let first = rises.0 in

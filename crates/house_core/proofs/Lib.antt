@@ -17,6 +17,8 @@ pub mod DiceLemmas
 pub mod DueLemmas
 pub mod PullLemmas
 pub mod LoginLemmas
+pub mod ListedLemmas
+pub mod ReadyLemmas
 pub mod AppendLemmas
 pub mod BeginLemmas
 pub mod PartLemmas

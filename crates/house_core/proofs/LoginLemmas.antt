@@ -12,7 +12,8 @@ use Rattle.house_model.specs.Gate as model
 use Rattle.house_model.specs.Gate.{Verdict, only}
 use Rattle.house_model.specs.Histories.{kept_step}
 use Rattle.house_model.specs.States.{Kept}
-use Rattle.house_model.specs.Steps.{body, logs_in, moment_of, turn, user_place, verdict}
+use Rattle.house_model.specs.Lookups.{user_place}
+use Rattle.house_model.specs.Steps.{body, logs_in, moment_of, turn, verdict}
 use Rattle.house_model.specs.Traffic.{brief}
 use Rattle.house_core.specs.declared.gate.Pass.TheVariants.{Stop}
 use Rattle.house_core.specs.declared.world.World as code

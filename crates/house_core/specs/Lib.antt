@@ -2,7 +2,8 @@ pub mod Houses
 pub mod Wholes
 pub mod Worlds
 pub mod Gates
-pub mod Deliveries
+pub mod Listings
+pub mod Readiness
 pub mod Pulls
 pub mod Logins
 pub mod Resumes

@@ -39,9 +39,9 @@ pub record IsSession (x : SessionRecord) : Type 0 where
 abbrev pub IsHeldBy : ℕ → ℕ → TableRecord → Type 0
 IsHeldBy w s t = IsSomeAnd (session_of s t) (λ x. (x.state ≡ Live) × (x.holder ≡ Some w))
 
--- where session s is there, one stanza more can wait without memory being taken
-abbrev pub HasSpare : ℕ → TableRecord → Type 0
-HasSpare s t = (x : SessionRecord) → session_of s t ≡ Some x → 0 < spare x.queue
+-- where session s is there, so many stanzas more can wait without memory being taken
+abbrev pub HasSpare : (entries s : ℕ) → TableRecord → Type 0
+HasSpare n s t = (x : SessionRecord) → session_of s t ≡ Some x → n ≤ spare x.queue
 
 -- no session is held at line w
 abbrev pub IsFreeLine : ℕ → TableRecord → Type 0

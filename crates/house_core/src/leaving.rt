@@ -6,7 +6,7 @@ ghost use Rattle.house_model.specs.Effects.{At, Close, Leave, On, Open};
 ghost use Rattle.house_model.specs.Gate.{closed, left_by};
 ghost use Rattle.house_model.specs.Sessions.{End};
 ghost use Rattle.house_model.specs.Steps.{last_moment};
-ghost use Rattle.house_core.specs.Wholes.{IsFew, IsFreeLine, IsHeldBy, IsTied};
+ghost use Rattle.house_core.specs.Wholes.{HasSpare, IsFew, IsFreeLine, IsHeldBy, IsTied};
 ghost use Rattle.house_core.specs.Worlds.{Did, left_at, released, seen};
 
 use crate::world::World;
@@ -26,6 +26,7 @@ impl World {
         ensures did { Did (On s (End cause) ∷ []) 0 self.old self.new }
         ensures free { IsFreeLine w self.new.table }
         ensures room { self.new.table.spare ≡ self.old.table.spare }
+        ensures queues { (n r : ℕ) → HasSpare n r self.old.table → HasSpare n r self.new.table }
     {
         let _ = self.table.session(s);
         self.table.mark_over(s, cause);

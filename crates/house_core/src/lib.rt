@@ -4,6 +4,7 @@
 mod acking;
 mod acting;
 mod answers;
+mod applying;
 mod binding;
 mod counting;
 mod deeds;
@@ -15,9 +16,12 @@ pub mod house;
 mod leaving;
 mod lines;
 mod make;
+mod messages;
 mod parting;
 mod pulling;
+mod requests;
 mod resuming;
+mod routing;
 mod submit;
 mod world;
 

@@ -3,7 +3,8 @@ ghost use Rattle.std.specs.Prelude.{◌≡◌, ◌<◌, ◌≤◌, ◌+◌, ◌^
 ghost use Rattle.session_table.specs.Tables.{is_fresh, line_of};
 ghost use Rattle.house_model.specs.declared.event.Event.{Event};
 ghost use Rattle.house_model.specs.States.{Kept, State};
-ghost use Rattle.house_model.specs.Steps.{last_moment, logs_in, user_place, verdict};
+ghost use Rattle.house_model.specs.Lookups.{user_place};
+ghost use Rattle.house_model.specs.Steps.{last_moment, logs_in, verdict};
 ghost use Rattle.house_model.specs.Histories.{Turn, StandsFor, kept_step, made};
 ghost use Rattle.house_core.specs.Houses.{held};
 ghost use Rattle.house_core.specs.Logins.{Enters};
@@ -161,7 +162,7 @@ impl World {
     }
 }
 
-fn place_among(users: &[Part], user: &Part) -> Option<usize>
+pub(crate) fn place_among(users: &[Part], user: &Part) -> Option<usize>
     ensures { result ≡ user_place user.now users.now }
 {
     users.iter().position(|other| other.bytes() == user.bytes())

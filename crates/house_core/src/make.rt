@@ -1,18 +1,17 @@
 //! Makes what a binding or a stanza needs, before anything is changed.
-ghost use Rattle.std.specs.Prelude.{◌≡◌, ◌≤◌, Some, [], length, IfOk, IsTrue};
+ghost use Rattle.std.specs.Prelude.{◌≡◌, ◌≤◌, Some, [], length, IfOk, IfSome, IsTrue};
 ghost use Rattle.std.specs.Option.{option_copied};
-ghost use Rattle.stanza_tree.specs.declared.frame.Origin.TheVariants.{Direct};
-ghost use Rattle.stanza_tree.specs.Spelling.{text};
-ghost use Rattle.stanza_tree.specs.Stamps.{sent_by};
 ghost use Rattle.jid_core.specs.Addresses.{address_text};
+ghost use Rattle.stanza_model.specs.Stanzas.{to_in};
 ghost use Rattle.jid_core.specs.Preparation.{is_local};
 ghost use Rattle.house_model.specs.Answers.{answer_text};
-ghost use Rattle.house_model.specs.Steps.{entry_for, hex, resource_or};
+ghost use Rattle.house_model.specs.Steps.{hex, resource_or};
 
 use crate::dice::hex_of;
 use house_model::Answer;
 use jid_core::{Jid, JidFault, Part};
-use stanza_tree::{Element, Entry, NoMemory, Origin, Text, sent_text};
+use stanza_model::Stanza;
+use stanza_tree::{NoMemory, Text};
 use std::alloc::Global;
 
 /// The one fault that can come where the bytes are known to be right.
@@ -86,22 +85,19 @@ pub(crate) fn make_bound(alloc: Global, address: &Jid, id: &Text) -> Result<Answ
     })
 }
 
-/// The entry for a stanza from one address to another.
-pub(crate) fn make_entry(
-    alloc: Global,
-    from: &Jid,
-    to: &Jid,
-    element: &Element,
-) -> Result<Entry, NoMemory>
-    ensures entry { IfOk result (λ e. e ≡ entry_for from.now to.now element.now) }
-    ensures from_short { length (address_text from.now) ≤ 3071 }
-    ensures to_short { IfOk result (λ e. length (address_text to.now) ≤ 3071) }
+/// An address has at most 3,071 bytes.
+#[tactic(auto, using(jid_core::proofs::AddressLemmas::address_text_short))]
+pub(crate) fn know_short(address: &Jid)
+    ensures { length (address_text address.now) ≤ 3071 }
 {
-    let from = text_of(alloc, from)?;
-    let to = text_of(alloc, to)?;
-    Ok(Entry {
-        to,
-        rest: sent_text(alloc, element, from.bytes())?,
-        origin: Origin::Direct,
-    })
+    let _ = &address.domain;
+}
+
+/// The address of a stanza, where it has one, likewise.
+pub(crate) fn know_to(stanza: &Stanza)
+    ensures { IfSome (to_in stanza.now) (λ a. length (address_text a) ≤ 3071) }
+{
+    if let Some(to) = stanza.to() {
+        know_short(to);
+    }
 }

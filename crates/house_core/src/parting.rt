@@ -1,5 +1,5 @@
 //! How sessions begin, go on at another line, are pushed to, end and depart.
-ghost use Rattle.std.specs.Prelude.{◌≡◌, ℕ, ◌+◌, ◌-◌, ◌^◌, ◌<◌, ◌≤◌, [], ◌∷◌, length, true, Some, slice_index_or};
+ghost use Rattle.std.specs.Prelude.{◌≡◌, ℕ, ◌+◌, ◌-◌, ◌^◌, ◌<◌, ◌≤◌, ◌==◌, [], ◌∷◌, length, true, Some, slice_index_or, if◌then◌else◌};
 ghost use Rattle.stanza_tree.specs.Entries.{frame};
 ghost use Rattle.sm_queue.specs.Queues.{acknowledged, has_room, pushed, spare};
 ghost use Rattle.session_table.specs.Sessions.{SessionRecord};
@@ -8,7 +8,7 @@ ghost use Rattle.house_model.specs.Effects.{Begin, On};
 ghost use Rattle.house_model.specs.Sessions.{End, Push, Resume};
 ghost use Rattle.house_model.specs.Steps.{departs};
 ghost use Rattle.house_model.specs.Traffic.{kept_inward};
-ghost use Rattle.house_core.specs.Wholes.{IsFew, IsTied};
+ghost use Rattle.house_core.specs.Wholes.{HasSpare, IsFew, IsTied};
 ghost use Rattle.house_core.specs.Worlds.{Counts, Did, Handles, KeepsLogged, rewound_to, seen};
 
 use crate::counting::inward;
@@ -52,6 +52,7 @@ impl World {
         requires there { is_there s self.old.table ≡ true }
         ensures did { Did (On s (End cause) ∷ []) 0 self.old self.new }
         ensures room { self.new.table.spare ≡ self.old.table.spare }
+        ensures queues { (n r : ℕ) → HasSpare n r self.old.table → HasSpare n r self.new.table }
     {
         let Some(session) = self.table.session(s) else {
             return;
@@ -86,7 +87,9 @@ impl World {
         requires small { IsFew (2 ^ 64 - 5001) self.old.table }
         requires room { (x : SessionRecord) → session_of s self.old.table ≡ Some x → 0 < spare x.queue }
         requires short { length (frame entry) ≤ 524288 }
-        ensures { Did (On s (Push entry) ∷ []) 0 self.old self.new }
+        ensures did { Did (On s (Push entry) ∷ []) 0 self.old self.new }
+        ensures queues { (n r : ℕ) → HasSpare n r self.old.table
+            → HasSpare (n - (if r == s then 1 else 0)) r self.new.table }
     {
         let Some(session) = self.table.session(s) else {
             return;
@@ -108,9 +111,12 @@ impl World {
         requires tied { IsTied self.old.table }
         requires live { IsLive s self.old.table }
         requires spare { (x : SessionRecord) → session_of s self.old.table ≡ Some x → 0 < spare x.queue }
-        requires room { (x : SessionRecord) → session_of s self.old.table ≡ Some x → has_room x.queue.waiting entry ≡ true }
+        requires room { (x : SessionRecord) → session_of s self.old.table ≡ Some x
+            → has_room x.queue.waiting entry ≡ true }
         requires short { length (frame entry) ≤ 524288 }
-        ensures { Did (On s (Push entry) ∷ []) 0 self.old self.new }
+        ensures did { Did (On s (Push entry) ∷ []) 0 self.old self.new }
+        ensures queues { (n r : ℕ) → HasSpare n r self.old.table
+            → HasSpare (n - (if r == s then 1 else 0)) r self.new.table }
     {
         if let Some(session) = self.table.session_mut(s) {
             add(session, entry);

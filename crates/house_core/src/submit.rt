@@ -1,54 +1,14 @@
 //! An event is handed to its call.
 ghost use Rattle.std.specs.Prelude.{◌≡◌, ◌<◌, ◌≤◌, ◌+◌, ◌^◌, ◌++◌, ◌∷◌, [], ℕ, List, length, vec_len, vec_capacity};
-ghost use Rattle.stanza_model.specs.Stanzas.{to_in};
 ghost use Rattle.house_model.specs.Histories.{Meets, StandsFor, Turn, line_of, turn_of};
-ghost use Rattle.house_model.specs.Plain.{is_full_at, is_headline_to, is_plain};
 ghost use Rattle.house_model.specs.States.{State};
-ghost use Rattle.house_model.specs.Steps.{headline_in};
 ghost use Rattle.house_core.specs.Houses.{held};
 
-use crate::acting::headline_of;
 use crate::house::House;
-use house_model::{Event, Reply, Stanza};
-use jid_core::{Jid, Part};
-use session_table::Line;
+use house_model::{Event, Reply};
 use stanza_tree::NoMemory;
 
-/// Whether an address is `local@domain/resource` at a domain.
-fn is_full_at(domain: &Part, address: &Jid) -> bool
-    ensures { result ≡ is_full_at domain.now address.now }
-{
-    address.local.is_some()
-        && address.resource.is_some()
-        && address.domain.bytes() == domain.bytes()
-}
-
-/// Whether a stanza is a headline message to a full address at a domain.
-fn is_headline_to(domain: &Part, stanza: &Stanza) -> bool
-    ensures { result ≡ is_headline_to domain.now (to_in stanza.now) (headline_in stanza.now) }
-{
-    match headline_of(stanza) {
-        Some((to, _)) => is_full_at(domain, to),
-        None => false,
-    }
-}
-
 impl House {
-    /// Whether every case that an event reaches is built: all but a stanza of a session that is no headline message to a full
-    /// address of the house's domain.
-    pub fn is_plain(&self, event: &Event) -> bool
-        requires { line_of event.now < length self.now.table.lines }
-        ensures { result ≡ is_plain (held self.now) event.now }
-    {
-        match event {
-            Event::Act { w, stanza, .. } => match *self.world.table.line(*w) {
-                Line::Bound { .. } => is_headline_to(&self.domain.domain, stanza),
-                _ => true,
-            },
-            _ => true,
-        }
-    }
-
     /// Hands an event to its call. What a Pull gives is appended to `out`, which has room for it.
     pub fn submit(&mut self, event: &Event, out: &mut Vec<u8>) -> Result<Reply, NoMemory>
         requires line { line_of event.now < length self.old.table.lines }

@@ -1,7 +1,7 @@
 -- What an account tells of the house's turns is what it tells of the operations of a session that goes alone.
 use Rattle.std.proofs.Common.{◌≡◌, inl, inr, ℕ, List, [], ◌∷◌, Option, Some, None, Bool, true, false, eqb, refl, sym, ap, ◌∙◌, subst, true≢false, if◌then◌else◌}
 use Rattle.std.proofs.lemmas.Bool.{eqb-true}
-use Rattle.stanza_model.specs.Stanzas.{to_in}
+use Rattle.std.specs.Prelude.{map}
 use Rattle.stanza_model.specs.declared.stanza.Stanza.{Stanza}
 use Rattle.sm_resume.specs.declared.id.ResumeId.{ResumeId}
 use Rattle.session_table.specs.declared.line.Line as stage
@@ -21,7 +21,8 @@ use Rattle.house_model.specs.Traffic.{KeptTraffic, whole}
 use Rattle.house_model.specs.States.{State, Kept, keep}
 use Rattle.house_model.specs.Effects.{On, apply}
 use Rattle.house_model.specs.Gate.{Verdict, to_act, gate_at}
-use Rattle.house_model.specs.Steps.{acks, headline_in, delivered, body, verdict, turn}
+use Rattle.house_model.specs.Routing.{effects}
+use Rattle.house_model.specs.Steps.{queued, acks, body, verdict, turn}
 use Rattle.house_model.specs.Histories.{Outcome, Made, Short, Turn, IsOutcome, after, Legal, IsOpening}
 use Rattle.house_model.specs.Bridge.{hold_of, core_of, effects_ops, short_at, turn_ops, alone_of}
 use Rattle.house_model.specs.Lines.{shorts}
@@ -29,7 +30,7 @@ use Rattle.house_model.specs.Resuming.{is_live}
 use Rattle.house_model.specs.Accounts as house
 use Rattle.house_model.proofs.TurnLaws.{always_sound}
 use Rattle.house_model.proofs.Cores.{alone_core}
-use Rattle.house_model.proofs.Quiet.{is_deaf, verdict_plain, delivered_plain}
+use Rattle.house_model.proofs.Quiet.{is_deaf, verdict_plain, queued_plain}
 use Rattle.house_model.proofs.Told.{core_held}
 use Rattle.house_model.proofs.Hearing.{kept_held}
 use Rattle.house_model.proofs.Resumes.{finds_counts, finds_live}
@@ -159,12 +160,12 @@ module _ (a : Account Stanza) (o : State) (g : List Turn) (s : ℕ) (starts : Is
   stage_act w y t said v kept (Bound c i) is fits =
       lead_both a x said v v (if eqb s i then one.Act y ∷ [] else [])
       (effects_ops s (apply whole st.world (On i (Act y)))
-      (delivered kept i (kept.world.sessions i).rest.address y (to_in y) (headline_in y)))
+      (map queued (effects kept i y)))
       (heard_lead ((v ≡ said) × house.IsWhole a o g s c) (eqb s i) w c i said v (one.Act y) refl is fits
       (λ k counted held. whole_is c said v k counted held) (λ e. e))
       (effects_muted a (run x (if eqb s i then one.Act y ∷ [] else [])) v s (apply whole st.world (On i (Act y)))
-      (delivered kept i (kept.world.sessions i).rest.address y (to_in y) (headline_in y))
-      (delivered_plain client_ear kept i (kept.world.sessions i).rest.address y (to_in y) (headline_in y)))
+      (map queued (effects kept i y))
+      (queued_plain client_ear (effects kept i y)))
 
   stage_short : (w : ℕ) (y : Stanza) (said v : ℕ) (l : stage.Line) → (st.world.lines w).stage ≡ l
       → house.WhereHeld a o g s (λ c. (v ≡ said) × house.IsWhole a o g s c) (v ≡ said) l

@@ -1,10 +1,10 @@
 -- The effects of every event fit, so that lines and sessions match after every history.
 use Rattle.std.proofs.Common.{◌≡◌, ℕ, List, [], ◌∷◌, Option, Some, None, Bool, true, false, refl, sym, subst}
-use Rattle.std.specs.Prelude.{nat_lt, slice_get, ◌&&◌}
+use Rattle.std.specs.Prelude.{map, nat_lt, slice_get, ◌&&◌}
 use Rattle.jid_core.specs.Addresses.{Address}
 use Rattle.stanza_tree.specs.declared.frame.Entry.{Entry}
-use Rattle.stanza_tree.specs.declared.node.Element.{Element}
-use Rattle.stanza_model.specs.Stanzas.{to_in}
+use Rattle.stanza_model.specs.declared.effect.Effect as stanza
+use Rattle.stanza_model.specs.declared.effect.Effect.TheVariants.{Queue}
 use Rattle.stanza_model.specs.declared.stanza.Stanza.{Stanza}
 use Rattle.sm_resume.specs.declared.decision.Cause.TheVariants.{Flood, Lost}
 use Rattle.sm_resume.specs.declared.id.ResumeId.{ResumeId}
@@ -17,7 +17,9 @@ use Rattle.house_model.specs.Traffic.{Traffic, KeptTraffic, whole, brief, kept_s
 use Rattle.house_model.specs.States.{World, State, Kept, keep, opening}
 use Rattle.house_model.specs.Effects.{Open, At, Begin, On, Say, Leave, Close, apply}
 use Rattle.house_model.specs.Gate.{Waits, Knows, Holds, Needs, to_login, to_bind, to_manage, to_act, to_ask, to_pull, most_answers, left, closed, gate_at}
-use Rattle.house_model.specs.Steps.{session_at, unavailable, live_at, logs_in, replaces, binds, enables, takes, resumes_by, is_known, resumes, headline_in, entry_for, queue_at, delivered, acts, acks, asks, requests, gives_entry, pulls, sweeps, departs, due, body, verdict, turn}
+use Rattle.house_model.specs.Lookups.{session_at}
+use Rattle.house_model.specs.Routing.{effects}
+use Rattle.house_model.specs.Steps.{logs_in, replaces, binds, enables, takes, resumes_by, is_known, resumes, queued, acts, acks, asks, requests, gives_entry, pulls, sweeps, departs, due, body, verdict, turn}
 use Rattle.house_model.specs.Histories.{Outcome, Made, Short, Turn, next_by, next, after, IsOpening}
 use Rattle.house_model.specs.Sound.{Fits, Back}
 use Rattle.house_model.proofs.GateLemmas.{gate_leads}
@@ -64,22 +66,16 @@ enables_fits : (counts : Bool) (world : World Traffic) (w s : ℕ) (id : Option 
 enables_fits true world w s id = (tt, tt)
 enables_fits false world w s id = (tt, (tt, tt))
 
-queue_at_on : (r : Option ℕ) (s : ℕ) (e f : Entry) → AllOn (queue_at r s e f)
-queue_at_on None s e f = (tt, tt)
-queue_at_on (Some r) s e f = (tt, tt)
-
-delivered_on : (k : Kept) (s : ℕ) (sender : Address) (x : Stanza) (to : Option Address) (e : Option Element)
-    → AllOn (delivered k s sender x to e)
-delivered_on k s sender x to None = tt
-delivered_on k s sender x None (Some e) = tt
-delivered_on k s sender x (Some a) (Some e) = queue_at_on (live_at k a) s (entry_for sender a e) (unavailable sender a x)
+queued_on : (es : List stanza.Effect) → AllOn (map queued es)
+queued_on [] = tt
+queued_on (Queue s to rest origin ∷ more) = (tt, queued_on more)
 
 acts_fits : (world : World Traffic) (k : Kept) (s : ℕ) (x : Stanza) → Fits world (acts k s x).effects
 acts_fits world k s x = (
   tt,
   all_on_fit (apply whole world (On s (Act x)))
-      (delivered k s (k.world.sessions s).rest.address x (to_in x) (headline_in x))
-      (delivered_on k s (k.world.sessions s).rest.address x (to_in x) (headline_in x)),
+      (map queued (effects k s x))
+      (queued_on (effects k s x)),
 )
 
 acks_fits : (counts : Bool) (world : World Traffic) (s h : ℕ) (t : KeptTraffic) → Fits world (acks counts s h t).effects

@@ -19,7 +19,8 @@ use Rattle.house_model.specs.Traffic.{Traffic, whole, handled}
 use Rattle.house_model.specs.States.{World, State, Kept, keep}
 use Rattle.house_model.specs.Effects.{Effect, At, Begin, Say, Close, apply, apply_all}
 use Rattle.house_model.specs.Gate.{Verdict, Knows, Holds, to_bind, to_manage, most_answers, is_full, flooded, left, gate_at}
-use Rattle.house_model.specs.Steps.{session_at, replaces, binds, has_place, bound_address, resource_or, body, turn}
+use Rattle.house_model.specs.Lookups.{session_at}
+use Rattle.house_model.specs.Steps.{replaces, binds, has_place, bound_address, resource_or, body, turn}
 use Rattle.house_model.specs.Histories.{Made, Short}
 use Rattle.house_model.specs.Sound.{Sound}
 use Rattle.house_model.specs.Bridge.{core_of, effect_ops, effects_ops}

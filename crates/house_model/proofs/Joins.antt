@@ -19,7 +19,8 @@ use Rattle.house_model.specs.Traffic.{Traffic, whole, handled, inward, keep_traf
 use Rattle.house_model.specs.States.{Line, World, State, Kept, keep}
 use Rattle.house_model.specs.Effects.{Effect, At, Begin, On, Say, over_line, bound_line, moved_if, settled, line_step, apply, apply_all}
 use Rattle.house_model.specs.Gate.{Verdict, Knows, to_bind, to_manage, is_full, flooded, gate_at}
-use Rattle.house_model.specs.Steps.{session_at, replaces, binds, has_place, bound_address, resource_or, takes, body, verdict, turn}
+use Rattle.house_model.specs.Lookups.{session_at}
+use Rattle.house_model.specs.Steps.{replaces, binds, has_place, bound_address, resource_or, takes, body, verdict, turn}
 use Rattle.house_model.specs.Histories.{Outcome, Made, Short, Turn, IsOutcome, step, next_by, next, after, Legal, IsOpening, opened_by}
 use Rattle.house_model.specs.Sound.{Sound}
 use Rattle.house_model.specs.Lines.{told, conn_of, joined, lines}

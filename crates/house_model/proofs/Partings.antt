@@ -16,7 +16,8 @@ use Rattle.house_model.specs.Traffic.{Traffic, whole}
 use Rattle.house_model.specs.States.{State, World, Kept, keep, keep_by, keep_session}
 use Rattle.house_model.specs.Effects.{Effect, Open, At, Begin, On, Say, Close, apply, apply_all}
 use Rattle.house_model.specs.Gate.{Verdict, most_answers, to_bind, left}
-use Rattle.house_model.specs.Steps.{is_there, is_at, session_at, replaces, binds, has_place, bound_address, resource_or, has_come, is_due, due, departs, sweeps, verdict, turn}
+use Rattle.house_model.specs.Lookups.{is_there, is_at, session_at}
+use Rattle.house_model.specs.Steps.{replaces, binds, has_place, bound_address, resource_or, has_come, is_due, due, departs, sweeps, verdict, turn}
 use Rattle.house_model.specs.Histories.{step}
 use Rattle.house_model.specs.Resuming.{IsOverOrDue, IsSwept, IsReplaced}
 use Rattle.house_model.proofs.PutLemmas.{put_is, put_else}
@@ -46,11 +47,11 @@ resumed_gone : (u : Option Traffic) (m : Hold) (t : Traffic) (r : Rest) (w c : �
 resumed_gone (Some u) m t r w c is = absurd (cc)
 resumed_gone None m t r w c is = is
 
-abbrev IsNoPart : Op → Type 0
+abbrev pub IsNoPart : Op → Type 0
 IsNoPart Part = ⊥
 IsNoPart op = ⊤
 
-step_gone : (b : Bool) (m : Hold) (t : Traffic) (r : Rest) (op : Op) → IsNoPart op
+pub step_gone : (b : Bool) (m : Hold) (t : Traffic) (r : Rest) (op : Op) → IsNoPart op
     → (step_if whole b m t r op).hold ≡ Gone → m ≡ Gone
 step_gone b m t r Part stays is = absurd stays
 step_gone b (Held v d) t r (Push e) stays is = pushed_gone (whole.has_room t e) b (Held v d) t r e is
@@ -130,7 +131,7 @@ first_passes None n s test before is =
     let here : (test (suc n) ≡ true) × (suc n ≡ s) = or_here_is None (test (suc n)) (suc n) s is (λ bad. cc) in
     ap test (sym here.1) ∙ here.0
 
-least_passes : (n : ℕ) (test : ℕ → Bool) (s : ℕ) → least n test ≡ Some s → test s ≡ true
+pub least_passes : (n : ℕ) (test : ℕ → Bool) (s : ℕ) → least n test ≡ Some s → test s ≡ true
 least_passes zero test s is = absurd (cc)
 least_passes (suc n) test s is = first_passes (least n test) n s test (λ e. least_passes n test s e) is
 

@@ -1,10 +1,10 @@
 -- Which events are heard of a session: the effects of all others tell nothing.
 use Rattle.std.proofs.Common.{◌≡◌, ℕ, ◌+◌, List, [], ◌∷◌, Option, Some, None, Bool, true, false, refl, not}
-use Rattle.std.specs.Prelude.{nat_lt, slice_get, ◌&&◌}
+use Rattle.std.specs.Prelude.{map, nat_lt, slice_get, ◌&&◌}
 use Rattle.jid_core.specs.Addresses.{Address}
 use Rattle.stanza_tree.specs.declared.frame.Entry.{Entry}
-use Rattle.stanza_tree.specs.declared.node.Element.{Element}
-use Rattle.stanza_model.specs.Stanzas.{to_in}
+use Rattle.stanza_model.specs.declared.effect.Effect as stanza
+use Rattle.stanza_model.specs.declared.effect.Effect.TheVariants.{Queue}
 use Rattle.stanza_model.specs.declared.stanza.Stanza.{Stanza}
 use Rattle.sm_resume.specs.declared.decision.Cause.{Cause}
 use Rattle.sm_resume.specs.declared.decision.Cause.TheVariants.{Flood, Lost, Replaced}
@@ -19,7 +19,9 @@ use Rattle.house_model.specs.Traffic.{KeptTraffic, brief, kept_sent}
 use Rattle.house_model.specs.States.{Kept}
 use Rattle.house_model.specs.Effects.{Effect, Open, At, Begin, Say, Close}
 use Rattle.house_model.specs.Gate.{Waits, Knows, Holds, Needs, to_login, to_bind, to_manage, to_act, to_ask, to_pull, most_answers, left_by, left, closed, gate_at}
-use Rattle.house_model.specs.Steps.{session_at, unavailable, live_at, logs_in, replaces, binds, enables, takes, resumes_by, is_known, resumes, headline_in, entry_for, queue_at, delivered, acts, acks, asks, requests, gives_entry, pulls, leaves, sweeps, departs, due, body, verdict}
+use Rattle.house_model.specs.Lookups.{session_at}
+use Rattle.house_model.specs.Routing.{effects}
+use Rattle.house_model.specs.Steps.{logs_in, replaces, binds, enables, takes, resumes_by, is_known, resumes, queued, acts, acks, asks, requests, gives_entry, pulls, leaves, sweeps, departs, due, body, verdict}
 use Rattle.house_model.proofs.Resumes.{and_left, and_right}
 use Rattle.house_model.proofs.Ears.{Ear, AllPlain, plain, plain_append}
 use Rattle.house_model.proofs.GateLemmas.{gate_leads}
@@ -90,20 +92,13 @@ resumes_plain r (Some id) k w c u h is =
     resumes_by_plain r (is_known k id u (k.world.sessions id.session)) (k.world.sessions id.session).hold w c id.session
     h id (k.world.sessions id.session).traffic is
 
-queue_at_plain : (r : Ear) (n : Option ℕ) (s : ℕ) (e f : Entry) → AllPlain r (queue_at n s e f)
-queue_at_plain r None s e f = (refl, tt)
-queue_at_plain r (Some n) s e f = (refl, tt)
-
-pub delivered_plain : (r : Ear) (k : Kept) (s : ℕ) (sender : Address) (x : Stanza) (to : Option Address) (e : Option Element)
-    → AllPlain r (delivered k s sender x to e)
-delivered_plain r k s sender x to None = tt
-delivered_plain r k s sender x None (Some e) = tt
-delivered_plain r k s sender x (Some a) (Some e) =
-    queue_at_plain r (live_at k a) s (entry_for sender a e) (unavailable sender a x)
+pub queued_plain : (r : Ear) (es : List stanza.Effect) → AllPlain r (map queued es)
+queued_plain r [] = tt
+queued_plain r (Queue s to rest origin ∷ more) = (refl, queued_plain r more)
 
 acts_plain : (r : Ear) (k : Kept) (s : ℕ) (x : Stanza) → not r.act ≡ true → AllPlain r (acts k s x).effects
 acts_plain r k s x is =
-    (is, delivered_plain r k s (k.world.sessions s).rest.address x (to_in x) (headline_in x))
+    (is, queued_plain r (effects k s x))
 
 acks_plain : (r : Ear) (counts : Bool) (s h : ℕ) (t : KeptTraffic) → not r.ack ≡ true
     → AllPlain r (acks counts s h t).effects

@@ -166,7 +166,7 @@ apply_tied world (At v op) tied later w c k is =
 apply_tied world (Begin v d a) tied later w c k is = begin_tied v d a world tied later w c k is
 apply_tied world (On s op) tied later w c k is = touch_tied s op world tied w c k is
 
-unmade_stays : (op : Op) → session_step whole (unmade whole) op ≡ unmade whole
+pub unmade_stays : (op : Op) → session_step whole (unmade whole) op ≡ unmade whole
 unmade_stays (Push e) = refl
 unmade_stays Pull = refl
 unmade_stays Request = refl

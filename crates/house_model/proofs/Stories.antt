@@ -1,5 +1,5 @@
 -- The story is legal, and its client counts.
-use Rattle.std.proofs.Common.{◌≡◌, inl, inr, ℕ, zero, suc, ◌+◌, ◌≤◌, [], ◌∷◌, length, Some, Bool, refl, sym, subst, arith}
+use Rattle.std.proofs.Common.{◌≡◌, inl, inr, ℕ, zero, suc, ◌+◌, ◌≤◌, [], ◌∷◌, length, Some, refl, sym, subst, arith}
 use Rattle.std.specs.Prelude.{slice_get}
 use Rattle.stanza_model.specs.declared.condition.Condition.{Condition}
 use Rattle.stanza_model.specs.declared.kinds.Kind.{Kind}
@@ -13,9 +13,9 @@ use Rattle.house_model.specs.Story.{small_house, faulty, until_lost, whole_story
 pub story_starts : IsOpening small_house
 story_starts = (_, _, _, refl)
 
-pub story_legal : (k : Kind) (b : Bool) (c : Condition) → Legal small_house (whole_story (faulty k b c))
+pub story_legal : (k : Kind) (c : Condition) → Legal small_house (whole_story (faulty k c))
 unfolding number number_among
-story_legal k b c = (
+story_legal k c = (
   record { line = omega arith; meets = tt; outcome = (refl, refl) },
   (
     record { line = omega arith; meets = tt; outcome = (refl, refl) },
@@ -41,32 +41,32 @@ story_legal k b c = (
   ),
 )
 
-pub story_acted : (k : Kind) (b : Bool) (c : Condition)
-    → acted small_house (whole_story (faulty k b c)) 1 ≡ faulty k b c ∷ []
-story_acted k b c = refl
+pub story_acted : (k : Kind) (c : Condition)
+    → acted small_house (whole_story (faulty k c)) 1 ≡ faulty k c ∷ []
+story_acted k c = refl
 
 some_is : (n c : ℕ) → Some n ≡ Some c → c ≡ n
 some_is n c is = sym (cc)
 
-module _ (k : Kind) (b : Bool) (e : Condition) (y : Stanza) where
+module _ (k : Kind) (e : Condition) (y : Stanza) where
   line_fits : (i c : ℕ) → slice_get (1 ∷ 2 ∷ []) i ≡ Some c
-      → LineFits (her_account (faulty k b e) y) small_house (whole_story (faulty k b e)) 1 i c
+      → LineFits (her_account (faulty k e) y) small_house (whole_story (faulty k e)) 1 i c
   line_fits zero c is =
-      subst (LineFits (her_account (faulty k b e) y) small_house (whole_story (faulty k b e)) 1 0)
+      subst (LineFits (her_account (faulty k e) y) small_house (whole_story (faulty k e)) 1 0)
       (sym (some_is 1 c is)) (record { within = omega arith; in_order = (y ∷ [], refl) })
   line_fits (suc zero) c is =
-      subst (LineFits (her_account (faulty k b e) y) small_house (whole_story (faulty k b e)) 1 1)
+      subst (LineFits (her_account (faulty k e) y) small_house (whole_story (faulty k e)) 1 1)
       (sym (some_is 2 c is)) (record { within = omega arith; in_order = (y ∷ [], refl) })
   line_fits (suc (suc i)) c is = absurd (cc)
 
   sent_by : (j c : ℕ) → slice_get (1 ∷ []) j ≡ Some c
-      → (her_account (faulty k b e) y).begins j + length (arrivals small_house (until_lost (faulty k b e)) 1 c) ≤ 2
+      → (her_account (faulty k e) y).begins j + length (arrivals small_house (until_lost (faulty k e)) 1 c) ≤ 2
   sent_by zero c is =
-      subst (λ (n : ℕ). 0 + length (arrivals small_house (until_lost (faulty k b e)) 1 n) ≤ 2) (sym (some_is 1 c is))
+      subst (λ (n : ℕ). 0 + length (arrivals small_house (until_lost (faulty k e)) 1 n) ≤ 2) (sym (some_is 1 c is))
       (omega arith)
   sent_by (suc j) c is = absurd (cc)
 
-  story_account : IsAccountOf (her_account (faulty k b e) y) small_house (whole_story (faulty k b e)) 1
+  story_account : IsAccountOf (her_account (faulty k e) y) small_house (whole_story (faulty k e)) 1
   unfolding number number_among
   story_account = record {
     first = refl;
@@ -120,6 +120,6 @@ module _ (k : Kind) (b : Bool) (e : Condition) (y : Stanza) where
     );
   }
 
-pub her_story : (k : Kind) (b : Bool) (e : Condition) (y : Stanza)
-    → IsAccountOf (her_account (faulty k b e) y) small_house (whole_story (faulty k b e)) 1
-her_story k b e y = story_account k b e y
+pub her_story : (k : Kind) (e : Condition) (y : Stanza)
+    → IsAccountOf (her_account (faulty k e) y) small_house (whole_story (faulty k e)) 1
+her_story k e y = story_account k e y

@@ -2,7 +2,7 @@
 -- operations tell.
 use Rattle.std.proofs.Common.{◌≡◌, ℕ, List, [], ◌∷◌, ◌++◌, length, drop, Bool, true, false, eqb, refl, sym, ap, ◌∙◌, true≢false, if◌then◌else◌}
 use Rattle.std.proofs.lemmas.Bool.{eqb-true}
-use Rattle.stanza_model.specs.Stanzas.{to_in}
+use Rattle.std.specs.Prelude.{map}
 use Rattle.stanza_model.specs.declared.stanza.Stanza.{Stanza}
 use Rattle.sm_resume.specs.declared.decision.Cause.TheVariants.{Flood}
 use Rattle.session_table.specs.declared.line.Line as stage
@@ -18,13 +18,14 @@ use Rattle.house_model.specs.Traffic.{KeptTraffic, kept_inward}
 use Rattle.house_model.specs.States.{State, Kept, keep}
 use Rattle.house_model.specs.Effects.{At, Say, Close}
 use Rattle.house_model.specs.Gate.{Verdict, Holds, to_act, to_ask, most_answers, is_full, flooded, left, gate_at}
-use Rattle.house_model.specs.Steps.{headline_in, delivered, asks, body, turn}
+use Rattle.house_model.specs.Routing.{effects}
+use Rattle.house_model.specs.Steps.{queued, asks, body, turn}
 use Rattle.house_model.specs.Histories.{Made, Short}
 use Rattle.house_model.specs.Sound.{Sound}
 use Rattle.house_model.specs.Bridge.{core_of, effects_ops, short_at}
 use Rattle.house_model.specs.Lines.{while_counted, holding, taken_at, taken_by, taken, done_by, done, asked_by, asked}
 use Rattle.house_model.proofs.Ears.{Ear, tells, IsQuiet, effects_quiet, plain_append}
-use Rattle.house_model.proofs.Quiet.{left_plain, delivered_plain}
+use Rattle.house_model.proofs.Quiet.{left_plain, queued_plain}
 use Rattle.house_model.proofs.Hearing.{kept_held}
 use Rattle.house_model.proofs.Told.{TurnIs, silent, short_silent, held_if, heard}
 
@@ -67,9 +68,9 @@ stage_taken k w x t st kept (Fresh c) o is = refl
 stage_taken k w x t st kept (Logged c u) o is = refl
 stage_taken k w x t st kept (Bound c s) o is =
     heard act_ear log.takes k w c s st (Act x) (one.Act x)
-    (delivered kept s (kept.world.sessions s).rest.address x (to_in x) (headline_in x))
+    (map queued (effects kept s x))
     (λ c. record { connection = c; stanza = x } ∷ []) takes_quiet
-    (delivered_plain act_ear kept s (kept.world.sessions s).rest.address x (to_in x) (headline_in x)) refl o is
+    (queued_plain act_ear (effects kept s x)) refl o is
     (λ held. held_takes (st.world.sessions k).counts _ c x held)
 
 short_taken : (k w : ℕ) (x : Stanza) (st : State) (g : stage.Line) → Sound st.world → (st.world.lines w).stage ≡ g
@@ -126,9 +127,9 @@ stage_done k w x t st kept (Fresh c) o is = refl
 stage_done k w x t st kept (Logged c u) o is = refl
 stage_done k w x t st kept (Bound c s) o is =
     heard act_ear log.does k w c s st (Act x) (one.Act x)
-    (delivered kept s (kept.world.sessions s).rest.address x (to_in x) (headline_in x))
+    (map queued (effects kept s x))
     (λ c. x ∷ []) does_quiet
-    (delivered_plain act_ear kept s (kept.world.sessions s).rest.address x (to_in x) (headline_in x)) refl o is
+    (queued_plain act_ear (effects kept s x)) refl o is
     (λ held. held_does (st.world.sessions k).counts _ c x held)
 
 pub done_turn : (k : ℕ) → TurnIs log.does (done k) k

@@ -1,10 +1,10 @@
 -- Which verdicts open a connection, and which give a text.
 use Rattle.std.proofs.Common.{◌≡◌, ℕ, ◌+◌, List, [], ◌∷◌, ◌++◌, Option, Some, None, Bool, true, false, refl, arith}
-use Rattle.std.specs.Prelude.{nat_lt, slice_get, ◌&&◌, ⊤}
+use Rattle.std.specs.Prelude.{map, nat_lt, slice_get, ◌&&◌, ⊤}
 use Rattle.jid_core.specs.Addresses.{Address}
 use Rattle.stanza_tree.specs.declared.frame.Entry.{Entry}
-use Rattle.stanza_tree.specs.declared.node.Element.{Element}
-use Rattle.stanza_model.specs.Stanzas.{to_in}
+use Rattle.stanza_model.specs.declared.effect.Effect as stanza
+use Rattle.stanza_model.specs.declared.effect.Effect.TheVariants.{Queue}
 use Rattle.stanza_model.specs.declared.stanza.Stanza.{Stanza}
 use Rattle.sm_resume.specs.declared.decision.Cause.TheVariants.{Flood}
 use Rattle.sm_resume.specs.declared.id.ResumeId.{ResumeId}
@@ -18,7 +18,9 @@ use Rattle.house_model.specs.Traffic.{KeptTraffic, brief, kept_sent}
 use Rattle.house_model.specs.States.{Kept}
 use Rattle.house_model.specs.Effects.{Effect, Open, At, Begin, Say, Leave, Close}
 use Rattle.house_model.specs.Gate.{Verdict, Waits, Knows, Holds, Needs, to_login, to_bind, to_manage, to_act, to_ask, to_pull, most_answers, left, closed, gate_at}
-use Rattle.house_model.specs.Steps.{session_at, unavailable, live_at, logs_in, replaces, binds, enables, takes, resumes_by, is_known, resumes, headline_in, entry_for, queue_at, delivered, acts, acks, asks, requests, gives_entry, pulls, leaves, sweeps, due, body, verdict}
+use Rattle.house_model.specs.Lookups.{session_at}
+use Rattle.house_model.specs.Routing.{effects}
+use Rattle.house_model.specs.Steps.{logs_in, replaces, binds, enables, takes, resumes_by, is_known, resumes, queued, acts, acks, asks, requests, gives_entry, pulls, leaves, sweeps, due, body, verdict}
 use Rattle.house_model.specs.Histories.{opened_by}
 use Rattle.house_model.proofs.GateLemmas.{gate_leads}
 
@@ -93,20 +95,13 @@ resumes_silent (Some id) k w c u h =
     resumes_by_silent (is_known k id u (k.world.sessions id.session)) (k.world.sessions id.session).hold w c
     id.session h id (k.world.sessions id.session).traffic
 
-queue_at_opens : (r : Option ℕ) (s : ℕ) (e f : Entry) → opens_in (queue_at r s e f) ≡ 0
-queue_at_opens None s e f = refl
-queue_at_opens (Some r) s e f = refl
-
-delivered_opens : (k : Kept) (s : ℕ) (sender : Address) (x : Stanza) (to : Option Address) (e : Option Element)
-    → opens_in (delivered k s sender x to e) ≡ 0
-delivered_opens k s sender x to None = refl
-delivered_opens k s sender x None (Some e) = refl
-delivered_opens k s sender x (Some a) (Some e) =
-    queue_at_opens (live_at k a) s (entry_for sender a e) (unavailable sender a x)
+queued_opens : (es : List stanza.Effect) → opens_in (map queued es) ≡ 0
+queued_opens [] = refl
+queued_opens (Queue s to rest origin ∷ more) = omega (arith, queued_opens more)
 
 acts_silent : (k : Kept) (s : ℕ) (x : Stanza) → IsSilent (acts k s x)
 acts_silent k s x = record {
-  opened = omega (arith, delivered_opens k s (k.world.sessions s).rest.address x (to_in x) (headline_in x));
+  opened = omega (arith, queued_opens (effects k s x));
   text = refl;
 }
 

@@ -2,13 +2,16 @@ pub mod Accounts
 pub mod Answers
 pub mod Bridge
 pub mod Effects
+pub mod Fitting
 pub mod Gate
 pub mod Histories
 pub mod Lines
+pub mod Lookups
 pub mod Numbered
-pub mod Plain
 pub mod Promises
+pub mod Requests
 pub mod Resuming
+pub mod Routing
 pub mod Sessions
 pub mod Sound
 pub mod States

@@ -1,18 +1,11 @@
 -- The events, each with its answer and what it does, once the gate has let it through. All is read off what the code keeps.
-use Rattle.std.specs.Prelude.{ℕ, ◌+◌, ◌/◌, ◌%◌, max, min, nat_lt, List, [], ◌∷◌, ◌++◌, slice_get, slice_index_or, flat_map, position, bytes_eq, Option, Some, None, is_some, Bool, true, false, not, ◌&&◌, if◌then◌else◌}
+use Rattle.std.specs.Prelude.{ℕ, ◌+◌, ◌/◌, ◌%◌, max, min, nat_lt, List, [], ◌∷◌, ◌++◌, map, slice_get, slice_index_or, flat_map, bytes_eq, Option, Some, None, is_some, Bool, true, false, not, ◌&&◌, if◌then◌else◌}
 use Rattle.stanza_tree.specs.declared.frame.Entry.{Entry}
-use Rattle.stanza_tree.specs.declared.frame.Origin.TheVariants.{Direct}
-use Rattle.stanza_tree.specs.declared.node.Element.{Element}
 use Rattle.stanza_tree.specs.Entries.{frame}
-use Rattle.stanza_tree.specs.Spelling.{text}
-use Rattle.stanza_tree.specs.Stamps.{sent_by}
-use Rattle.jid_core.specs.Addresses.{Address, same_address, same_bare, address_text}
-use Rattle.stanza_model.specs.Stanzas.{to_in}
-use Rattle.stanza_model.specs.Errors.{error_element}
-use Rattle.stanza_model.specs.declared.condition.Condition.TheVariants.{ServiceUnavailable}
-use Rattle.stanza_model.specs.declared.kinds.MessageForm.TheVariants.{Headline}
+use Rattle.jid_core.specs.Addresses.{Address, same_bare, address_text}
+use Rattle.stanza_model.specs.declared.effect.Effect as stanza
+use Rattle.stanza_model.specs.declared.effect.Effect.TheVariants.{Queue}
 use Rattle.stanza_model.specs.declared.stanza.Stanza.{Stanza}
-use Rattle.stanza_model.specs.declared.stanza.Stanza.TheVariants.{Message}
 use Rattle.sm_resume.specs.declared.decision.Cause.{Cause}
 use Rattle.sm_resume.specs.declared.decision.Cause.TheVariants.{Replaced, Lost}
 use Rattle.sm_resume.specs.declared.id.ResumeId.{ResumeId}
@@ -26,38 +19,19 @@ use Rattle.house_model.specs.declared.reply.Reply.{Reply}
 use Rattle.house_model.specs.declared.reply.Reply.TheVariants as reply
 use Rattle.house_model.specs.Answers.{answer_text, request_text}
 use Rattle.house_model.specs.Numbered.{least, passing}
-use Rattle.house_model.specs.Sessions.{Hold, Held, Away, Ended, Gone, Session, Push, Pull, Request, Enable, Ack, Tell, Act, Resume, End, Part, Ways}
+use Rattle.house_model.specs.Lookups.{is_there, is_at, session_at, user_place}
+use Rattle.house_model.specs.Routing.{effects}
+use Rattle.house_model.specs.Sessions.{Hold, Held, Away, Ended, Session, Push, Pull, Request, Enable, Ack, Tell, Act, Resume, End, Part, Ways}
 use Rattle.house_model.specs.Traffic.{KeptTraffic, kept_sent, kept_inward, brief}
 use Rattle.house_model.specs.States.{Head, House, Kept}
 use Rattle.house_model.specs.Effects.{Effect, Open, At, Begin, On, Log, Say, Said, Leave, Close, apply_all}
 use Rattle.house_model.specs.Gate.{Verdict, does, only, gives, Pass, Stop, Free, Waits, Knows, Holds, left, closed, gate}
-
--- which sessions are there
-
-abbrev pub is_there_by : Hold → Bool → Bool
-is_there_by (Held w c) counts = true
-is_there_by Away counts = counts
-is_there_by (Ended cause) counts = true
-is_there_by Gone counts = false
-
--- a session that is not made, or departed, is away and does not count
-abbrev pub is_there : Session KeptTraffic → Bool
-is_there s = is_there_by s.hold s.counts
-
-abbrev pub is_at : Address → Session KeptTraffic → Bool
-is_at a s = is_there s && same_address s.rest.address a
-
-abbrev pub session_at : Kept → Address → Option ℕ
-session_at k a = least k.world.made (λ s. is_at a (k.world.sessions s))
 
 -- OpenLine: what is at the line is left, and the next connection is there
 abbrev pub opens : Kept → ℕ → Verdict
 opens k w = does (reply.Opened (k.world.opened + 1)) (left k (k.world.lines w).stage ++ Open w ∷ [])
 
 -- Login: exactly where the house has the user
-abbrev pub user_place : List ℕ → List (List ℕ) → Option ℕ
-user_place user users = position (λ u. bytes_eq u user) users
-
 abbrev pub logs_in : ℕ → Option ℕ → Verdict
 logs_in w None = only reply.NoUser
 logs_in w (Some place) = does reply.Done (At w (Log place) ∷ [])
@@ -135,43 +109,12 @@ resumes k w c user None h = does reply.Done (At w (Say answer.NotFound) ∷ [])
 resumes k w c user (Some id) h =
     resumes_by (is_known k id user (k.world.sessions id.session)) (k.world.sessions id.session).hold w c id.session h id (k.world.sessions id.session).traffic
 
--- Act: the stanza counts as acted on, whatever it does. A headline message goes to the session at its address, as the sender's; where none
--- goes on there, its sender is told so. Nothing is done yet for any other stanza.
-abbrev pub headline_in : Stanza → Option Element
-headline_in (Message to Headline e) = Some e
-headline_in stanza = None
-
-abbrev pub entry_for : Address → Address → Element → Entry
-entry_for sender receiver e = record { to = address_text receiver; rest = text (sent_by (address_text sender) e); origin = Direct }
-
--- RFC 6120, 8.3: the error is from the address that the stanza was for
-abbrev pub unavailable : Address → Address → Stanza → Entry
-unavailable sender receiver x = entry_for receiver sender (error_element x sender ServiceUnavailable)
-
-abbrev pub goes_on : Hold → Bool
-goes_on (Held w c) = true
-goes_on Away = true
-goes_on (Ended cause) = false
-goes_on Gone = false
-
-abbrev pub if_it_goes_on : Kept → Option ℕ → Option ℕ
-if_it_goes_on k None = None
-if_it_goes_on k (Some r) = if goes_on (k.world.sessions r).hold then Some r else None
-
-abbrev pub live_at : Kept → Address → Option ℕ
-live_at k a = if_it_goes_on k (session_at k a)
-
-abbrev pub queue_at : Option ℕ → (s : ℕ) → (entry error : Entry) → List Effect
-queue_at None s entry error = On s (Push error) ∷ []
-queue_at (Some r) s entry error = On r (Push entry) ∷ []
-
-abbrev pub delivered : Kept → ℕ → Address → Stanza → Option Address → Option Element → List Effect
-delivered k s sender x to None = []
-delivered k s sender x None (Some e) = []
-delivered k s sender x (Some a) (Some e) = queue_at (live_at k a) s (entry_for sender a e) (unavailable sender a x)
+-- Act: the stanza counts as acted on, whatever comes of it
+abbrev pub queued : stanza.Effect → Effect
+queued (Queue s to rest origin) = On s (Push (record { to = to; rest = rest; origin = origin }))
 
 abbrev pub acts : Kept → ℕ → Stanza → Verdict
-acts k s x = does reply.Done (On s (Act x) ∷ delivered k s (k.world.sessions s).rest.address x (to_in x) (headline_in x))
+acts k s x = does reply.Done (On s (Act x) ∷ map queued (effects k s x))
 
 -- Ack: XEP-0198, 4
 abbrev pub ack_reply : Option KeptTraffic → Cause → Reply

@@ -1,5 +1,5 @@
 -- A client that is cut and resumes its session, told from the opening of the house on.
-use Rattle.std.specs.Prelude.{ℕ, zero, suc, List, [], ◌∷◌, ◌++◌, Some, None, Bool, true}
+use Rattle.std.specs.Prelude.{ℕ, zero, suc, List, [], ◌∷◌, ◌++◌, Some, None, true, false}
 use Rattle.sm_resume.specs.declared.id.ResumeId.{ResumeId}
 use Rattle.stanza_model.specs.declared.condition.Condition.{Condition}
 use Rattle.stanza_model.specs.declared.kinds.Kind.{Kind}
@@ -20,9 +20,9 @@ small_house = opening (record { local = None; domain = 98 ∷ []; resource = Non
 abbrev pub her_id : ResumeId
 her_id = record { session = 1; digits = [] }
 
--- what she sends stands for any stanza with a fault, so that nothing is done for it yet
-abbrev pub faulty : Kind → (answered : Bool) → Condition → Stanza
-faulty kind answered condition = Faulty kind None None answered condition
+-- what she sends stands for any stanza with a fault that is never answered, so that nothing comes of it
+abbrev pub faulty : Kind → Condition → Stanza
+faulty kind condition = Faulty kind None None false condition
 
 -- She logs in on line 0, binds, and has her stanzas counted. One is acted on, and the connection is lost. She comes again on line 1.
 abbrev pub until_lost : Stanza → List Turn

@@ -1,6 +1,6 @@
 //! What holds of every history of a house, whatever code keeps it: each function's contract is a law, and its body is
 //! empty.
-ghost use Rattle.std.specs.Prelude.{◌≡◌, ℕ, ◌<◌, ◌≤◌, List, [], ◌∷◌, ◌++◌, length, slice_get, Some, Bool, true};
+ghost use Rattle.std.specs.Prelude.{◌≡◌, ℕ, ◌<◌, ◌≤◌, List, [], ◌∷◌, ◌++◌, length, slice_get, Some, IfSome, Bool, true};
 ghost use Rattle.stanza_tree.specs.Entries.{frame};
 ghost use Rattle.stanza_tree.specs.Spelling.{text};
 ghost use Rattle.stanza_tree.specs.declared.frame.Entry.{Entry};
@@ -15,8 +15,11 @@ ghost use Rattle.house_model.specs.declared.event.Event.{Event};
 ghost use Rattle.house_model.specs.declared.event.Event.TheVariants as event;
 ghost use Rattle.house_model.specs.Traffic.{Traffic, whole, brief};
 ghost use Rattle.house_model.specs.States.{World, State, Kept, keep, keep_world};
-ghost use Rattle.house_model.specs.Effects.{Effect, apply_all};
-ghost use Rattle.house_model.specs.Steps.{verdict, turn, headline_in, entry_for, unavailable};
+ghost use Rattle.house_model.specs.Effects.{Effect, On, apply, apply_all};
+ghost use Rattle.house_model.specs.Sessions.{Act};
+ghost use Rattle.house_model.specs.Routing.{Scene, effects, effects_in};
+ghost use Rattle.house_model.specs.Fitting.{AreSmall, AllFit};
+ghost use Rattle.house_model.specs.Steps.{verdict, turn};
 ghost use Rattle.house_model.specs.Histories.{Turn, step, kept_step, StanzaFits, GivesNoText, after, kept_next_by, openings, Allowed, Legal, IsOpening, StandsFor};
 ghost use Rattle.house_model.specs.Sound.{Sound, Back, Fits};
 ghost use Rattle.house_model.specs.Bridge.{core_of, ops_of, alone_of};
@@ -64,14 +67,17 @@ pub fn pulls_alone_give_texts()
     ensures { (st : State) (e : Event) → GivesNoText e → (step st e).text ≡ [] }
 {}
 
-/// A headline message that a stream can bring has an element of at most 196,608 canonical bytes. What it is queued as, and the
-/// error that answers it, have at most 524,288 bytes as frames, where each address has at most 3,071.
-pub fn headlines_are_small()
-    ensures element { (stanza : Stanza) (e : Element) → StanzaFits stanza → headline_in stanza ≡ Some e → length (text e) ≤ 196608 }
-    ensures entry { (stanza : Stanza) (e : Element) (sender a : Address) → StanzaFits stanza → headline_in stanza ≡ Some e
-        → length (address_text sender) ≤ 3071 → length (address_text a) ≤ 3071 → length (frame (entry_for sender a e)) ≤ 524288 }
-    ensures error { (stanza : Stanza) (e : Element) (sender a : Address) → StanzaFits stanza → headline_in stanza ≡ Some e → to_in stanza ≡ Some a
-        → length (address_text sender) ≤ 3071 → length (address_text a) ≤ 3071 → length (frame (unavailable sender a stanza)) ≤ 524288 }
+/// What comes of a stanza that a stream can bring has at most 524,288 bytes as frames, each, where the sender's address and the
+/// stanza's have at most 3,071.
+pub fn effects_are_small()
+    ensures { (o : Scene) (s : ℕ) (stanza : Stanza) → StanzaFits stanza → length (address_text (o.world.sessions s).rest.address) ≤ 3071
+        → IfSome (to_in stanza) (λ a. length (address_text a) ≤ 3071) → AreSmall (effects_in o s stanza) }
+{}
+
+/// Each session that the effects of a stanza name is in the house when their turn comes, and no stanza is queued as an item of a room.
+pub fn effects_fit()
+    ensures { (o : State) (h : List Turn) (w c s t : ℕ) (x : Stanza) → IsOpening o → ((after o h).world.lines w).stage ≡ Bound c s
+        → AllFit (apply whole (after o h).world (On s (Act x))) (effects (keep (turn (event.Act w x t) (after o h))) s x) }
 {}
 
 /// What a client that counts has handled, over all connections of its session, is a prefix of what was queued for it since
@@ -133,11 +139,11 @@ pub fn safe()
 /// legal, and it counts. So what the promises ask for can be met.
 pub fn a_cut_client_counts()
     ensures starts { IsOpening small_house }
-    ensures legal { (kind : Kind) (answered : Bool) (condition : Condition)
-        → Legal small_house (whole_story (faulty kind answered condition)) }
-    ensures account { (kind : Kind) (answered : Bool) (condition : Condition) (next : Stanza)
-        → IsAccountOf (her_account (faulty kind answered condition) next) small_house
-        (whole_story (faulty kind answered condition)) 1 }
-    ensures acted { (kind : Kind) (answered : Bool) (condition : Condition)
-        → acted small_house (whole_story (faulty kind answered condition)) 1 ≡ faulty kind answered condition ∷ [] }
+    ensures legal { (kind : Kind) (condition : Condition)
+        → Legal small_house (whole_story (faulty kind condition)) }
+    ensures account { (kind : Kind) (condition : Condition) (next : Stanza)
+        → IsAccountOf (her_account (faulty kind condition) next) small_house
+        (whole_story (faulty kind condition)) 1 }
+    ensures acted { (kind : Kind) (condition : Condition)
+        → acted small_house (whole_story (faulty kind condition)) 1 ≡ faulty kind condition ∷ [] }
 {}

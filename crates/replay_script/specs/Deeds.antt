@@ -1,8 +1,7 @@
 -- What lines do after the first, and what is printed of it.
-use Rattle.std.specs.Prelude.{◌≡◌, ℕ, ◌<◌, ⊤, ◌==◌, true, List, [], ◌∷◌, ◌++◌, Option, Some, flat_map, option_to_list, if◌then◌else◌}
+use Rattle.std.specs.Prelude.{ℕ, ◌<◌, ⊤, ◌==◌, List, [], ◌∷◌, ◌++◌, Option, Some, flat_map, option_to_list, if◌then◌else◌}
 use Rattle.house_model.specs.Histories.{Outcome, Made, Short, Turn, after}
-use Rattle.house_model.specs.Plain.{is_plain}
-use Rattle.house_model.specs.States.{State, keep}
+use Rattle.house_model.specs.States.{State}
 use Rattle.stream_grammar.specs.declared.item.Item.{Item}
 use Rattle.stream_grammar.specs.Reading.{Reading, reads, stopped, first_reading, reading_next, handed, waiting, went}
 use Rattle.replay_script.specs.declared.step.Step.{Step}
@@ -31,13 +30,13 @@ turn_in (Renewed w) = []
 abbrev pub turns_of : List Deed → List Turn
 turns_of ds = flat_map turn_in ds
 
--- A deed was done in this state: the event could come there, the house answered, and memory was not wanting; or the place was there.
+-- A deed was done in this state: the house answered, and memory was not wanting; or the place was there.
 abbrev pub IsMade : Outcome → Type 0
 IsMade (Made reply text) = ⊤
 IsMade Short = ⊥
 
 abbrev pub IsDone : State → Deed → Type 0
-IsDone st (Turned x) = IsMade x.outcome × (is_plain (keep st) x.event ≡ true)
+IsDone st (Turned x) = IsMade x.outcome
 IsDone st (Fed w bytes) = w < st.head.workers
 IsDone st (Renewed w) = w < st.head.workers
 

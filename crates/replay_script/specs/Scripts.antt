@@ -1,10 +1,8 @@
 -- A script as its lines, and what it plays.
-use Rattle.std.specs.Prelude.{◌≡◌, ℕ, ◌+◌, ◌<◌, ◌≤◌, ◌==◌, ◌⊎◌, List, [], ◌∷◌, length, map, true, Option, Some, ⊤, if◌then◌else◌}
+use Rattle.std.specs.Prelude.{◌≡◌, ℕ, ◌+◌, ◌<◌, ◌≤◌, ◌==◌, ◌⊎◌, List, [], ◌∷◌, length, map, Option, Some, ⊤, if◌then◌else◌}
 use Rattle.jid_core.specs.Addresses.{Address}
 use Rattle.jid_core.specs.Cuts.{before}
-use Rattle.house_model.specs.declared.event.Event.{Event}
-use Rattle.house_model.specs.States.{State, keep, opening}
-use Rattle.house_model.specs.Plain.{is_plain}
+use Rattle.house_model.specs.States.{State, opening}
 use Rattle.house_model.specs.Histories.{after, line_of, IsOpening, Legal}
 use Rattle.replay_script.specs.declared.step.Step.{Step}
 use Rattle.replay_script.specs.declared.step.Step.TheVariants as step
@@ -66,15 +64,10 @@ pub record IsPlayed (lines : List (List ℕ)) (o : State) (ds : List Deed) : Typ
   pub done : AreDone o ds
   pub within : AreWithin 0 lines
 
--- the event may come in this state: its line is there, and every case that it reaches is built
-pub record IsPossible (st : State) (e : Event) : Type 0 where
-  pub line : line_of e < st.head.workers
-  pub plain : is_plain (keep st) e ≡ true
-
--- the step may come there
+-- the step may come in this state: the line that it names is there
 abbrev pub MayCome : State → Step → Type 0
 MayCome st (step.Begin domain users workers) = ⊥
-MayCome st (step.Event e) = IsPossible st e
+MayCome st (step.Event e) = line_of e < st.head.workers
 MayCome st (step.Feed w bytes) = w < st.head.workers
 MayCome st (step.Fresh w) = w < st.head.workers
 
@@ -83,6 +76,6 @@ abbrev pub IsOutside : List (List ℕ) → State → List Deed → List ℕ → 
 IsOutside [] o ds line = (s : State) → Makes (text_of line) s → ⊥
 IsOutside (first ∷ more) o ds line = (s : Step) → step_in line ≡ Some s → MayCome (after o (turns_of ds)) s → ⊥
 
--- the line after these can't be played: it passes a limit, is of no grammar, or names what is not there or not built
+-- the line after these can't be played: it passes a limit, is of no grammar, or names what is not there
 abbrev pub IsRefused : List (List ℕ) → State → List Deed → List ℕ → Type 0
 IsRefused lines o ds line = (IsWithin (size_of lines) line → ⊥) ⊎ IsOutside lines o ds line

@@ -1,6 +1,6 @@
 //! What comes of a message (RFC 6121, 8.5).
 ghost use Rattle.std.specs.Prelude.{◌≡◌, [], map, IfOk};
-ghost use Rattle.std.specs.List.{filter};
+ghost use Rattle.std.specs.List.{filter, list_any};
 ghost use Rattle.std.specs.Option.{option_copied};
 ghost use Rattle.jid_core.specs.Addresses.{same_part, address_text};
 ghost use Rattle.stanza_tree.specs.declared.frame.Origin.TheVariants.{Direct};
@@ -116,6 +116,64 @@ fn of_full(
     Ok(numbers)
 }
 
+/// Keeps those among a user's sessions who get a message of this type to that place, as `message_receivers` tells their numbers.
+pub fn keep_receivers(form: MessageForm, place: &Place, sessions: &mut Vec<Here>)
+    ensures { sessions.new.items ≡ receivers_of form place.now sessions.old.items }
+{
+    match place {
+        Place::Account | Place::User(_) => keep_of_user(form, sessions),
+        Place::UserAt(_, resource) => keep_of_full(form, resource, sessions),
+        _ => sessions.clear(),
+    }
+}
+
+fn keep_reached(sessions: &mut Vec<Here>)
+    ensures { sessions.new.items ≡ filter is_reached sessions.old.items }
+{
+    sessions.retain(|h| is_reached(h));
+}
+
+fn keep_of_user(form: MessageForm, sessions: &mut Vec<Here>)
+    ensures { sessions.new.items ≡ of_user form sessions.old.items }
+{
+    match form {
+        MessageForm::Chat | MessageForm::Normal | MessageForm::Headline => keep_reached(sessions),
+        MessageForm::Groupchat | MessageForm::Error => sessions.clear(),
+    }
+}
+
+fn keep_at_address(resource: &Part, sessions: &mut Vec<Here>)
+    ensures { sessions.new.items ≡ at_address resource.now sessions.old.items }
+{
+    sessions.retain(|h| has_resource(h, resource));
+}
+
+/// Whether some session has this resource.
+fn is_at_address(resource: &Part, sessions: &[Here]) -> bool
+    ensures { result ≡ list_any (λ h. same_part h.address.resource (Some resource.now)) sessions.now }
+{
+    sessions.iter().any(|h| has_resource(h, resource))
+}
+
+fn keep_of_nobody(form: MessageForm, sessions: &mut Vec<Here>)
+    ensures { sessions.new.items ≡ else_of_user form sessions.old.items [] }
+{
+    match form {
+        MessageForm::Chat => keep_reached(sessions),
+        _ => sessions.clear(),
+    }
+}
+
+fn keep_of_full(form: MessageForm, resource: &Part, sessions: &mut Vec<Here>)
+    ensures { sessions.new.items ≡ of_full form resource.now sessions.old.items }
+{
+    if is_at_address(resource, sessions.as_slice()) {
+        keep_at_address(resource, sessions);
+    } else {
+        keep_of_nobody(form, sessions);
+    }
+}
+
 /// What comes of a message of `who` to that place: a copy for each of `receivers`, whom `message_receivers` gave, or an error for the
 /// sender. `known` says whether the place's user has an account. Messages to rooms and occupants are not this call's: nothing comes
 /// of them here. Costs one spelling of the message, whatever the number of receivers.
@@ -187,7 +245,7 @@ fn address_of(alloc: Global, who: &Here, to: Option<&Jid>) -> Result<Text, NoMem
 }
 
 /// A copy of the message for each receiver. They share its text.
-fn copies(
+pub fn copies(
     alloc: Global,
     who: &Here,
     to: Option<&Jid>,

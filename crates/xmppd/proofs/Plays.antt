@@ -5,7 +5,6 @@ use Rattle.std.proofs.lemmas.List.{map-append}
 use Rattle.std.proofs.lemmas.Grind.{flat_map-append}
 use Rattle.house_model.specs.Sessions.{nobody}
 use Rattle.house_model.specs.States.{State, Kept, opening}
-use Rattle.house_model.specs.Plain.{is_plain}
 use Rattle.house_model.specs.Histories.{Turn, next, after, StandsFor}
 use Rattle.house_model.proofs.SafeLaws.{safe}
 use Rattle.house_model.proofs.Turns.{turns-counted, workers-kept}
@@ -208,7 +207,7 @@ outside-later (first ∷ more) o ds line some never = never
 -- what may come by the machine may come by what is kept
 may-come : (o : State) (h : List Turn) (house : Kept) (s : Step) → StandsFor o h house → MayCome (after o h) s → MayComeHere house s
 may-come o h house (step.Begin domain users workers) stands may = may
-may-come o h house (step.Event e) stands may = (omega (arith, may.line, workers-kept o h house stands), ap (λ (k : Kept). is_plain k e) stands.kept ∙ may.plain)
+may-come o h house (step.Event e) stands may = omega (arith, may, workers-kept o h house stands)
 may-come o h house (step.Feed w bytes) stands may = omega (arith, may, workers-kept o h house stands)
 may-come o h house (step.Fresh w) stands may = omega (arith, may, workers-kept o h house stands)
 

@@ -42,7 +42,7 @@ go-on-by : (line : List ℕ) (lines rest : List (List ℕ)) (d : Deed) (ds : Lis
     → GoOn lines rest ds → CanBePlayed (after st (turns_of (d ∷ ds))) (read + size_of (line ∷ lines)) rest
 go-on-by line lines rest (Turned x) ds st read s is done can go =
     let now : CanBePlayed (house.step st x.event).state (read + length line) (lines ++ rest) = subst (λ (y : Step). CanBePlayed (state_by st y) (read + length line) (lines ++ rest)) (some-same s (step.Event x.event) is) can in
-    let next-now = made-next st x x.outcome (λ (y : State). CanBePlayed y (read + length line) (lines ++ rest)) refl done.0.0 now in
+    let next-now = made-next st x x.outcome (λ (y : State). CanBePlayed y (read + length line) (lines ++ rest)) refl done.0 now in
     subst (λ (n : ℕ). CanBePlayed (after (next st x) (turns_of ds)) n rest) (omega arith) (go (next st x) (read + length line) done.1 next-now)
 go-on-by line lines rest (Fed w bytes) ds st read s is done can go =
     let now : CanBePlayed st (read + length line) (lines ++ rest) = subst (λ (y : Step). CanBePlayed (state_by st y) (read + length line) (lines ++ rest)) (some-same s (step.Feed w bytes) is) can in
@@ -94,7 +94,7 @@ was-by : (line : List ℕ) (lines : List (List ℕ)) (d : Deed) (ds : List Deed)
     → WasPlayed lines ds → CanBePlayed st read (line ∷ lines)
 was-by line lines (Turned x) ds st read is done legal within go =
     let rest : CanBePlayed (next st x) (read + length line) lines = go (next st x) (read + length line) done.1 legal.1 within.1 in
-    (within.0, (step.Event x.event, is, record { line = legal.0.line; plain = done.0.1 }, made-step st x x.outcome (λ (y : State). CanBePlayed y (read + length line) lines) refl done.0.0 rest))
+    (within.0, (step.Event x.event, is, legal.0.line, made-step st x x.outcome (λ (y : State). CanBePlayed y (read + length line) lines) refl done.0 rest))
   where
     made-step : (st : State) (x : Turn) (o : Outcome) (P : State → Type 0) → x.outcome ≡ o → IsMade o → P (next st x) → P (house.step st x.event).state
     made-step st x (Made reply text) P is made can = subst (λ (y : Outcome). P (next_by st x.event y)) is can

@@ -1,7 +1,6 @@
 -- How a script is played, line by line, and how its play ends.
 use Rattle.std.specs.Prelude.{◌≡◌, ℕ, ◌+◌, ◌<◌, ◌≤◌, List, [], ◌∷◌, ◌++◌, length, Bool, true, false, Option, Some, None, Result, Ok, Err, ⊤}
 use Rattle.house_model.specs.States.{State, Kept}
-use Rattle.house_model.specs.Plain.{is_plain}
 use Rattle.house_model.specs.Promises.{Safe}
 use Rattle.house_model.specs.Histories.{Turn, line_of, after, StandsFor}
 use Rattle.house_core.specs.Houses.{HouseRecord, held}
@@ -122,7 +121,7 @@ pub record PlaysDeed (before now : Kept) (framers framers_now : Framers) (s : St
 
 abbrev pub MayComeHere : Kept → Step → Type 0
 MayComeHere house (step.Begin domain users workers) = ⊥
-MayComeHere house (step.Event e) = (line_of e < house.head.workers) × (is_plain house e ≡ true)
+MayComeHere house (step.Event e) = line_of e < house.head.workers
 MayComeHere house (step.Feed w bytes) = w < house.head.workers
 MayComeHere house (step.Fresh w) = w < house.head.workers
 

@@ -13,6 +13,8 @@ mod run;
 #[cfg(test)]
 mod session_tests;
 mod standard;
+#[cfg(test)]
+mod stanza_tests;
 mod status;
 #[cfg(test)]
 mod stream_tests;

@@ -228,7 +228,7 @@ impl Player {
         requires print { self.old.print.items ≡ [] }
         ensures { PlaysStep (held self.old.house) (held self.new.house) (framers_of self.old.streams.places.items) (framers_of self.new.streams.places.items) (step.Event event.now) self.new.print.items result }
     {
-        if event.line() as usize >= self.house.workers() || !self.house.is_plain(event) {
+        if event.line() as usize >= self.house.workers() {
             return Err(LineFault::Bad);
         }
         self.frame.clear();

@@ -19,4 +19,4 @@ invariant_of-self-2 c =
     let k = turn e (held (house h.domain h.users.items h.turns h.moment h.world)) in
     whole_ends h.users.items h.turns h.moment now 1 h.world c.act_at.new.self (verdict k e) c.in_ok-reply.reply c.self.invariant
     (later_passed h.moment c.args.t now c.self.invariant.passed c.later-moment.ensures) (omega arith)
-    (c.in_ok-reply.ensures.done k refl (sym c.later-moment.ensures) c.args.t)
+    (c.in_ok-reply.ensures.done k refl (sym c.later-moment.ensures) refl (sym c.as_slice-users.ensures.value) c.args.t)

@@ -1,10 +1,19 @@
-use Rattle.std.proofs.Common.{sym, ap, ◌∙◌}
+use Rattle.std.proofs.Common.{sym, ap, subst, ◌∙◌}
 use Rattle.std.specs.Option.{option_copied}
+use Rattle.house_core.specs.Wholes.{HasSpare}
 use Rattle.house_core.proofs.PartLemmas.{end_away_did}
+use Rattle.house_core.proofs.ReadyLemmas.{spare_ended}
 use Rattle.house_core.proofs.world.World.end.Goals as goal
 
 pub returns-in-None-clause-did : goal.returns-in-None-clause-did
 returns-in-None-clause-did c =
     let x = c.in-Some.session.now in
     let there = sym c.session.ensures.session ∙ ap option_copied c.in-Some.is in
-    end_away_did c.args.self.now c.args.s x c.requires.tied there c.mark_over.new.self c.args.cause (sym c.state.ensures ∙ c.in-Live.is) (sym c.holder.ensures ∙ c.in-None.is) c.mark_over.ensures
+    end_away_did c.args.self.now c.args.s x c.requires.tied there c.mark_over.new.self c.args.cause
+    (sym c.state.ensures ∙ c.in-Live.is) (sym c.holder.ensures ∙ c.in-None.is) c.mark_over.ensures
+
+pub returns-in-None-clause-queues : goal.returns-in-None-clause-queues
+returns-in-None-clause-queues c = λ n r has.
+    let there = sym c.session.ensures.session ∙ ap option_copied c.in-Some.is in
+    subst (HasSpare n r) (sym c.mark_over.ensures)
+    (spare_ended c.args.s n r c.args.cause c.args.self.now.table c.in-Some.session.now there has)

@@ -2,9 +2,10 @@ use Rattle.std.proofs.Common.{sym, ap, subst, ◌∙◌}
 use Rattle.session_table.specs.Sessions.{ended}
 use Rattle.session_table.specs.Tables.{changed, line_ended, holds}
 use Rattle.session_table.proofs.ListLemmas.{rises_changed}
-use Rattle.house_core.specs.Wholes.{IsFreeLine}
+use Rattle.house_core.specs.Wholes.{HasSpare, IsFreeLine}
 use Rattle.house_core.proofs.EndLemmas.{end_did, end_free}
 use Rattle.house_core.proofs.LeavingLemmas.{free_holds}
+use Rattle.house_core.proofs.ReadyLemmas.{spare_closed}
 use Rattle.house_core.proofs.world.World.end_held.Goals as goal
 
 pub line_over-requires-clause-free : goal.line_over-requires-clause-free
@@ -25,3 +26,8 @@ pub returns-clause-free : goal.returns-clause-free
 returns-clause-free c =
     subst (IsFreeLine c.args.w) (sym (c.line_over.ensures ∙ ap (line_ended c.args.w c.args.cause) c.mark_over.ensures))
     (end_free c.args.self.now c.args.w c.args.s c.args.cause c.requires.tied c.requires.line c.requires.answered c.requires.held)
+
+pub returns-clause-queues : goal.returns-clause-queues
+returns-clause-queues c = λ n r has.
+    subst (HasSpare n r) (sym (c.line_over.ensures ∙ ap (line_ended c.args.w c.args.cause) c.mark_over.ensures))
+    (spare_closed c.args.w c.args.s n r c.args.cause c.args.self.now.table c.requires.held has)

@@ -1,24 +1,26 @@
-use Rattle.std.proofs.Common.{Some, None, sym, ap, ◌∙◌, if◌then◌else◌}
-use Rattle.house_model.specs.Steps.{if_it_goes_on}
+use Rattle.std.proofs.Common.{Some, None, sym, ap, ◌∙◌, refl, if◌then◌else◌}
+use Rattle.house_model.specs.Lookups.{if_it_goes_on}
+use Rattle.house_core.specs.Worlds.{seen}
+use Rattle.house_core.proofs.ActLemmas.{some_kept}
 use Rattle.house_core.proofs.AtLemmas.{at_is}
 use Rattle.house_core.proofs.world.World.live_at.Goals as goal
 
-pub returns-in-Some : goal.returns-in-Some
-returns-in-Some c = λ k world.
+pub returns-in-Some-clause-live : goal.returns-in-Some-clause-live
+returns-in-Some-clause-live c =
     let a = c.args.self.now in
-    let at = at_is k c.args.address.now a.table a.answers.items c.requires.tied c.session.ensures.rises world ∙ sym c.at.ensures.number in
-    sym (ap (if_it_goes_on k) (at ∙ c.in-Some.is)
-    ∙ ap (λ b. if b then Some c.in-Some.s else None) (sym (c.if-is_live.ensures k world)))
+    let at = at_is (some_kept (seen a) 0) c.args.address.now a.table a.answers.items c.requires.tied c.session.ensures.rises refl ∙ sym c.at.ensures.number in
+    sym (ap (if_it_goes_on (seen a)) (at ∙ c.in-Some.is)
+    ∙ ap (λ b. if b then Some c.in-Some.s else None) (sym c.is_live.ensures ∙ c.if-is_live.true))
 
-pub returns-in_default : goal.returns-in_default
-returns-in_default c = λ k world.
+pub returns-in_default-clause-live : goal.returns-in_default-clause-live
+returns-in_default-clause-live c =
     let a = c.args.self.now in
-    let at = at_is k c.args.address.now a.table a.answers.items c.requires.tied c.session.ensures.rises world ∙ sym c.at.ensures.number in
-    sym (ap (if_it_goes_on k) (at ∙ c.in-Some.is)
-    ∙ ap (λ b. if b then Some c.in-Some.s else None) (sym (c.if-is_live.ensures k world)))
+    let at = at_is (some_kept (seen a) 0) c.args.address.now a.table a.answers.items c.requires.tied c.session.ensures.rises refl ∙ sym c.at.ensures.number in
+    sym (ap (if_it_goes_on (seen a)) (at ∙ c.in-Some.is)
+    ∙ ap (λ b. if b then Some c.in-Some.s else None) (sym c.is_live.ensures ∙ c.if-is_live.false))
 
-pub returns-in_default-2 : goal.returns-in_default-2
-returns-in_default-2 c = λ k world.
+pub returns-in_default-2-clause-live : goal.returns-in_default-2-clause-live
+returns-in_default-2-clause-live c =
     let a = c.args.self.now in
-    let at = at_is k c.args.address.now a.table a.answers.items c.requires.tied c.session.ensures.rises world ∙ sym c.at.ensures.number in
-    sym (ap (if_it_goes_on k) (at ∙ c.in_default.is))
+    let at = at_is (some_kept (seen a) 0) c.args.address.now a.table a.answers.items c.requires.tied c.session.ensures.rises refl ∙ sym c.at.ensures.number in
+    sym (ap (if_it_goes_on (seen a)) (at ∙ c.in_default.is))

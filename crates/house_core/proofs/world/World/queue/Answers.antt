@@ -4,11 +4,19 @@ use Rattle.std.specs.Option.{option_copied_mut}
 use Rattle.session_table.specs.declared.life.Life.TheVariants.{Live}
 use Rattle.session_table.specs.Sessions.{SessionRecord}
 use Rattle.house_core.proofs.PartLemmas.{push_did}
+use Rattle.house_core.proofs.ReadyLemmas.{spare_pushed}
 use Rattle.house_core.proofs.world.World.queue.Goals as goal
 
-pub returns-in-Some : goal.returns-in-Some
-returns-in-Some c =
+pub returns-in-Some-clause-did : goal.returns-in-Some-clause-did
+returns-in-Some-clause-did c =
     let x = c.in-Some.session.now in
     let there = sym c.session_mut.ensures.there ∙ ap option_copied_mut c.in-Some.is in
     let live = subst (λ (o : Option SessionRecord). IsSomeAnd o (λ y. y.state ≡ Live)) there c.requires.live in
-    push_did c.args.self.now c.args.s x c.requires.tied there c.add.new.session c.args.entry live (c.requires.room x there) c.requires.short c.add.ensures
+    push_did c.args.self.now c.args.s x c.requires.tied there c.add.new.session c.args.entry live
+    (c.requires.room x there) c.requires.short c.add.ensures
+
+pub returns-in-Some-clause-queues : goal.returns-in-Some-clause-queues
+returns-in-Some-clause-queues c = λ n r has.
+    let there = sym c.session_mut.ensures.there ∙ ap option_copied_mut c.in-Some.is in
+    spare_pushed c.args.s n r c.args.self.now.table c.in-Some.session.now c.add.new.session c.args.entry there
+    c.add.ensures has

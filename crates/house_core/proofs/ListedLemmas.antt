@@ -1,0 +1,127 @@
+-- The sessions of a user, by number and as the table lists them.
+use Rattle.std.proofs.Common.{◌≡◌, inl, inr, ℕ, zero, suc, ◌<◌, ◌≤◌, ◌&&◌, nat_eq, not, cond, Bool, true, false, List, [], ◌∷◌, ◌++◌, Option, Some, None, if◌then◌else◌, arith, refl, sym, ap, ◌∙◌}
+use Rattle.std.specs.Prelude.{map}
+use Rattle.std.specs.Map.{lookup}
+use Rattle.std.proofs.lemmas.Bool.{ne_eqb}
+use Rattle.std.proofs.lemmas.Bool.Decides.{eqb_tells}
+use Rattle.std.proofs.lemmas.List.{append-nil, append_assoc}
+use Rattle.jid_core.specs.Addresses.{same_part}
+use Rattle.stanza_model.specs.declared.here.Here.{Here}
+use Rattle.session_table.specs.declared.life.Life.{Life}
+use Rattle.session_table.specs.declared.life.Life.TheVariants.{Live, Over}
+use Rattle.session_table.specs.declared.line.Line as stage
+use Rattle.session_table.specs.Sessions.{SessionRecord, is_over}
+use Rattle.session_table.specs.Tables.{Rises, session_of}
+use Rattle.house_model.specs.Numbered.{all_passing}
+use Rattle.house_model.specs.Lookups.{goes_on, is_of, numbers_of}
+use Rattle.house_model.specs.Routing.{here}
+use Rattle.house_core.specs.declared.world.World as code
+use Rattle.house_core.specs.Houses.{hold_by, session_by}
+use Rattle.house_core.specs.Listings.{here_from, is_users, listed, listed_by}
+use Rattle.house_core.specs.Wholes.{IsSession, IsTied}
+use Rattle.house_core.specs.Worlds.{seen}
+use Rattle.house_core.proofs.AtLemmas.{there_is}
+use Rattle.house_core.proofs.DueLemmas.{passes}
+use Rattle.house_core.proofs.CountLemmas.{none_below, rises_most}
+
+abbrev one_of : Bool → ℕ → List ℕ
+one_of b n = if b then n ∷ [] else []
+
+none_passing : (n : ℕ) (test : ℕ → Bool) → ((s : ℕ) → s ≤ n → test s ≡ false) → all_passing n test ≡ []
+none_passing zero test none = refl
+none_passing (suc n) test none = λ i.
+    none_passing n test (λ s low. none s (omega (arith, low))) i ++ one_of (none (suc n) (omega arith) i) (suc n)
+
+-- a number passes that is below all the others
+all_more : (n k : ℕ) (b : Bool) (test other : ℕ → Bool) → 0 < k → k ≤ n → ((s : ℕ) → s ≤ k → test s ≡ false) → other k ≡ b
+    → ((s : ℕ) → (s ≡ k → ⊥) → other s ≡ test s) → all_passing n other ≡ one_of b k ++ all_passing n test
+all_more zero k b test other above low none here same = absurd (omega (arith, above, low))
+all_more (suc n) k b test other above low none here same = elim (eqb_tells k (suc n)) [
+  | inl p ↦
+      let is : k ≡ suc n = p.1 in
+      let before : all_passing n other ≡ [] =
+      none_passing n other (λ s under. same s (λ e. omega (arith, is, e, under)) ∙ none s (omega (arith, is, under))) in
+      let rest : all_passing n test ≡ [] = none_passing n test (λ s under. none s (omega (arith, is, under))) in
+      let last : test (suc n) ≡ false = none (suc n) (omega (arith, is)) in
+      let own : one_of (other (suc n)) (suc n) ≡ one_of b k = (λ i. one_of ((ap other (sym is) ∙ here) i) (sym is i)) in
+      (λ i. before i ++ own i)
+      ∙ (sym (append-nil (one_of b k)) ∙ sym (λ i. one_of b k ++ (rest i ++ one_of (last i) (suc n))))
+  | inr p ↦
+      let apart : (k ≡ suc n → ⊥) = p.1 in
+      let before : all_passing n other ≡ one_of b k ++ all_passing n test =
+      all_more n k b test other above (omega (arith, low, apart)) none here same in
+      let last : one_of (other (suc n)) (suc n) ≡ one_of (test (suc n)) (suc n) =
+      ap (λ c. one_of c (suc n)) (same (suc n) (λ e. apart (sym e))) in
+      (λ i. before i ++ last i) ∙ append_assoc (one_of b k) (all_passing n test) (one_of (test (suc n)) (suc n))
+]
+
+abbrev picked : (SessionRecord → Bool) → List (ℕ × SessionRecord) → List ℕ
+picked pick [] = []
+picked pick (e ∷ more) = one_of (pick e.1) e.0 ++ picked pick more
+
+own_number : (e : ℕ × SessionRecord) (more : List (ℕ × SessionRecord)) → lookup (nat_eq e.0) (e ∷ more) ≡ Some e.1
+own_number e more = elim (eqb_tells e.0 e.0) [
+  | inl p ↦ ap (λ (b : Bool). cond b (Some e.1) (lookup (nat_eq e.0) more)) p.0
+  | inr p ↦ absurd (p.1 refl)
+]
+
+all_picked : (pick : SessionRecord → Bool) (last made : ℕ) (es : List (ℕ × SessionRecord)) → Rises last es made
+    → all_passing made (λ s. passes pick (lookup (nat_eq s) es)) ≡ picked pick es
+all_picked pick last made [] rises = none_passing made (λ s. false) (λ s low. refl)
+all_picked pick last made (e ∷ more) rises =
+    let first = rises.0 in
+    all_more made e.0 (pick e.1) (λ s. passes pick (lookup (nat_eq s) more)) (λ s. passes pick (lookup (nat_eq s) (e ∷ more)))
+    (omega (arith, first)) (rises_most e.0 made more rises.1)
+    (λ s low. ap (passes pick) (none_below s e.0 made more rises.1 low))
+    (ap (passes pick) (own_number e more))
+    (λ s other. ap (λ (b : Bool). passes pick (cond b (Some e.1) (lookup (nat_eq s) more))) (ne_eqb s e.0 other))
+    ∙ ap (λ ns. one_of (pick e.1) e.0 ++ ns) (all_picked pick e.0 made more rises.1)
+
+-- one that is found later in the list is found in the whole
+later_found : (last made s : ℕ) (e : ℕ × SessionRecord) (more : List (ℕ × SessionRecord)) (x : SessionRecord) → Rises last (e ∷ more) made
+    → lookup (nat_eq s) more ≡ Some x → lookup (nat_eq s) (e ∷ more) ≡ Some x
+later_found last made s e more x rises at = elim (eqb_tells s e.0) [
+  | inl p ↦ absurd (let none = none_below s e.0 made more rises.1 (omega (arith, p.1)) in let both : None ≡ Some x = sym none ∙ at in cc)
+  | inr p ↦ ap (λ (b : Bool). cond b (Some e.1) (lookup (nat_eq s) more)) (ne_eqb s e.0 p.1) ∙ at
+]
+
+map_listed : (g : ℕ → Here) (user : List ℕ) (last made : ℕ) (es : List (ℕ × SessionRecord)) → Rises last es made
+    → ((s : ℕ) (x : SessionRecord) → lookup (nat_eq s) es ≡ Some x → g s ≡ here_from s x) → map g (picked (is_users user) es) ≡ listed user es
+map_listed g user last made [] rises are = refl
+map_listed g user last made (e ∷ more) rises are =
+    by (is_users user e.1) (are e.0 e.1 (own_number e more))
+    (map_listed g user e.0 made more rises.1 (λ s x at. are s x (later_found last made s e more x rises at)))
+  where
+    by : (b : Bool) → g e.0 ≡ here_from e.0 e.1 → map g (picked (is_users user) more) ≡ listed user more
+        → map g (one_of b e.0 ++ picked (is_users user) more) ≡ listed_by b e (listed user more)
+    by true own rest = λ i. own i ∷ rest i
+    by false own rest = rest
+
+live_by : (l : Life) (h : Option ℕ) (ls : List stage.Line) → goes_on (hold_by l h ls) ≡ not (is_over l)
+live_by Live None ls = refl
+live_by Live (Some w) ls = refl
+live_by (Over cause) h ls = refl
+
+of_by : (user : List ℕ) (ls : List stage.Line) (o : Option SessionRecord) → ((x : SessionRecord) → o ≡ Some x → IsSession x)
+    → is_of user (session_by ls o) ≡ passes (is_users user) o
+of_by user ls None each = refl
+of_by user ls (Some x) each = λ i.
+    there_is x ls (each x refl) i && (live_by x.state x.holder ls i && same_part x.address.local (Some user))
+
+here_is : (a : code.World) (s : ℕ) (x : SessionRecord) → session_of s a.table ≡ Some x → here (seen a) s ≡ here_from s x
+here_is a s x at =
+    ap (λ (o : Option SessionRecord). here_from s (record x { address = (session_by a.table.lines o).rest.address })) at
+
+pub listed_is : (a : code.World) (user : List ℕ) → IsTied a.table → Rises 0 a.table.sessions a.table.made
+    → listed user a.table.sessions ≡ map (here (seen a)) (numbers_of (seen a) user)
+listed_is a user tied rises =
+    let t = a.table in
+    sym (
+    ap (map (here (seen a)))
+    ((λ i. all_passing t.made (λ s. of_by user t.lines (session_of s t) (tied.each s) i)) ∙ all_picked (is_users user) 0 t.made t.sessions rises)
+    ∙ map_listed (here (seen a)) user 0 t.made t.sessions rises (here_is a)
+    )
+
+pub listed_end : (found : List Here) (user : List ℕ) (rest es : List (ℕ × SessionRecord)) → rest ≡ [] → found ++ listed user rest ≡ listed user es
+    → found ≡ listed user es
+listed_end found user rest es end all = sym (append-nil found) ∙ (sym (λ i. found ++ listed user (end i)) ∙ all)

@@ -1,0 +1,12 @@
+use Rattle.std.proofs.Common.{List, sym, subst}
+use Rattle.stanza_model.specs.declared.effect.Effect.{Effect}
+use Rattle.house_model.specs.Fitting.{AreSmall}
+use Rattle.house_model.proofs.SmallLemmas.{stanza_small}
+use Rattle.house_core.specs.Worlds.{seen}
+use Rattle.house_core.proofs.world.World.effects_of.Goals as goal
+
+pub returns-clause-short : goal.returns-clause-short
+returns-clause-short c =
+    subst (λ (es : List Effect). AreSmall es) (sym c.in_ok-effects.ensures)
+    (stanza_small (record { domain = c.args.domain.now; users = c.args.users.now; world = seen c.args.self.now }) c.args.s c.args.stanza.now
+    c.requires.fits c.know_address.ensures c.know_to.ensures)

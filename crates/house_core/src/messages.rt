@@ -1,0 +1,151 @@
+//! Messages (RFC 6121, 8.5).
+ghost use Rattle.std.specs.Prelude.{◌≡◌, IfOk, IfSome, true};
+ghost use Rattle.session_table.specs.Tables.{is_there};
+ghost use Rattle.std.specs.Option.{option_copied};
+ghost use Rattle.house_model.specs.Routing.{chosen, delivered, has_account, is_invitation, message, receivers, to_no_room, to_users, user_in};
+ghost use Rattle.house_core.specs.Wholes.{IsTied};
+ghost use Rattle.house_core.specs.Worlds.{seen};
+
+use crate::lines::place_among;
+use crate::world::World;
+use house_model::{MessageForm, Stanza};
+use jid_core::Part;
+use stanza_model::{Condition, Effect, Here, refuse};
+use stanza_router::{Place, deliver, keep_receivers};
+use stanza_tree::{Element, NoMemory};
+use std::alloc::Global;
+
+/// The namespace of what occupants and others say of rooms (XEP-0045, 7.8).
+const ROOM_USER_SPACE: &[u8] = b"http://jabber.org/protocol/muc#user";
+
+/// Whether a message is an invitation to a room, or a decline of one (XEP-0045, 7.8).
+fn is_invitation(message: &Element) -> bool
+    ensures { result ≡ is_invitation message.now }
+{
+    match message.child(ROOM_USER_SPACE, b"x") {
+        Some(x) => {
+            x.child(ROOM_USER_SPACE, b"invite").is_some()
+                || x.child(ROOM_USER_SPACE, b"decline").is_some()
+        }
+        None => false,
+    }
+}
+
+/// Why a message for a room is refused that isn't there.
+fn to_no_room(form: MessageForm, message: &Element) -> Condition
+    ensures { result ≡ to_no_room form message.now }
+{
+    match form {
+        MessageForm::Groupchat => Condition::ItemNotFound,
+        _ if is_invitation(message) => Condition::ItemNotFound,
+        _ => Condition::BadRequest,
+    }
+}
+
+/// The user whose a place is, where `own` is the sender.
+fn user_in<'a>(own: &'a Part, place: &'a Place) -> Option<&'a Part>
+    ensures { option_copied result ≡ user_in own.now place.now }
+{
+    match place {
+        Place::Account => Some(own),
+        Place::User(user) | Place::UserAt(user, _) => Some(user),
+        _ => None,
+    }
+}
+
+/// Whether a place's user has an account, as one has whose session a message finds.
+fn has_account(users: &[Part], user: Option<&Part>, found: &[Here]) -> bool
+    ensures { result ≡ has_account users.now (option_copied user.entry) found.now }
+{
+    if !found.is_empty() {
+        return true;
+    }
+    match user {
+        Some(user) => place_among(users, user).is_some(),
+        None => false,
+    }
+}
+
+impl World {
+    /// Those whom RFC 6121 chooses among a user's sessions.
+    fn chosen(
+        &self,
+        alloc: Global,
+        form: MessageForm,
+        place: &Place,
+        user: Option<&Part>,
+    ) -> Result<Vec<Here>, NoMemory>
+        requires tied { IsTied self.now.table }
+        ensures { IfOk result (λ found. found.items ≡ chosen (seen self.now) form place.now (option_copied user.entry)) }
+    {
+        let Some(user) = user else {
+            return Ok(Vec::new(alloc));
+        };
+        let mut sessions = self.sessions_of(alloc, user)?;
+        keep_receivers(form, place, &mut sessions);
+        Ok(sessions)
+    }
+
+    /// Whom a message finds: the session at its address, which goes on, or those chosen among the user's.
+    fn receivers(
+        &self,
+        alloc: Global,
+        form: MessageForm,
+        place: &Place,
+        user: Option<&Part>,
+        live: Option<u64>,
+    ) -> Result<Vec<Here>, NoMemory>
+        requires tied { IsTied self.now.table }
+        requires there { IfSome live (λ s. is_there s self.now.table ≡ true) }
+        ensures { IfOk result (λ found. found.items ≡ receivers (seen self.now) form place.now (option_copied user.entry) live) }
+    {
+        match live {
+            Some(s) => self.found(alloc, s),
+            None => self.chosen(alloc, form, place, user),
+        }
+    }
+
+    /// What comes of a message for users.
+    fn to_users(
+        &self,
+        alloc: Global,
+        users: &[Part],
+        who: &Here,
+        stanza: &Stanza,
+        form: MessageForm,
+        place: &Place,
+        user: Option<&Part>,
+    ) -> Result<Vec<Effect>, NoMemory>
+        requires tied { IsTied self.now.table }
+        ensures { IfOk result (λ effects. effects.items
+            ≡ to_users users.now (seen self.now) who.now stanza.now form place.now (option_copied user.entry)) }
+    {
+        let live = self.live_for(place, stanza.to());
+        let found = self.receivers(alloc, form, place, user, live)?;
+        let known = has_account(users, user, found.as_slice());
+        deliver(alloc, who, stanza, place, known, found.as_slice())
+    }
+
+    /// What comes of a message. There are no rooms yet, so each for a room is for one that isn't there.
+    pub(crate) fn message(
+        &self,
+        alloc: Global,
+        users: &[Part],
+        own: &Part,
+        who: &Here,
+        stanza: &Stanza,
+        form: MessageForm,
+        element: &Element,
+        place: &Place,
+    ) -> Result<Vec<Effect>, NoMemory>
+        requires tied { IsTied self.now.table }
+        ensures { IfOk result (λ effects. effects.items
+            ≡ message users.now (seen self.now) own.now who.now stanza.now form element.now place.now) }
+    {
+        match place {
+            Place::Room(_) => refuse(alloc, who, stanza, to_no_room(form, element)),
+            Place::RoomAt(_, _) => refuse(alloc, who, stanza, Condition::ItemNotFound),
+            _ => self.to_users(alloc, users, who, stanza, form, place, user_in(own, place)),
+        }
+    }
+}

@@ -1,0 +1,142 @@
+-- What the effects of a stanza name is in the house, each in the state in which its turn comes.
+use Rattle.std.proofs.Common.{◌≡◌, ℕ, ◌+◌, inl, inr, List, [], ◌∷◌, Bool, true, refl, sym, ap, ◌∙◌, subst, arith}
+use Rattle.std.proofs.lemmas.Bool.{cases_lt}
+use Rattle.std.specs.List.{AllByRecursion}
+use Rattle.stanza_model.specs.declared.effect.Effect as stanza
+use Rattle.stanza_model.specs.declared.effect.Effect.TheVariants.{Queue}
+use Rattle.stanza_model.specs.declared.stanza.Stanza.{Stanza}
+use Rattle.session_table.specs.declared.line.Line.TheVariants.{Bound}
+use Rattle.house_model.specs.declared.event.Event.{Event}
+use Rattle.house_model.specs.declared.event.Event.TheVariants as event
+use Rattle.house_model.specs.Sessions.{Hold, Held, Away, Ended, Gone, Rest, Session, Op, Push, Act, begun, unmade, session_step}
+use Rattle.house_model.specs.Traffic.{Traffic, whole}
+use Rattle.house_model.specs.States.{World, State, keep, keep_by, keep_world}
+use Rattle.house_model.specs.Effects.{Effect, Open, At, Begin, On, apply, apply_all}
+use Rattle.house_model.specs.Fitting.{IsInHouse, EffectFits, AllFit}
+use Rattle.house_model.specs.Histories.{Outcome, Made, Short, Turn, next_by, next, after, IsOpening}
+use Rattle.house_model.specs.Lookups.{is_there}
+use Rattle.house_model.specs.Routing.{Scene, scene_of, effects}
+use Rattle.house_model.specs.Sound.{Sound}
+use Rattle.house_model.specs.Steps.{queued, verdict, turn}
+use Rattle.house_model.proofs.EffectCases.{IsFound, Covers, effects_all}
+use Rattle.house_model.proofs.Partings.{IsNoPart, step_gone}
+use Rattle.house_model.proofs.PutLemmas.{put_is, put_else}
+use Rattle.house_model.proofs.SoundLemmas.{unmade_stays}
+use Rattle.house_model.proofs.TurnLaws.{always_sound}
+
+-- No session is made with the number 0.
+abbrev HasNoZero : World Traffic → Type 0
+HasNoZero world = world.sessions 0 ≡ unmade whole
+
+apply_no_zero : (world : World Traffic) (e : Effect) → HasNoZero world → HasNoZero (apply whole world e)
+apply_no_zero world (Open w) none = none
+apply_no_zero world (At w op) none = none
+apply_no_zero world (Begin w c a) none =
+    put_else (world.made + 1) (begun whole w c a) world.sessions 0 (λ e. omega (arith, e)) ∙ none
+apply_no_zero world (On k op) none = elim (put_is k (session_step whole (world.sessions k) op) world.sessions 0) [
+  | inl p ↦ p.1
+      ∙ (ap (λ (i : ℕ). session_step whole (world.sessions i) op) (sym p.0)
+      ∙ (ap (λ (y : Session Traffic). session_step whole y op) none ∙ unmade_stays op))
+  | inr p ↦ p.1 ∙ none
+]
+
+all_no_zero : (world : World Traffic) (es : List Effect) → HasNoZero world → HasNoZero (apply_all whole world es)
+all_no_zero world [] none = none
+all_no_zero world (e ∷ es) none = all_no_zero (apply whole world e) es (apply_no_zero world e none)
+
+next_no_zero : (st : State) (e : Event) (o : Outcome) → HasNoZero st.world → HasNoZero (next_by st e o).world
+next_no_zero st e (Made reply text) none = all_no_zero st.world (verdict (keep (turn e st)) e).effects none
+next_no_zero st e Short none = none
+
+after_no_zero : (st : State) (h : List Turn) → HasNoZero st.world → HasNoZero (after st h).world
+after_no_zero st [] none = none
+after_no_zero st (x ∷ more) none = after_no_zero (next st x) more (next_no_zero st x.event x.outcome none)
+
+never_zero : (o : State) (h : List Turn) → IsOpening o → HasNoZero (after o h).world
+never_zero o h starts = after_no_zero o h (ap (λ (st : State). st.world.sessions 0) starts.3)
+
+-- Who is in the house.
+held_in_house : (world : World Traffic) (s w c : ℕ) → Sound world → HasNoZero world → (world.sessions s).hold ≡ Held w c
+    → IsInHouse s world
+held_in_house world s w c sound none held = record {
+  above = elim (cases_lt 0 s) [
+    | inl low ↦ low
+    | inr zero ↦ absurd (
+        let at : s ≡ 0 = omega (arith, zero) in
+        let away : (world.sessions s).hold ≡ Away = ap (λ (i : ℕ). (world.sessions i).hold) at ∙ ap (λ (y : Session Traffic). y.hold) none in
+        cc)
+  ];
+  made = elim (cases_lt world.made s) [
+    | inl later ↦ absurd (
+        let away : (world.sessions s).hold ≡ Away = ap (λ (y : Session Traffic). y.hold) (sound.later s later) in
+        cc)
+    | inr low ↦ low
+  ];
+  stays = λ gone. cc;
+}
+
+there_stays : (b : Bool) (m : Hold) (t : Traffic) (r : Rest) → is_there (keep_by b m t r) ≡ true → m ≡ Gone → ⊥
+there_stays b (Held w c) t r there gone = cc
+there_stays b Away t r there gone = cc
+there_stays b (Ended cause) t r there gone = cc
+there_stays b Gone t r there gone = cc
+
+found_in_house : (world : World Traffic) (s : ℕ) → IsFound (keep_world world) s → IsInHouse s world
+found_in_house world s found = record {
+  above = found.above;
+  made = found.made;
+  stays = there_stays (world.sessions s).counts (world.sessions s).hold (world.sessions s).traffic (world.sessions s).rest found.there;
+}
+
+-- it stays there, as long as it does not depart
+stays_in_house : (world : World Traffic) (s k : ℕ) (op : Op) → IsNoPart op → IsInHouse s world
+    → IsInHouse s (apply whole world (On k op))
+stays_in_house world s k op stays is = record {
+  above = is.above;
+  made = is.made;
+  stays = λ gone. elim (put_is k (session_step whole (world.sessions k) op) world.sessions s) [
+    | inl p ↦ is.stays
+        (ap (λ (i : ℕ). (world.sessions i).hold) p.0
+        ∙ step_gone (world.sessions k).counts (world.sessions k).hold (world.sessions k).traffic (world.sessions k).rest op stays
+        (ap (λ (y : Session Traffic). y.hold) (sym p.1) ∙ gone))
+    | inr p ↦ is.stays (ap (λ (y : Session Traffic). y.hold) (sym p.1) ∙ gone)
+  ];
+}
+
+queued_fits : (world : World Traffic) (e x : stanza.Effect) → EffectFits world e → EffectFits (apply whole world (queued x)) e
+queued_fits world (Queue s to rest origin) (Queue k t r g) fits =
+    (stays_in_house world s k (Push (record { to = t; rest = r; origin = g })) tt fits.0, fits.1)
+
+later_fit : (world : World Traffic) (x : stanza.Effect) (es : List stanza.Effect) → AllByRecursion (EffectFits world) es
+    → AllByRecursion (EffectFits (apply whole world (queued x))) es
+later_fit world x [] all = tt
+later_fit world x (e ∷ es) all = (queued_fits world e x all.0, later_fit world x es all.1)
+
+-- what fits at first fits when its turn comes
+all_fit : (world : World Traffic) (es : List stanza.Effect) → AllByRecursion (EffectFits world) es → AllFit world es
+all_fit world [] all = tt
+all_fit world (e ∷ es) all = (all.0, all_fit (apply whole world (queued e)) es (later_fit world e es all.1))
+
+covered : (world : World Traffic) (o : Scene) (s : ℕ) (x : Stanza) → o.world ≡ keep_world world → IsInHouse s world
+    → Covers o s x (EffectFits (apply whole world (On s (Act x))))
+covered world o s x same is = record {
+  refusal = λ condition. (stays_in_house world s s (Act x) tt is, refl);
+  result = (stays_in_house world s s (Act x) tt is, refl);
+  found = λ place. (stays_in_house world s s (Act x) tt is, refl);
+  copy = λ e h at found. (
+    stays_in_house world h.session s (Act x) tt
+        (found_in_house world h.session (subst (λ k. IsFound k h.session) same found)),
+    refl,
+  );
+}
+
+pub stanza_fits : (o : State) (h : List Turn) (w c s t : ℕ) (x : Stanza) → IsOpening o
+    → ((after o h).world.lines w).stage ≡ Bound c s
+    → AllFit (apply whole (after o h).world (On s (Act x))) (effects (keep (turn (event.Act w x t) (after o h))) s x)
+stanza_fits o h w c s t x starts bound =
+    let sound : Sound (after o h).world = always_sound o h starts in
+    let is : IsInHouse s (after o h).world =
+    held_in_house (after o h).world s w c sound (never_zero o h starts) (sound.tied w c s bound) in
+    all_fit (apply whole (after o h).world (On s (Act x))) (effects (keep (turn (event.Act w x t) (after o h))) s x)
+    (effects_all (scene_of (keep (turn (event.Act w x t) (after o h)))) s x (EffectFits (apply whole (after o h).world (On s (Act x))))
+    (covered (after o h).world (scene_of (keep (turn (event.Act w x t) (after o h)))) s x refl is))

@@ -1,0 +1,183 @@
+-- What comes of a stanza that a stream can bring is small.
+use Rattle.std.proofs.Common.{◌≡◌, ℕ, ◌+◌, ◌≤◌, inl, inr, List, [], ◌∷◌, ◌++◌, length, Option, Some, None, Bool, true, false, codes, refl, sym, subst, arith, length-append, if◌then◌else◌, cond}
+use Rattle.std.specs.Prelude.{IfSome}
+use Rattle.std.specs.List.{AllByRecursion}
+use Rattle.std.specs.Option.{option_map}
+use Rattle.std.proofs.lemmas.Grind.{common_steps}
+use Rattle.stanza_tree.specs.Attributes.{attr_of, is_named}
+use Rattle.stanza_tree.specs.Entries.{frame}
+use Rattle.stanza_tree.specs.Spelling.{value_text, needs_prefix, prefixed, unprefixed, attributes, client_space, text}
+use Rattle.stanza_tree.specs.Stamps.{sent_by}
+use Rattle.stanza_tree.specs.declared.frame.Origin.TheVariants.{Direct}
+use Rattle.stanza_tree.specs.declared.node.Attr.{Attr}
+use Rattle.stanza_tree.specs.declared.node.Element.{Element}
+use Rattle.stanza_tree.proofs.Bounds.{length-frame, length-text-sent-le, length-value_text-le}
+use Rattle.jid_core.specs.Addresses.{Address, bare, local_text, resource_text, address_text}
+use Rattle.stanza_model.specs.Kinds.{message_form, presence_form, iq_form}
+use Rattle.stanza_model.specs.Stanzas.{kind_of, type_of, id_of, address_in, is_unreadable, has_wrong_content, faulty, unless_unreadable, presence_by, iq_by, stanza_as, to_in, id_in, element_in}
+use Rattle.stanza_model.specs.declared.condition.Condition.TheVariants.{BadRequest, JidMalformed}
+use Rattle.stanza_model.specs.declared.effect.Effect.{Effect}
+use Rattle.stanza_model.specs.declared.here.Here.{Here}
+use Rattle.stanza_model.specs.declared.kinds.Kind.{Kind}
+use Rattle.stanza_model.specs.declared.kinds.Kind.TheVariants as kind
+use Rattle.stanza_model.specs.declared.kinds.IqForm.{IqForm}
+use Rattle.stanza_model.specs.declared.kinds.PresenceForm.{PresenceForm}
+use Rattle.stanza_model.specs.declared.stanza.Stanza.{Stanza}
+use Rattle.stanza_model.specs.declared.stanza.Stanza.TheVariants.{Message, Presence, Iq, Faulty}
+use Rattle.stanza_model.proofs.StanzaLemmas.{stanza_of-element}
+use Rattle.stanza_router.specs.Messages.{addressed, copied}
+use Rattle.house_model.specs.Fitting.{IsSmall, AreSmall}
+use Rattle.house_model.specs.Histories.{IsSent, IsShortId, IsShortFault, StanzaFits}
+use Rattle.house_model.specs.Routing.{Scene, here, effects_in}
+use Rattle.house_model.proofs.EffectCases.{effects_all}
+use Rattle.house_model.proofs.ReplySizes.{spelt_length, under-parts, error-reply-le, empty-reply-le}
+use Rattle.house_model.proofs.DiscoverySizes.{discovery-le}
+
+-- The value of an attribute is a part of the text.
+unprefixed-long : (a : Attr) → length (value_text a.value) ≤ length (unprefixed a)
+unfolding unprefixed
+unprefixed-long a = grind (arith, common_steps)
+
+prefixed-long : (k : ℕ) (a : Attr) → length (value_text a.value) ≤ length (prefixed k a)
+unfolding prefixed
+prefixed-long k a = grind (arith, common_steps)
+
+attribute-step : (n k : ℕ) (p : Bool) (a : Attr) (m : List Attr) → n ≤ length (value_text a.value)
+    → n ≤ length (if p then prefixed k a ++ attributes (k + 1) m else unprefixed a ++ attributes k m)
+attribute-step n k true a m low = omega (arith, low, prefixed-long k a, length-append (prefixed k a) (attributes (k + 1) m))
+attribute-step n k false a m low = omega (arith, low, unprefixed-long a, length-append (unprefixed a) (attributes k m))
+
+later-step : (n k : ℕ) (p : Bool) (a : Attr) (m : List Attr) → n ≤ length (attributes (k + 1) m) → n ≤ length (attributes k m)
+    → n ≤ length (if p then prefixed k a ++ attributes (k + 1) m else unprefixed a ++ attributes k m)
+later-step n k true a m one two = omega (arith, one, length-append (prefixed k a) (attributes (k + 1) m))
+later-step n k false a m one two = omega (arith, two, length-append (unprefixed a) (attributes k m))
+
+value-step : (k : ℕ) (t : Bool) (a : Attr) (o : Option (List ℕ)) (more : List Attr)
+    → spelt_length o ≤ length (attributes (k + 1) more) → spelt_length o ≤ length (attributes k more)
+    → spelt_length (if t then Some a.value else o)
+    ≤ length (if needs_prefix a then prefixed k a ++ attributes (k + 1) more else unprefixed a ++ attributes k more)
+value-step k true a o more one two = attribute-step (length (value_text a.value)) k (needs_prefix a) a more (omega arith)
+value-step k false a o more one two = later-step (spelt_length o) k (needs_prefix a) a more one two
+
+value-bound : (local : List ℕ) (k : ℕ) (attrs : List Attr) → spelt_length (attr_of local attrs) ≤ length (attributes k attrs)
+value-bound local k [] = omega arith
+value-bound local k (a ∷ more) =
+    value-step k (is_named local a) a (attr_of local more) more (value-bound local (k + 1) more) (value-bound local k more)
+
+-- What an element is, as a stanza, has its id.
+abbrev HasIdOf : Element → Stanza → Type 0
+HasIdOf e st = id_in st ≡ id_of e
+
+either-id : (c : Bool) (e : Element) (a b : Stanza) → HasIdOf e a → HasIdOf e b → HasIdOf e (cond c a b)
+either-id true e a b one other = one
+either-id false e a b one other = other
+
+unless-id : (k : Kind) (st : Stanza) (e : Element) → HasIdOf e st → HasIdOf e (unless_unreadable k st e)
+unless-id k st e has = either-id (is_unreadable e) e (faulty k JidMalformed e) st refl has
+
+presence-id : (form : Option PresenceForm) (e : Element) → HasIdOf e (presence_by form e)
+presence-id None e = refl
+presence-id (Some form) e = unless-id kind.Presence (Presence (address_in e) form e) e refl
+
+iq-id : (id : Option (List ℕ)) (form : Option IqForm) (e : Element) → id ≡ id_of e → HasIdOf e (iq_by id form e)
+iq-id None form e is = refl
+iq-id (Some id) None e is = refl
+iq-id (Some id) (Some form) e is =
+    either-id (has_wrong_content form e) e (faulty kind.Iq BadRequest e) (unless_unreadable kind.Iq (Iq (address_in e) id form e) e) refl
+    (unless-id kind.Iq (Iq (address_in e) id form e) e is)
+
+as-id : (k : Kind) (e : Element) → HasIdOf e (stanza_as k e)
+as-id kind.Message e = unless-id kind.Message (Message (address_in e) (message_form (type_of e)) e) e refl
+as-id kind.Presence e = presence-id (presence_form (type_of e)) e
+as-id kind.Iq e = iq-id (id_of e) (iq_form (type_of e)) e refl
+
+by-kind-id : (k : Option Kind) (e : Element) (st : Stanza) → option_map (λ k. stanza_as k e) k ≡ Some st → HasIdOf e st
+by-kind-id None e st is = absurd (cc)
+by-kind-id (Some k) e st is = subst (λ (x : Stanza). HasIdOf e x) (let same : stanza_as k e ≡ st = cc in same) (as-id k e)
+
+sent-id : (st : Stanza) → IsSent st → spelt_length (id_in st) ≤ 196608
+sent-id st sent =
+    subst (λ (id : Option (List ℕ)). spelt_length id ≤ 196608)
+    (sym (by-kind-id (kind_of sent.element) sent.element st sent.read))
+    (omega (arith, sent.small, under-parts client_space sent.element, value-bound (codes "id") 0 sent.element.attrs))
+
+short-id : (id : Option (List ℕ)) → IsShortId id → spelt_length id ≤ 196608
+short-id None short = omega arith
+short-id (Some id) short = short
+
+fault-id : (st : Stanza) → IsShortFault st → spelt_length (id_in st) ≤ 196608
+fault-id (Faulty kind to id answered condition) short = short-id id short
+fault-id (Message to form e) short = absurd short
+fault-id (Presence to form e) short = absurd short
+fault-id (Iq to id form e) short = absurd short
+
+id-small : (st : Stanza) → StanzaFits st → spelt_length (id_in st) ≤ 196608
+id-small st (inl sent) = sent-id st sent
+id-small st (inr short) = fault-id st short
+
+-- A stanza that fits has an element that fits.
+no-fault : (st : Stanza) (e : Element) → element_in st ≡ Some e → IsShortFault st → ⊥
+no-fault (Message to form x) e is short = short
+no-fault (Presence to form x) e is short = short
+no-fault (Iq to id form x) e is short = short
+no-fault (Faulty kind to id answered condition) e is short = cc
+
+element-small : (st : Stanza) (e : Element) → StanzaFits st → element_in st ≡ Some e → length (text e) ≤ 196608
+element-small st e (inl sent) is =
+    subst (λ (x : Element). length (text x) ≤ 196608) (stanza_of-element sent.element st e sent.read is) sent.small
+element-small st e (inr short) is = absurd (no-fault st e is short)
+
+-- Copies and replies. Without an address a stanza is for the sender's bare address, which is no longer than the full one.
+bare-le : (a : Address) → length (address_text (bare a)) ≤ length (address_text a)
+bare-le a =
+    omega (
+      arith,
+      length-append (local_text a.local ++ a.domain) (resource_text a.resource),
+      length-append (local_text a.local ++ a.domain) [],
+    )
+
+addressed-le : (who : Here) (to : Option Address) → length (address_text who.address) ≤ 3071
+    → IfSome to (λ a. length (address_text a) ≤ 3071) → length (address_text (addressed who to)) ≤ 3071
+addressed-le who None own short = omega (arith, own, bare-le who.address)
+addressed-le who (Some to) own short = short
+
+copy-small : (who receiver : Here) (to : Option Address) (e : Element) → length (text e) ≤ 196608
+    → length (address_text who.address) ≤ 3071 → IfSome to (λ a. length (address_text a) ≤ 3071)
+    → IsSmall (copied who to e receiver)
+copy-small who receiver to e small own short =
+    omega (
+      arith,
+      small,
+      own,
+      addressed-le who to own short,
+      length-frame (record { to = address_text (addressed who to); rest = text (sent_by (address_text who.address) e); origin = Direct }),
+      length-text-sent-le (address_text who.address) e,
+      length-value_text-le (address_text (addressed who to)),
+    )
+
+said-small : (who : Here) (e : Element) → length (text e) ≤ 500000 → length (address_text who.address) ≤ 3071
+    → length (frame (record { to = address_text who.address; rest = text e; origin = Direct })) ≤ 524288
+said-small who e small own =
+    omega (
+      arith,
+      small,
+      own,
+      length-frame (record { to = address_text who.address; rest = text e; origin = Direct }),
+      length-value_text-le (address_text who.address),
+    )
+
+-- Every stanza.
+all-small : (es : List Effect) → AllByRecursion IsSmall es → AreSmall es
+all-small [] all = tt
+all-small (e ∷ es) all = (all.0, all-small es all.1)
+
+pub stanza_small : (o : Scene) (s : ℕ) (st : Stanza) → StanzaFits st → length (address_text (o.world.sessions s).rest.address) ≤ 3071
+    → IfSome (to_in st) (λ a. length (address_text a) ≤ 3071) → AreSmall (effects_in o s st)
+stanza_small o s st fits own to =
+    let id : spelt_length (id_in st) ≤ 196608 = id-small st fits in
+    all-small (effects_in o s st) (effects_all o s st IsSmall (record {
+      refusal = λ condition. said-small (here o.world s) _ (error-reply-le st condition to id) own;
+      result = said-small (here o.world s) _ (empty-reply-le st to id) own;
+      found = λ place. said-small (here o.world s) _ (discovery-le place st to id) own;
+      copy = λ e h is found. copy-small (here o.world s) h (to_in st) e (element-small st e fits is) own to;
+    }))

@@ -1,0 +1,167 @@
+-- What comes of a stanza, by its kind and the place that it is for (RFC 6120, 10; RFC 6121, 8.5). The rows of each table go from the top
+-- down, and the first that fits decides. All is read off what the code keeps.
+use Rattle.std.specs.Prelude.{ℕ, pos, List, [], ◌∷◌, map, Bool, true, false, ◌||◌, codes, Option, Some, None, is_some, if◌then◌else◌}
+use Rattle.jid_core.specs.Addresses.{Address}
+use Rattle.stanza_tree.specs.Children.{child_of}
+use Rattle.stanza_tree.specs.declared.node.Element.{Element}
+use Rattle.stanza_model.specs.Replies.{result_of, said_to, refused}
+use Rattle.stanza_model.specs.Stanzas.{to_in}
+use Rattle.stanza_model.specs.declared.condition.Condition.{Condition}
+use Rattle.stanza_model.specs.declared.condition.Condition.TheVariants.{BadRequest, ItemNotFound, NotAllowed, RemoteServerNotFound, ServiceUnavailable}
+use Rattle.stanza_model.specs.declared.effect.Effect.{Effect}
+use Rattle.stanza_model.specs.declared.here.Here.{Here}
+use Rattle.stanza_model.specs.declared.kinds.MessageForm.{MessageForm}
+use Rattle.stanza_model.specs.declared.kinds.MessageForm.TheVariants.{Groupchat}
+use Rattle.stanza_model.specs.declared.stanza.Stanza.{Stanza}
+use Rattle.stanza_model.specs.declared.stanza.Stanza.TheVariants.{Message, Presence, Iq, Faulty}
+use Rattle.stanza_router.specs.Discovery.{discovery}
+use Rattle.stanza_router.specs.Messages.{copied, deliveries, receivers_of}
+use Rattle.stanza_router.specs.Places.{place_of}
+use Rattle.stanza_router.specs.declared.places.Place.{Place}
+use Rattle.stanza_router.specs.declared.places.Place.TheVariants.{Account, Server, User, UserAt, Service, Room, RoomAt, Foreign}
+use Rattle.house_model.specs.Lookups.{live_at, numbers_of, has_user}
+use Rattle.house_model.specs.Requests.{pings, begins_session, binds_resource, discovers, asks_a_room}
+use Rattle.house_model.specs.States.{World, Kept}
+use Rattle.house_model.specs.Traffic.{KeptTraffic}
+
+-- what the rules on stanzas read of the house
+pub record Scene : Type 0 where
+  pub domain : List ℕ
+  pub users : List (List ℕ)
+  pub world : World KeptTraffic
+
+abbrev pub scene_of : Kept → Scene
+scene_of k = record { domain = k.head.domain.domain; users = k.head.users; world = k.world }
+
+-- a session as those rules see it. Presence is not built yet: nobody is available, and nobody asks for a roster.
+abbrev pub here : World KeptTraffic → ℕ → Here
+here world s = record {
+  session = s;
+  address = (world.sessions s).rest.address;
+  available = false;
+  priority = pos 0;
+  wants_roster = false;
+  pushes = 0;
+}
+
+-- the session that goes on at the address of a session
+abbrev pub live_for : World KeptTraffic → Place → Option Address → Option ℕ
+live_for world (UserAt user resource) (Some to) = live_at world to
+live_for world place to = None
+
+-- the user whose the place is, where `own` is the sender
+abbrev pub user_in : (own : List ℕ) → Place → Option (List ℕ)
+user_in own Account = Some own
+user_in own (User user) = Some user
+user_in own (UserAt user resource) = Some user
+user_in own place = None
+
+-- Messages.
+
+-- whom a message finds: the session at its address, or those that RFC 6121 chooses among the user's
+abbrev pub chosen : World KeptTraffic → MessageForm → Place → Option (List ℕ) → List Here
+chosen world form place None = []
+chosen world form place (Some user) = receivers_of form place (map (here world) (numbers_of world user))
+
+abbrev pub receivers : World KeptTraffic → MessageForm → Place → Option (List ℕ) → Option ℕ → List Here
+receivers world form place user (Some s) = here world s ∷ []
+receivers world form place user None = chosen world form place user
+
+-- whether a place's user has an account, as one has whose session a message finds
+abbrev pub has_account : List (List ℕ) → Option (List ℕ) → List Here → Bool
+has_account users user (h ∷ more) = true
+has_account users None [] = false
+has_account users (Some user) [] = has_user users user
+
+-- XEP-0045, 7.8: an invitation to a room, or a decline of one
+abbrev pub is_invitation_in : Option Element → Bool
+is_invitation_in None = false
+is_invitation_in (Some x) =
+    is_some (child_of (codes "http://jabber.org/protocol/muc#user") (codes "invite") x.children)
+    || is_some (child_of (codes "http://jabber.org/protocol/muc#user") (codes "decline") x.children)
+
+abbrev pub is_invitation : Element → Bool
+is_invitation e = is_invitation_in (child_of (codes "http://jabber.org/protocol/muc#user") (codes "x") e.children)
+
+-- XEP-0045: there are no rooms yet, so each message for one is for a room that isn't there
+abbrev pub to_no_room : MessageForm → Element → Condition
+to_no_room Groupchat e = ItemNotFound
+to_no_room form e = if is_invitation e then ItemNotFound else BadRequest
+
+abbrev pub delivered : List (List ℕ) → Here → Stanza → Place → Option (List ℕ) → List Here → List Effect
+delivered users who st place user found = deliveries who st place (has_account users user found) found
+
+abbrev pub to_users : List (List ℕ) → World KeptTraffic → Here → Stanza → MessageForm → Place → Option (List ℕ) → List Effect
+to_users users world who st form place user =
+    delivered users who st place user (receivers world form place user (live_for world place (to_in st)))
+
+abbrev pub message : List (List ℕ) → World KeptTraffic → (own : List ℕ) → Here → Stanza → MessageForm → Element → Place → List Effect
+message users world own who st form e (Room room) = refused who st (to_no_room form e)
+message users world own who st form e (RoomAt room nick) = refused who st ItemNotFound
+message users world own who st form e place = to_users users world who st form place (user_in own place)
+
+-- Requests.
+
+-- RFC 6120, 8.2.3: the result has nothing in it
+abbrev pub done : Here → Stanza → List Effect
+done who st = said_to who (result_of st []) ∷ []
+
+abbrev pub discovered : Here → Stanza → Place → List Effect
+discovered who st place = said_to who (discovery place st []) ∷ []
+
+-- RFC 6120, 10.3 and 10.5.1: to the sender's account or to the server
+abbrev pub to_server : Here → Stanza → Place → List Effect
+to_server who st place =
+    if begins_session st || pings st then done who st
+    else if discovers st then discovered who st place
+    else if binds_resource st then refused who st NotAllowed
+    else refused who st ServiceUnavailable
+
+-- RFC 6121, 8.5.3: to a session of a user
+abbrev pub to_session : World KeptTraffic → Here → Stanza → Option Address → Element → Option ℕ → List Effect
+to_session world who st to e (Some s) = copied who to e (here world s) ∷ []
+to_session world who st to e None = refused who st ServiceUnavailable
+
+-- XEP-0045, 6.2 and 6.3: to the service of rooms
+abbrev pub to_service : Here → Stanza → Place → List Effect
+to_service who st place =
+    if discovers st then discovered who st place
+    else if pings st then done who st
+    else refused who st ServiceUnavailable
+
+-- XEP-0045: to a room, which isn't there
+abbrev pub to_room : Here → Stanza → Place → List Effect
+to_room who st place =
+    if discovers st then discovered who st place
+    else if pings st then done who st
+    else if asks_a_room st then refused who st ItemNotFound
+    else refused who st ServiceUnavailable
+
+abbrev pub iq : World KeptTraffic → Here → Stanza → Option Address → Element → Place → List Effect
+iq world who st to e Account = to_server who st Account
+iq world who st to e Server = to_server who st Server
+iq world who st to e (User user) = refused who st ServiceUnavailable
+iq world who st to e (UserAt user resource) = to_session world who st to e (live_for world (UserAt user resource) to)
+iq world who st to e Service = to_service who st Service
+iq world who st to e (Room room) = to_room who st (Room room)
+iq world who st to e (RoomAt room nick) = refused who st ServiceUnavailable
+iq world who st to e Foreign = refused who st RemoteServerNotFound
+
+-- Presence is not built yet. A faulty stanza is refused, wherever it goes.
+abbrev pub effects_at : List (List ℕ) → World KeptTraffic → (own : List ℕ) → Here → Stanza → Place → List Effect
+effects_at users world own who (Message to form e) place = message users world own who (Message to form e) form e place
+effects_at users world own who (Presence to form e) place = []
+effects_at users world own who (Iq to id form e) place = iq world who (Iq to id form e) to e place
+effects_at users world own who (Faulty kind to id answered condition) place = refused who (Faulty kind to id answered condition) condition
+
+-- RFC 6120, 7: the address of a session has a local part, which is its user's
+abbrev pub effects_by : Option (List ℕ) → Scene → Here → Stanza → List Effect
+effects_by None o who st = []
+effects_by (Some own) o who st = effects_at o.users o.world own who st (place_of own o.domain (to_in st))
+
+abbrev pub effects_in : Scene → ℕ → Stanza → List Effect
+effects_in o s st = effects_by (here o.world s).address.local o (here o.world s) st
+
+-- the effects of a stanza of a session
+abbrev pub effects : Kept → ℕ → Stanza → List Effect
+effects k s st = effects_in (scene_of k) s st
