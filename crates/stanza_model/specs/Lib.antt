@@ -4,4 +4,7 @@ pub mod Forms
 pub mod Kinds
 pub mod Nonzas
 pub mod Replies
+pub mod RosterLimits
+pub mod Rosters
 pub mod Stanzas
+pub mod Subscriptions

@@ -9,23 +9,29 @@ pub mod form;
 mod form_tests;
 pub mod here;
 pub mod kinds;
+pub mod limits;
 pub mod make;
 pub mod nonza;
 #[cfg(test)]
 mod nonza_tests;
 pub mod reply;
+pub mod roster;
+#[cfg(test)]
+mod roster_tests;
 pub mod shared;
 pub mod stanza;
 #[cfg(test)]
 mod tests;
 
 pub use condition::Condition;
-pub use effect::Effect;
+pub use effect::{Change, Effect};
 pub use error::error_reply;
 pub use form::{DataForm, Field, FormFault};
 pub use here::Here;
 pub use kinds::{IqForm, Kind, MessageForm, PresenceForm};
+pub use limits::{MOST_CONTACTS, MOST_ROSTER_BYTES, counted};
 pub use nonza::Nonza;
 pub use reply::{error_of, may_be_answered, refuse, result_of, say_to};
-pub use shared::Config;
+pub use roster::{item, item_as, push_all, query_of, removed_item, roster_push};
+pub use shared::{Config, Contact, Outcome, Roster, Show, Shown, Side, Subscription};
 pub use stanza::{Stanza, StanzaFault};

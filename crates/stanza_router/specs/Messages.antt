@@ -101,8 +101,11 @@ addressed who None = bare who.address
 addressed who (Some to) = to
 
 -- RFC 6120, 8.1.2.1: it comes from the sender's full address
+abbrev pub copied_to : Here → Option Address → Element → (session : ℕ) → Effect
+copied_to who to e session = Queue session (address_text (addressed who to)) (text (sent_by (address_text who.address) e)) Direct
+
 abbrev pub copied : Here → Option Address → Element → Here → Effect
-copied who to e receiver = Queue receiver.session (address_text (addressed who to)) (text (sent_by (address_text who.address) e)) Direct
+copied who to e receiver = copied_to who to e receiver.session
 
 abbrev pub routed : Here → Stanza → List Effect → Route → List Effect
 routed who st copies Deliver = copies

@@ -13,6 +13,6 @@ mod tests;
 
 pub use discovery::discover;
 pub use listed::Listed;
-pub use message::{copies, deliver, keep_receivers, message_receivers};
+pub use message::{copy_to, deliver, keep_receivers, message_receivers};
 pub use places::Place;
 pub use routing::place;

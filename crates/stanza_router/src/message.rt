@@ -5,7 +5,7 @@ ghost use Rattle.std.specs.Option.{option_copied};
 ghost use Rattle.jid_core.specs.Addresses.{same_part, address_text};
 ghost use Rattle.stanza_tree.specs.declared.frame.Origin.TheVariants.{Direct};
 ghost use Rattle.stanza_model.specs.declared.here.Here.{Here};
-ghost use Rattle.stanza_router.specs.Messages.{addressed, at_address, copied, deliveries, else_of_user, is_reached, of_full, of_user, receivers_of, route_of, to_full, to_no_session, to_user};
+ghost use Rattle.stanza_router.specs.Messages.{addressed, at_address, copied, copied_to, deliveries, else_of_user, is_reached, of_full, of_user, receivers_of, route_of, to_full, to_no_session, to_user};
 
 use crate::places::Place;
 use jid_core::{Jid, Part};
@@ -244,8 +244,27 @@ fn address_of(alloc: Global, who: &Here, to: Option<&Jid>) -> Result<Text, NoMem
     }
 }
 
+/// A copy of a stanza for one session.
+pub fn copy_to(
+    alloc: Global,
+    who: &Here,
+    to: Option<&Jid>,
+    element: &Element,
+    session: u64,
+) -> Result<Effect, NoMemory>
+    ensures { IfOk result (λ effect. effect ≡ copied_to who.now (option_copied to.entry) element.now session) }
+{
+    let from = written(alloc, &who.address)?;
+    Ok(Effect::Queue {
+        session,
+        to: address_of(alloc, who, to)?,
+        rest: sent_text(alloc, element, from.bytes())?,
+        origin: Origin::Direct,
+    })
+}
+
 /// A copy of the message for each receiver. They share its text.
-pub fn copies(
+fn copies(
     alloc: Global,
     who: &Here,
     to: Option<&Jid>,

@@ -158,23 +158,36 @@ fn receivers(alloc: Global, form: MessageForm, place: &Place) -> Result<Vec<Here
     numbered(alloc, numbers.as_slice())
 }
 
+fn push_queued(
+    alloc: Global,
+    session: u64,
+    to: &Text,
+    rest: &Text,
+    out: &mut Vec<u8>,
+) -> Result<(), Fail> {
+    let number = session.to_string(alloc)?;
+    out.extend_from_slice(number.as_bytes())?;
+    out.extend_from_slice(b" ")?;
+    out.extend_from_slice(to.bytes())?;
+    out.extend_from_slice(b" ")?;
+    out.extend_from_slice(rest.bytes())?;
+    out.extend_from_slice(b"\n")?;
+    Ok(())
+}
+
 // Each effect as a line: the session, its address, and its text.
 fn lines(alloc: Global, effects: &[Effect]) -> Result<Vec<u8>, Fail> {
     let mut out = Vec::new(alloc);
     for effect in effects {
-        let Effect::Queue {
-            session,
-            to,
-            rest,
-            ..
-        } = effect;
-        let number = session.to_string(alloc)?;
-        out.extend_from_slice(number.as_bytes())?;
-        out.extend_from_slice(b" ")?;
-        out.extend_from_slice(to.bytes())?;
-        out.extend_from_slice(b" ")?;
-        out.extend_from_slice(rest.bytes())?;
-        out.extend_from_slice(b"\n")?;
+        match effect {
+            Effect::Queue {
+                session,
+                to,
+                rest,
+                ..
+            } => push_queued(alloc, *session, to, rest, &mut out)?,
+            Effect::Set(_) => out.extend_from_slice(b"set\n")?,
+        }
     }
     Ok(out)
 }

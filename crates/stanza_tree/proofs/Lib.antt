@@ -5,6 +5,7 @@ mod CountLemmas
 mod DecimalLemmas
 mod FrameLemmas
 mod HeldLemmas
+pub mod LengthLemmas
 mod RunLemmas
 pub mod SpellingLemmas
 pub mod StampLemmas

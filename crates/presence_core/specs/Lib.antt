@@ -1,0 +1,4 @@
+pub mod Broadcasts
+pub mod Copies
+pub mod DirectedPresence
+pub mod Priorities

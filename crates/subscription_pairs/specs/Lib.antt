@@ -1,0 +1,5 @@
+pub mod Changes
+pub mod Deliveries
+pub mod Limits
+pub mod Sides
+pub mod Users
