@@ -1,0 +1,10 @@
+mod ByteLemmas
+mod OrderLemmas
+mod ArrangedLemmas
+mod ContactLemmas
+mod NameLemmas
+mod ListedLemmas
+mod PairLemmas
+mod BookLemmas
+mod EntryLemmas
+mod KeepLemmas

@@ -1,0 +1,6 @@
+pub mod Arranged
+pub mod Books
+pub mod Folders
+pub mod Marks
+pub mod Orders
+pub mod Tables
