@@ -15,7 +15,7 @@ use Rattle.house_model.specs.declared.reply.Reply.TheVariants as reply
 use Rattle.house_model.specs.Sessions.{Act, nobody}
 use Rattle.house_model.specs.Lookups.{goes_on}
 use Rattle.house_model.specs.Routing.{effects, effects_in}
-use Rattle.house_model.specs.Steps.{body, queued}
+use Rattle.house_model.specs.Steps.{body, effect_of}
 use Rattle.house_model.specs.Traffic.{KeptTraffic}
 use Rattle.house_model.specs.States.{World, Kept}
 use Rattle.house_model.specs.Effects.{On}
@@ -46,6 +46,8 @@ module _ (a : code.World) (s room : ℕ) (x : SessionRecord) (tied : IsTied a.ta
       short = ready.short;
       away = ready.away;
       known = ready.known;
+      shown = ready.shown;
+      address = ready.address;
     });
     known = λ many users. users;
     few = λ turns few. few_with s turns (turns + 0) a.table x roomy few at (omega arith)
@@ -113,15 +115,15 @@ scene_is k domain users world s x same at names =
 
 -- the act as a whole
 pub act_ends : (k : Kept) (p : model.Pass) (c s t w : ℕ) (x : Stanza) (a b d f : code.World) (es : List stanza.Effect) → p ≡ model.Holds c s
-    → b ≡ a → Did [] 0 b d → Did (On s (Act x) ∷ map queued es) 1 d f → es ≡ effects k s x → Ends (body k (event.Act w x t) p) 1 reply.Done a f
+    → b ≡ a → Did [] 0 b d → Did (On s (Act x) ∷ map effect_of es) 1 d f → es ≡ effects k s x → Ends (body k (event.Act w x t) p) 1 reply.Done a f
 act_ends k p c s t w x a b d f es pass same ready did is =
     subst (λ (q : model.Pass). Ends (body k (event.Act w x t) q) 1 reply.Done a f) (sym pass)
     (record {
       answer = refl;
       did =
-          subst (λ (os : List stanza.Effect). Did (On s (Act x) ∷ map queued os) 1 a f) is
-          (subst (λ (z : code.World). Did (On s (Act x) ∷ map queued es) 1 z f) same
-          (did_then [] (On s (Act x) ∷ map queued es) 0 1 b d f ready did));
+          subst (λ (os : List stanza.Effect). Did (On s (Act x) ∷ map effect_of os) 1 a f) is
+          (subst (λ (z : code.World). Did (On s (Act x) ∷ map effect_of es) 1 z f) same
+          (did_then [] (On s (Act x) ∷ map effect_of es) 0 1 b d f ready did));
     })
 
 pub on_ok : {T E A B : Type 0} (r : Result T E) → (A → B) → OnOk r A → OnOk r B

@@ -20,6 +20,7 @@ use Rattle.house_model.specs.Effects.{Begin}
 use Rattle.house_model.proofs.PutLemmas.{put_is}
 use Rattle.house_core.specs.declared.world.World as code
 use Rattle.house_core.specs.Houses.{session_by, sessions_of}
+use Rattle.house_model.specs.Fitting.{IsShortAddress}
 use Rattle.house_core.specs.Wholes.{IsSession, IsFreeLine, IsTied, IsFew}
 use Rattle.house_core.specs.Worlds.{Did, seen}
 use Rattle.house_core.proofs.ReadLemmas.{lines_staged, place_set, sessions_line}
@@ -34,18 +35,20 @@ logged_unbound l logged = λ d s is. (
 pub logged_free : (w : ℕ) (t : TableRecord) → IsTied t → is_logged (line_of w t) ≡ true → IsFreeLine w t
 logged_free w t tied logged = line_free w t tied (logged_unbound (line_of w t) logged)
 
-begun_ready : (n : ℕ) (address : Address) (w : ℕ) → IsSession (table.begun n address w)
-begun_ready n address w = record {
+begun_ready : (n : ℕ) (address : Address) (w : ℕ) → IsShortAddress address → IsSession (table.begun n address w)
+begun_ready n address w short = record {
   given = omega arith;
   asked = omega arith;
   base_in = omega arith;
   short = tt;
   away = λ live none. absurd (let z : ◌≡◌ {A = Option ℕ} (Some w) None = none in cc);
   known = λ some. absurd (let z : false ≡ true = some in cc);
+  shown = tt;
+  address = short;
 }
 
 module _ (a : code.World) (w spare : ℕ) (address : Address) (tied : IsTied a.table) (low : w < length a.table.lines)
-    (logged : is_logged (line_of w a.table) ≡ true) (rises : Rises 0 a.table.sessions a.table.made) where
+    (logged : is_logged (line_of w a.table) ≡ true) (rises : Rises 0 a.table.sessions a.table.made) (short : IsShortAddress address) where
   abbrev t : TableRecord
   t = a.table
 
@@ -127,7 +130,7 @@ module _ (a : code.World) (w spare : ℕ) (address : Address) (tied : IsTied a.t
           ])
     ];
     each = λ n y is. elim (begun_at n) [
-      | inl q ↦ subst IsSession (same_Some x y (sym q.1 ∙ is)) (begun_ready s address w)
+      | inl q ↦ subst IsSession (same_Some x y (sym q.1 ∙ is)) (begun_ready s address w short)
       | inr q ↦ tied.each n y (sym q.1 ∙ is)
     ];
   }

@@ -1,21 +1,22 @@
 -- A binding, as its event's verdict.
-use Rattle.std.specs.Prelude.{OnErr}
+use Rattle.std.specs.Prelude.{OnErr, slice_index_or}
 use Rattle.std.specs.List.{list_all}
 use Rattle.std.proofs.lemmas.List.Folds.{list_all_at}
-use Rattle.std.proofs.Common.{◌≡◌, ◌⊎◌, inl, inr, ℕ, ◌+◌, ◌<◌, ◌≤◌, Bool, true, false, List, [], ◌∷◌, ◌++◌, length, get_or, Option, Some, None, Result, Ok, Err, refl, sym, subst, ◌∙◌, arith}
+use Rattle.std.proofs.Common.{◌≡◌, ◌⊎◌, inl, inr, ℕ, ◌+◌, ◌<◌, ◌≤◌, Bool, true, false, List, [], ◌∷◌, ◌++◌, length, get_or, Option, Some, None, Result, Ok, Err, refl, sym, ap, subst, ◌∙◌, arith}
 use Rattle.std.proofs.lemmas.Grind.{common_steps}
 use Rattle.jid_core.specs.Addresses.{Address, address_text}
 use Rattle.session_table.specs.declared.line.Line as stage
 use Rattle.session_table.specs.declared.line.Line.TheVariants.{Empty, Fresh, Logged, Bound, Over}
-use Rattle.session_table.specs.Tables.{Rises, TableRecord, conn_of, is_logged, line_of}
+use Rattle.session_table.specs.Tables.{Rises, TableRecord, conn_of, is_logged, line_of, number_at}
 use Rattle.stanza_tree.proofs.Bounds.{length-value_text-le, length-words_text-le}
 use Rattle.house_model.specs.declared.answer.Answer.{Answer}
 use Rattle.house_model.specs.declared.answer.Answer.TheVariants as answer
 use Rattle.house_model.specs.declared.reply.Reply.TheVariants as reply
 use Rattle.house_model.specs.Answers.{answer_text}
 use Rattle.house_model.specs.Effects.{Effect, At, Begin, Say}
-use Rattle.house_model.specs.States.{Kept}
-use Rattle.house_model.specs.Lookups.{session_at}
+use Rattle.house_model.specs.States.{Kept, World}
+use Rattle.house_model.specs.Traffic.{KeptTraffic}
+use Rattle.house_model.specs.Lookups.{session_at, session_in}
 use Rattle.house_model.specs.Steps.{binds, body, bound_address, has_place, replaces, resource_or}
 use Rattle.house_model.specs.Gate as model
 use Rattle.house_model.specs.Gate.{Verdict}
@@ -25,13 +26,14 @@ use Rattle.house_model.specs.declared.reply.Reply.{Reply}
 use Rattle.house_core.specs.declared.world.World as code
 use Rattle.house_core.specs.declared.gate.Pass as pass
 use Rattle.house_core.specs.Gates.{Passes}
-use Rattle.house_core.specs.Bindings.{begun_at, replaced_at, replaced_by}
+use Rattle.house_core.specs.Bindings.{begun_in, replaced_by, replaced_in}
 use Rattle.house_core.specs.Houses.{held}
 use Rattle.house_core.specs.Wholes.{IsTied, IsFew}
 use Rattle.house_core.specs.Worlds.{Did, Ends, KeepsLogged, seen}
 use Rattle.house_core.proofs.CallLemmas.{house}
 use Rattle.house_core.proofs.DidLemmas.{did_none, did_then}
 use Rattle.house_core.proofs.EndsLemmas.{ends_by}
+use Rattle.house_core.proofs.ActLemmas.{some_kept}
 use Rattle.house_core.proofs.AtLemmas.{at_is}
 use Rattle.house_core.proofs.ReadLemmas.{read_there}
 use Rattle.house_core.proofs.WorldLemmas.{few_later}
@@ -107,44 +109,50 @@ room_did a u same tied =
     subst (λ (x : TableRecord). Did [] 0 a (record a { table = x })) (sym same) (did_room a u.spare tied)
 
 -- what is done, once there is room
-pub room_then : (w : ℕ) (address : Address) (answer : Answer) (a d : code.World) (u : TableRecord)
-    → u ≡ record a.table { spare = u.spare } → IsTied a.table
-    → Did (begun_at u w address answer) 1 (record a { table = u }) d → Did (begun_at a.table w address answer) 1 a d
-room_then w address answer a d u same tied did =
-    let n = u.spare in
-    let b : code.World = record a { table = record a.table { spare = n } } in
-    let then : Did (begun_at a.table w address answer) 1 b d =
-    subst (λ (x : TableRecord). Did (begun_at x w address answer) 1 (record a { table = x }) d) same did in
-    did_then [] (begun_at a.table w address answer) 0 1 a b d (did_room a n tied) then
+pub room_then : (w : ℕ) (address : Address) (answer : Answer) (a b d : code.World) → Did [] 0 a b
+    → Did (begun_in (seen b) w (conn_of (line_of w b.table)) address answer) 1 b d
+    → Did (begun_in (seen a) w (conn_of (line_of w a.table)) address answer) 1 a d
+room_then w address answer a b d same did =
+    let line : line_of w b.table ≡ line_of w a.table = ap (λ (x : World KeptTraffic). (x.lines w).stage) same.world in
+    let at : Did (begun_in (seen b) w (conn_of (line_of w a.table)) address answer) 1 b d =
+    subst (λ (l : stage.Line). Did (begun_in (seen b) w (conn_of l) address answer) 1 b d) line did in
+    did_then [] (begun_in (seen a) w (conn_of (line_of w a.table)) address answer) 0 1 a b d same
+    (subst (λ (x : World KeptTraffic). Did (begun_in x w (conn_of (line_of w a.table)) address answer) 1 b d) same.world at)
 
-replaces_is : (k : Kept) (o : Option ℕ) → replaced_by (k.world.made + 1) o ≡ replaces k o
+-- the session of an address, as the table finds it
+pub found_in : (a : code.World) (address : Address) → IsTied a.table → Rises 0 a.table.sessions a.table.made
+    → session_in (seen a) address ≡ number_at address a.table.sessions
+found_in a address tied rises = at_is (some_kept (seen a) 0) address a.table a.answers.items tied rises refl
+
+replaces_is : (k : Kept) (o : Option ℕ) → replaced_by k.world o ≡ replaces k o
 replaces_is k None = refl
 replaces_is k (Some s) = refl
 
-replaced_is : (k : Kept) (address : Address) (a : code.World) → IsTied a.table → Rises 0 a.table.sessions a.table.made → k.world ≡ seen a
-    → replaced_at a.table address ≡ replaces k (session_at k address)
-replaced_is k address a tied rises world =
-    (λ i. replaced_by ((sym world i).made + 1) (sym (at_is k address a.table a.answers.items tied rises world) i))
-    ∙ replaces_is k (session_at k address)
-
-pub begun_did : (k : Kept) (w : ℕ) (address : Address) (answer : Answer) (a d : code.World) → IsTied a.table
-    → Rises 0 a.table.sessions a.table.made → k.world ≡ seen a → Did (begun_at a.table w address answer) 1 a d
+pub begun_did : (k : Kept) (w : ℕ) (address : Address) (answer : Answer) (a d : code.World) → k.world ≡ seen a
+    → Did (begun_in (seen a) w (conn_of (line_of w a.table)) address answer) 1 a d
     → Did (replaces k (session_at k address) ++ (Begin w (conn_of (line_of w a.table)) address ∷ At w (Say answer) ∷ [])) 1 a d
-begun_did k w address answer a d tied rises world did =
+begun_did k w address answer a d world did =
     subst (λ (es : List Effect). Did (es ++ (Begin w (conn_of (line_of w a.table)) address ∷ At w (Say answer) ∷ [])) 1 a d)
-    (replaced_is k address a tied rises world) did
+    ((λ i. replaced_in (sym world i) address) ∙ replaces_is k (session_at k address)) did
 
 -- one effect after another
 pub settled_did : (w c u : ℕ) (address : Address) (answer : Answer) (a b c' d : code.World) → line_of w a.table ≡ Logged c u
-    → Did (replaced_at a.table address) 0 a b → KeepsLogged a b
+    → Did (replaced_in (seen a) address) 0 a b → KeepsLogged a b
     → Did (Begin w (conn_of (line_of w b.table)) address ∷ []) 1 b c' → Did (At w (Say answer) ∷ []) 0 c' d
-    → Did (begun_at a.table w address answer) 1 a d
+    → Did (begun_in (seen a) w (conn_of (line_of w a.table)) address answer) 1 a d
 settled_did w c u address answer a b c' d at one others two three =
     let same : line_of w b.table ≡ line_of w a.table = (others w c u at).0 ∙ sym at in
     let two' : Did (Begin w (conn_of (line_of w a.table)) address ∷ []) 1 b c' =
     subst (λ (l : stage.Line). Did (Begin w (conn_of l) address ∷ []) 1 b c') same two in
-    did_then (replaced_at a.table address) (Begin w (conn_of (line_of w a.table)) address ∷ At w (Say answer) ∷ []) 0 1 a b d one
+    did_then (replaced_in (seen a) address) (Begin w (conn_of (line_of w a.table)) address ∷ At w (Say answer) ∷ []) 0 1 a b d one
     (did_then (Begin w (conn_of (line_of w a.table)) address ∷ []) (At w (Say answer) ∷ []) 1 0 b c' d two' three)
+
+-- what is there before the room is taken is there afterwards
+pub room_line : (w : ℕ) (a b : code.World) → Did [] 0 a b → line_of w b.table ≡ line_of w a.table
+room_line w a b same = ap (λ (x : World KeptTraffic). (x.lines w).stage) same.world
+
+pub room_answers : (w : ℕ) (a b : code.World) → Did [] 0 a b → slice_index_or b.answers.items w [] ≡ slice_index_or a.answers.items w []
+room_answers w a b same = ap (λ (x : World KeptTraffic). (x.lines w).answers) same.world
 
 -- the whole event
 pub bind_ends : (k : Kept) (w t c u : ℕ) (id : List ℕ) (resource : Option (List ℕ)) (dice : List ℕ) (p : model.Pass) (r : Reply) (address : Address)

@@ -59,6 +59,8 @@ module _ (a : code.World) (s : ℕ) (x : SessionRecord) (tied : IsTied a.table) 
         short = ready.short;
         away = ready.away;
         known = ready.known;
+        shown = ready.shown;
+        address = ready.address;
       })
       (λ turns few. (let sent = few.sent s x at in let acted = few.acted s x at in (omega (arith, sent), omega (arith, acted)))))
 
@@ -76,6 +78,8 @@ module _ (a : code.World) (s : ℕ) (x : SessionRecord) (tied : IsTied a.table) 
         short = ready.short;
         away = ready.away;
         known = ready.known;
+        shown = ready.shown;
+        address = ready.address;
       })
       (λ turns few. (let sent = few.sent s x at in let acted = few.acted s x at in (omega (arith, sent), omega (arith, acted)))))
 
@@ -102,5 +106,7 @@ module _ (a : code.World) (s : ℕ) (x : SessionRecord) (tied : IsTied a.table) 
         short = all_drop _ x.queue.given x.queue.waiting ready.short;
         away = λ live none. refl;
         known = λ some. refl;
+        shown = ready.shown;
+        address = ready.address;
       })
       (λ turns few. (let sent = few.sent s x at in let acted = few.acted s x at in (omega (arith, sent), omega (arith, acted)))))

@@ -10,6 +10,7 @@ use Rattle.session_table.specs.declared.line.Line.TheVariants.{Logged, Bound}
 use Rattle.session_table.specs.Sessions.{SessionRecord}
 use Rattle.session_table.specs.Tables.{TableRecord, Rises, conn_of, line_of, session_of, without}
 use Rattle.session_table.proofs.NumberLemmas.{lookup_removed}
+use Rattle.contact_table.specs.Books.{empty_book}
 use Rattle.house_model.specs.Numbered.{put}
 use Rattle.house_model.specs.Sessions.{Held, Away, Ended, End, Part, Rest, Session, session, gone, step_if, session_step}
 use Rattle.house_model.specs.Traffic.{KeptTraffic, brief, nothing_kept}
@@ -29,7 +30,7 @@ some_of None is = absurd (cc)
 some_of (Some x) is = (x, refl)
 
 -- it is there, and over
-over_there : (ls : List stage.Line) (o : Option SessionRecord) (c : Cause) → (session_by ls o).hold ≡ Ended c
+pub over_there : (ls : List stage.Line) (o : Option SessionRecord) (c : Cause) → (session_by ls o).hold ≡ Ended c
     → (y : SessionRecord) × (o ≡ Some y) × (y.state ≡ Over c)
 over_there ls None c is = absurd (let z : Away ≡ Ended c = is in cc)
 over_there ls (Some y) c is = (y, refl, by y.state y.holder is)
@@ -179,6 +180,7 @@ module _ (a : code.World) (s spare : ℕ) (c : Cause) (x : SessionRecord) (tied 
   part_did b is = subst (λ (k : TableRecord). Did (On s Part ∷ []) 0 a (record a { table = k })) (sym is) (record {
     world = λ i. record {
       opened = was.opened;
+      book = empty_book;
       lines = sym (λ j. settled s (part_before j).hold (part_step j).hold (seen a).lines) i;
       made = was.made;
       sessions = λ n. part_at n i;

@@ -3,6 +3,7 @@ use Rattle.std.proofs.Common.{◌≡◌, inl, inr, ℕ, ◌+◌, List, [], ◌�
 use Rattle.session_table.specs.declared.life.Life.TheVariants.{Live}
 use Rattle.session_table.specs.Sessions.{SessionRecord}
 use Rattle.session_table.specs.Tables.{conn_of, line_of, session_of}
+use Rattle.contact_table.specs.Books.{empty_book}
 use Rattle.house_model.specs.Numbered.{put}
 use Rattle.house_model.specs.Sessions.{Held, Tell, Rest, Session, session, step_if, session_step}
 use Rattle.house_model.specs.Traffic.{KeptTraffic, brief}
@@ -65,6 +66,7 @@ tell_did a w s tied held =
     record {
       world = λ i. record {
         opened = t.opened;
+        book = empty_book;
         lines = sym ((λ j. settled s (is j).hold (step j).hold (lines_of t a.answers.items)) ∙ moved_same s w c (lines_of t a.answers.items)) i;
         made = t.made;
         sessions = sym (put_same s (session_step brief (sessions_of t s) Tell) (sessions_of t) (step ∙ sym is)) i;

@@ -34,6 +34,8 @@ ended_ready cause x ready = record {
   short = ready.short;
   away = λ live none. absurd (let z : life.Over cause ≡ life.Live = live in cc);
   known = ready.known;
+  shown = ready.shown;
+  address = ready.address;
 }
 
 -- the session ends
@@ -93,6 +95,8 @@ released_ready (Some id) moment x counts ready = record {
   short = ready.short;
   away = λ live none. counts refl;
   known = ready.known;
+  shown = ready.shown;
+  address = ready.address;
 }
 
 released_is : (o : Option ResumeId) (moment : ℕ) (x : SessionRecord) (ls : List stage.Line) (v d : ℕ) → x.state ≡ life.Live

@@ -6,6 +6,7 @@ use Rattle.sm_resume.specs.declared.decision.Cause.{Cause}
 use Rattle.session_table.specs.declared.line.Line as stage
 use Rattle.session_table.specs.declared.line.Line.TheVariants.{Empty, Fresh, Logged, Over}
 use Rattle.session_table.specs.Tables.{TableRecord, conn_of, line_of, with_line, with_conn, line_ended}
+use Rattle.contact_table.specs.Books.{empty_book}
 use Rattle.house_model.specs.declared.answer.Answer.{Answer}
 use Rattle.house_model.specs.Numbered.{put}
 use Rattle.house_model.specs.Traffic.{brief}
@@ -23,6 +24,7 @@ module _ (a : code.World) (w : ℕ) (tied : IsTied a.table) (low : w < length a.
       ≡ record (seen a) { lines = put w (record { stage = l; answers = [] }) (lines_of a.table a.answers.items) }
   free_world l = λ i. record {
     opened = a.table.opened;
+    book = empty_book;
     lines = lines_put a.table a.answers.items w l [] low (omega (arith, low, answered)) i;
     made = a.table.made;
     sessions = sessions_line a.table w l low (λ n y at live holder. absurd (free n y at holder)) i;

@@ -73,6 +73,8 @@ module _ (a : code.World) (s : ℕ) (x : SessionRecord) (tied : IsTied a.table) 
         short = all_drop _ n x.queue.waiting ready.short;
         away = ready.away;
         known = ready.known;
+        shown = ready.shown;
+        address = ready.address;
       })
       (λ turns few. (let sent = few.sent s x at in let acted = few.acted s x at in (omega (arith, sent, low), omega (arith, acted)))))
 
@@ -91,6 +93,8 @@ module _ (a : code.World) (s : ℕ) (x : SessionRecord) (tied : IsTied a.table) 
         short = ready.short;
         away = ready.away;
         known = ready.known;
+        shown = ready.shown;
+        address = ready.address;
       })
       (λ turns few. (let sent = few.sent s x at in let acted = few.acted s x at in (omega (arith, sent), omega (arith, acted))))
   mark_by false more counts =
@@ -106,6 +110,8 @@ module _ (a : code.World) (s : ℕ) (x : SessionRecord) (tied : IsTied a.table) 
         short = all_drop _ (x.queue.given + 1) x.queue.waiting ready.short;
         away = ready.away;
         known = ready.known;
+        shown = ready.shown;
+        address = ready.address;
       })
       (λ turns few. (let sent = few.sent s x at in let acted = few.acted s x at in (omega (arith, sent), omega (arith, acted))))
 

@@ -18,7 +18,11 @@ pub mod DueLemmas
 pub mod PullLemmas
 pub mod LoginLemmas
 pub mod ListedLemmas
+pub mod RoutingLemmas
+pub mod MarkLemmas
 pub mod ReadyLemmas
+pub mod RunLemmas
+pub mod StayLemmas
 pub mod AppendLemmas
 pub mod BeginLemmas
 pub mod PartLemmas

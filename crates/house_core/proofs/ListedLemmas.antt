@@ -1,11 +1,12 @@
 -- The sessions of a user, by number and as the table lists them.
 use Rattle.std.proofs.Common.{◌≡◌, inl, inr, ℕ, zero, suc, ◌<◌, ◌≤◌, ◌&&◌, nat_eq, not, cond, Bool, true, false, List, [], ◌∷◌, ◌++◌, Option, Some, None, if◌then◌else◌, arith, refl, sym, ap, ◌∙◌}
-use Rattle.std.specs.Prelude.{map}
+use Rattle.std.specs.Prelude.{map, is_some}
+use Rattle.std.specs.List.{filter, list_any}
 use Rattle.std.specs.Map.{lookup}
 use Rattle.std.proofs.lemmas.Bool.{ne_eqb}
 use Rattle.std.proofs.lemmas.Bool.Decides.{eqb_tells}
 use Rattle.std.proofs.lemmas.List.{append-nil, append_assoc}
-use Rattle.jid_core.specs.Addresses.{same_part}
+use Rattle.jid_core.specs.Addresses.{Address, same_part}
 use Rattle.stanza_model.specs.declared.here.Here.{Here}
 use Rattle.session_table.specs.declared.life.Life.{Life}
 use Rattle.session_table.specs.declared.life.Life.TheVariants.{Live, Over}
@@ -13,11 +14,13 @@ use Rattle.session_table.specs.declared.line.Line as stage
 use Rattle.session_table.specs.Sessions.{SessionRecord, is_over}
 use Rattle.session_table.specs.Tables.{Rises, session_of}
 use Rattle.house_model.specs.Numbered.{all_passing}
-use Rattle.house_model.specs.Lookups.{goes_on, is_of, numbers_of}
-use Rattle.house_model.specs.Routing.{here}
+use Rattle.house_model.specs.Lookups.{goes_on, here, is_of, is_there, sessions_of}
+use Rattle.house_model.specs.Presences.{named, names}
+use Rattle.house_model.specs.Sessions.{Session}
+use Rattle.house_model.specs.Traffic.{KeptTraffic}
 use Rattle.house_core.specs.declared.world.World as code
 use Rattle.house_core.specs.Houses.{hold_by, session_by}
-use Rattle.house_core.specs.Listings.{here_from, is_users, listed, listed_by}
+use Rattle.house_core.specs.Listings.{here_from, is_named, is_users, listed, listed_by}
 use Rattle.house_core.specs.Wholes.{IsSession, IsTied}
 use Rattle.house_core.specs.Worlds.{seen}
 use Rattle.house_core.proofs.AtLemmas.{there_is}
@@ -85,15 +88,15 @@ later_found last made s e more x rises at = elim (eqb_tells s e.0) [
   | inr p ↦ ap (λ (b : Bool). cond b (Some e.1) (lookup (nat_eq s) more)) (ne_eqb s e.0 p.1) ∙ at
 ]
 
-map_listed : (g : ℕ → Here) (user : List ℕ) (last made : ℕ) (es : List (ℕ × SessionRecord)) → Rises last es made
-    → ((s : ℕ) (x : SessionRecord) → lookup (nat_eq s) es ≡ Some x → g s ≡ here_from s x) → map g (picked (is_users user) es) ≡ listed user es
-map_listed g user last made [] rises are = refl
-map_listed g user last made (e ∷ more) rises are =
-    by (is_users user e.1) (are e.0 e.1 (own_number e more))
-    (map_listed g user e.0 made more rises.1 (λ s x at. are s x (later_found last made s e more x rises at)))
+map_listed : (g : ℕ → Here) (pick : SessionRecord → Bool) (last made : ℕ) (es : List (ℕ × SessionRecord)) → Rises last es made
+    → ((s : ℕ) (x : SessionRecord) → lookup (nat_eq s) es ≡ Some x → g s ≡ here_from s x) → map g (picked pick es) ≡ listed pick es
+map_listed g pick last made [] rises are = refl
+map_listed g pick last made (e ∷ more) rises are =
+    by (pick e.1) (are e.0 e.1 (own_number e more))
+    (map_listed g pick e.0 made more rises.1 (λ s x at. are s x (later_found last made s e more x rises at)))
   where
-    by : (b : Bool) → g e.0 ≡ here_from e.0 e.1 → map g (picked (is_users user) more) ≡ listed user more
-        → map g (one_of b e.0 ++ picked (is_users user) more) ≡ listed_by b e (listed user more)
+    by : (b : Bool) → g e.0 ≡ here_from e.0 e.1 → map g (picked pick more) ≡ listed pick more
+        → map g (one_of b e.0 ++ picked pick more) ≡ listed_by b e (listed pick more)
     by true own rest = λ i. own i ∷ rest i
     by false own rest = rest
 
@@ -102,26 +105,72 @@ live_by Live None ls = refl
 live_by Live (Some w) ls = refl
 live_by (Over cause) h ls = refl
 
-of_by : (user : List ℕ) (ls : List stage.Line) (o : Option SessionRecord) → ((x : SessionRecord) → o ≡ Some x → IsSession x)
-    → is_of user (session_by ls o) ≡ passes (is_users user) o
+-- a session that is kept passes a test where it is picked
+abbrev IsPick : (Session KeptTraffic → Bool) → (SessionRecord → Bool) → Type 0
+IsPick test pick = (ls : List stage.Line) (o : Option SessionRecord) → ((x : SessionRecord) → o ≡ Some x → IsSession x)
+    → test (session_by ls o) ≡ passes pick o
+
+of_by : (user : List ℕ) → IsPick (is_of user) (is_users user)
 of_by user ls None each = refl
 of_by user ls (Some x) each = λ i.
     there_is x ls (each x refl) i && (live_by x.state x.holder ls i && same_part x.address.local (Some user))
 
-here_is : (a : code.World) (s : ℕ) (x : SessionRecord) → session_of s a.table ≡ Some x → here (seen a) s ≡ here_from s x
-here_is a s x at =
-    ap (λ (o : Option SessionRecord). here_from s (record x { address = (session_by a.table.lines o).rest.address })) at
+abbrev is_going : SessionRecord → Bool
+is_going x = not (is_over x.state)
 
-pub listed_is : (a : code.World) (user : List ℕ) → IsTied a.table → Rises 0 a.table.sessions a.table.made
-    → listed user a.table.sessions ≡ map (here (seen a)) (numbers_of (seen a) user)
-listed_is a user tied rises =
+going_by : IsPick (λ s. is_there s && goes_on s.hold) is_going
+going_by ls None each = refl
+going_by ls (Some x) each = λ i. there_is x ls (each x refl) i && live_by x.state x.holder ls i
+
+abbrev here_by : ℕ → Session KeptTraffic → Here
+here_by s y = record {
+  session = s;
+  address = y.rest.address;
+  available = is_some y.rest.manner.presence;
+  priority = y.rest.manner.priority;
+  wants_roster = y.rest.manner.wants_roster;
+  pushes = y.rest.manner.pushes;
+}
+
+here_is : (a : code.World) (s : ℕ) (x : SessionRecord) → session_of s a.table ≡ Some x → here (seen a) s ≡ here_from s x
+here_is a s x at = ap (λ (o : Option SessionRecord). here_by s (session_by a.table.lines o)) at
+
+picked_is : (a : code.World) (test : Session KeptTraffic → Bool) (pick : SessionRecord → Bool) → IsPick test pick → IsTied a.table
+    → Rises 0 a.table.sessions a.table.made
+    → listed pick a.table.sessions ≡ map (here (seen a)) (all_passing a.table.made (λ s. test ((seen a).sessions s)))
+picked_is a test pick is tied rises =
     let t = a.table in
     sym (
     ap (map (here (seen a)))
-    ((λ i. all_passing t.made (λ s. of_by user t.lines (session_of s t) (tied.each s) i)) ∙ all_picked (is_users user) 0 t.made t.sessions rises)
-    ∙ map_listed (here (seen a)) user 0 t.made t.sessions rises (here_is a)
+    ((λ i. all_passing t.made (λ s. is t.lines (session_of s t) (tied.each s) i)) ∙ all_picked pick 0 t.made t.sessions rises)
+    ∙ map_listed (here (seen a)) pick 0 t.made t.sessions rises (here_is a)
     )
 
-pub listed_end : (found : List Here) (user : List ℕ) (rest es : List (ℕ × SessionRecord)) → rest ≡ [] → found ++ listed user rest ≡ listed user es
-    → found ≡ listed user es
-listed_end found user rest es end all = sym (append-nil found) ∙ (sym (λ i. found ++ listed user (end i)) ∙ all)
+pub listed_is : (a : code.World) (user : List ℕ) → IsTied a.table → Rises 0 a.table.sessions a.table.made
+    → listed (is_users user) a.table.sessions ≡ sessions_of (seen a) user
+listed_is a user tied rises = picked_is a (is_of user) (is_users user) (of_by user) tied rises
+
+-- of those that are listed, the ones that pass a test too
+filter_listed : (p : Here → Bool) (pick q : SessionRecord → Bool) (es : List (ℕ × SessionRecord))
+    → ((n : ℕ) (x : SessionRecord) → p (here_from n x) ≡ q x) → filter p (listed pick es) ≡ listed (λ x. pick x && q x) es
+filter_listed p pick q [] same = refl
+filter_listed p pick q (e ∷ more) same = by (pick e.1) (q e.1) (same e.0 e.1) (filter_listed p pick q more same)
+  where
+    by : (b c : Bool) → p (here_from e.0 e.1) ≡ c → filter p (listed pick more) ≡ listed (λ x. pick x && q x) more
+        → filter p (listed_by b e (listed pick more)) ≡ listed_by (b && c) e (listed (λ x. pick x && q x) more)
+    by false c is rest = rest
+    by true true is rest = λ i. if is i then here_from e.0 e.1 ∷ rest i else rest i
+    by true false is rest = λ i. if is i then here_from e.0 e.1 ∷ rest i else rest i
+
+pub named_is : (a : code.World) (addresses : List Address) → IsTied a.table → Rises 0 a.table.sessions a.table.made
+    → listed (is_named addresses) a.table.sessions ≡ named (seen a) addresses
+named_is a addresses tied rises =
+    sym (
+    ap (filter (λ h. list_any (names h) addresses)) (sym (picked_is a (λ s. is_there s && goes_on s.hold) is_going going_by tied rises))
+    ∙ filter_listed (λ h. list_any (names h) addresses) is_going (λ x. list_any (names (here_from 0 x)) addresses) a.table.sessions
+    (λ n x. refl)
+    )
+
+pub listed_end : (found : List Here) (pick : SessionRecord → Bool) (rest es : List (ℕ × SessionRecord)) → rest ≡ []
+    → found ++ listed pick rest ≡ listed pick es → found ≡ listed pick es
+listed_end found pick rest es end all = sym (append-nil found) ∙ (sym (λ i. found ++ listed pick (end i)) ∙ all)

@@ -8,6 +8,7 @@ use Rattle.session_table.specs.declared.line.Line as stage
 use Rattle.session_table.specs.declared.line.Line.TheVariants.{Empty, Logged}
 use Rattle.session_table.specs.Sessions.{SessionRecord}
 use Rattle.session_table.specs.Tables.{TableRecord, conn_of, line_of, session_of, changed, with_line}
+use Rattle.contact_table.specs.Books.{empty_book}
 use Rattle.house_model.specs.Numbered.{put}
 use Rattle.house_model.specs.Sessions.{Hold, Held, Op, End, Rest, Session, session, over, step_if, session_step}
 use Rattle.house_model.specs.Traffic.{KeptTraffic, brief}
@@ -70,6 +71,7 @@ module _ (a : code.World) (w s : ℕ) (x : SessionRecord) (f : SessionRecord →
       ≡ record (apply brief (seen a) (On s op)) { lines = put w (record { stage = l; answers = [] }) ls }
   off_world l = λ i. record {
     opened = t.opened;
+    book = empty_book;
     lines = lines_put (changed s f t) a.answers.items w l [] low (omega (arith, low, answered)) i;
     made = t.made;
     sessions = off_sessions l i;

@@ -4,6 +4,7 @@ use Rattle.std.proofs.lemmas.List.{length-replicate}
 use Rattle.jid_core.specs.Addresses.{Address}
 use Rattle.session_table.specs.declared.line.Line.TheVariants.{Empty}
 use Rattle.session_table.specs.Tables.{TableRecord, new_table}
+use Rattle.contact_table.specs.Books.{empty_book}
 use Rattle.house_model.specs.declared.answer.Answer.{Answer}
 use Rattle.house_model.specs.States.{opening, keep, empty_line}
 use Rattle.house_core.specs.Houses.{HouseRecord, held, lines_of}
@@ -33,6 +34,7 @@ new_held domain users workers spare = λ i. record {
   head = record { domain = domain; users = users; workers = length-replicate workers Empty i; turns = 0; moment = 0 };
   world = record {
     opened = 0;
+    book = empty_book;
     lines = λ w. line_empty workers spare w i;
     made = 0;
     sessions = (keep (opening domain users workers)).world.sessions;

@@ -12,6 +12,7 @@ use Rattle.session_table.specs.declared.life.Life.TheVariants.{Live, Over}
 use Rattle.session_table.specs.declared.line.Line as stage
 use Rattle.session_table.specs.Sessions.{SessionRecord, ended}
 use Rattle.session_table.specs.Tables.{TableRecord, changed, conn_of, line_of, session_of, with_session}
+use Rattle.contact_table.specs.Books.{empty_book}
 use Rattle.house_model.specs.Numbered.{put}
 use Rattle.house_model.specs.Sessions.{Hold, Held, Away, Ended, Op, Push, End, Rest, Session, session, gone, over, pushed, step_if, session_step}
 use Rattle.house_model.specs.Traffic.{KeptTraffic, brief, nothing_kept, kept_queue}
@@ -43,6 +44,7 @@ same_did a s x m op tied at hold stays is =
     record {
       world = λ i. record {
         opened = t.opened;
+        book = empty_book;
         lines = sym ((λ j. settled s (before j).hold (step j).hold ls) ∙ stays ls) i;
         made = t.made;
         sessions = sym (put_same s (session_step brief (sessions_of t s) op) (sessions_of t) (step ∙ sym before)) i;
@@ -55,19 +57,21 @@ same_did a s x m op tied at hold stays is =
     }
 
 -- a session that is not there
-pub gone_did : (a : code.World) (s : ℕ) (entry : Entry) → IsTied a.table → session_of s a.table ≡ None → Did (On s (Push entry) ∷ []) 0 a a
-gone_did a s entry tied none =
+pub gone_same : (a : code.World) (s : ℕ) (op : Op) → IsTied a.table → session_of s a.table ≡ None
+    → session_step brief (gone nothing_kept) op ≡ gone nothing_kept → Did (On s op ∷ []) 0 a a
+gone_same a s op tied none is =
     let t = a.table in
     let ls = lines_of t a.answers.items in
     let before : sessions_of t s ≡ gone nothing_kept = ap (session_by t.lines) none in
-    let step : session_step brief (sessions_of t s) (Push entry) ≡ gone nothing_kept = ap (λ (o : Session KeptTraffic). session_step brief o (Push entry)) before in
+    let step : session_step brief (sessions_of t s) op ≡ gone nothing_kept = ap (λ (o : Session KeptTraffic). session_step brief o op) before ∙ is in
     let same = did_none a tied in
     record {
       world = λ i. record {
         opened = t.opened;
+        book = empty_book;
         lines = sym (λ j. settled s (before j).hold (step j).hold ls) i;
         made = t.made;
-        sessions = sym (put_same s (session_step brief (sessions_of t s) (Push entry)) (sessions_of t) (step ∙ sym before)) i;
+        sessions = sym (put_same s (session_step brief (sessions_of t s) op) (sessions_of t) (step ∙ sym before)) i;
       };
       tied = tied;
       known = same.known;
@@ -75,6 +79,9 @@ gone_did a s entry tied none =
       lines = refl;
       answered = refl;
     }
+
+pub gone_did : (a : code.World) (s : ℕ) (entry : Entry) → IsTied a.table → session_of s a.table ≡ None → Did (On s (Push entry) ∷ []) 0 a a
+gone_did a s entry tied none = gone_same a s (Push entry) tied none refl
 
 -- a session that goes on where it was, at a line or away
 module _ (a : code.World) (s : ℕ) (x y : SessionRecord) (m : Hold) (op : Op) (at : session_of s a.table ≡ Some x)
@@ -106,7 +113,7 @@ module _ (a : code.World) (s : ℕ) (x y : SessionRecord) (m : Hold) (op : Op) (
       → ((turns : ℕ) → IsFew turns a.table → (y.given_up + y.queue.given ≤ turns + more) × (y.acted ≤ turns + more))
       → Did (On s op ∷ []) more a (record a { table = with_session s a.table y })
   live_did more tied ready numbers = record {
-    world = λ i. record { opened = t.opened; lines = sym live_lines i; made = t.made; sessions = live_session i };
+    world = λ i. record { opened = t.opened; book = empty_book; lines = sym live_lines i; made = t.made; sessions = live_session i };
     tied = tied_with s t x y tied at state' holder' ready;
     known = λ many users. users;
     few = λ turns few. (let now = numbers turns few in few_with s turns (turns + more) t x y few at (omega arith) now.0 now.1);
@@ -183,6 +190,8 @@ module _ (a : code.World) (s : ℕ) (x : SessionRecord) (tied : IsTied a.table) 
     short = all_snoc _ x.queue.waiting e ready.short short;
     away = ready.away;
     known = ready.known;
+    shown = ready.shown;
+    address = ready.address;
   }
 
   push_by : (h : Option ℕ) (e : Entry) → x.holder ≡ h → x.state ≡ Live → has_room x.queue.waiting e ≡ true → length (frame e) ≤ 524288
@@ -238,6 +247,7 @@ module _ (a : code.World) (s : ℕ) (x : SessionRecord) (tied : IsTied a.table) 
       record {
         world = λ i. record {
           opened = t.opened;
+          book = empty_book;
           lines = sym (λ j. settled s (before j).hold (step j).hold ls) i;
           made = t.made;
           sessions = (sessions_put t (ended cause) s x at ∙ ap (λ (o : Session KeptTraffic). put s o (sessions_of t)) (sym step)) i;

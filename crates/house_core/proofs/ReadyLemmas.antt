@@ -1,6 +1,7 @@
 -- The room in queues, and what effects need of it.
-use Rattle.std.proofs.Common.{◌≡◌, ◌⊎◌, inl, inr, ℕ, zero, suc, ◌+◌, ◌-◌, ◌<◌, ◌≤◌, ◌==◌, Bool, false, List, [], ◌∷◌, drop, get_or, length, map, Some, None, refl, sym, ap, subst, ◌∙◌, arith}
-use Rattle.std.specs.Prelude.{OnOk, Result, if◌then◌else◌}
+use Rattle.std.proofs.Common.{◌≡◌, ◌⊎◌, inl, inr, ℕ, zero, suc, ◌+◌, ◌-◌, ◌<◌, ◌≤◌, ◌==◌, Bool, false, List, [], ◌∷◌, drop, get_or, length, map, Option, Some, None, refl, sym, ap, subst, ◌∙◌, arith}
+use Rattle.std.specs.Prelude.{OnOk, IfSome, Result, if◌then◌else◌}
+use Rattle.std.specs.List.{AllByRecursion}
 use Rattle.std.specs.Option.{option_map}
 use Rattle.std.proofs.lemmas.Bool.{eq-eqb}
 use Rattle.std.proofs.lemmas.Bool.Decides.{eqb_tells}
@@ -19,15 +20,68 @@ use Rattle.sm_resume.specs.declared.decision.Cause.{Cause}
 use Rattle.session_table.specs.declared.life.Life.TheVariants.{Live}
 use Rattle.session_table.specs.Sessions.{SessionRecord, ended}
 use Rattle.session_table.specs.Tables.{TableRecord, changed, line_ended, session_of, with_session}
-use Rattle.house_model.specs.Steps.{queued}
+use Rattle.jid_core.specs.Addresses.{Address}
+use Rattle.presence_core.specs.Broadcasts.{asked_by}
+use Rattle.house_model.specs.Fitting.{IsShortAddress, IsShortScene}
+use Rattle.house_model.specs.Lookups.{here}
+use Rattle.house_model.specs.Presences.{asking}
+use Rattle.house_model.specs.Routing.{Scene, departure, effects_in}
+use Rattle.house_model.specs.States.{World}
+use Rattle.house_model.specs.Traffic.{KeptTraffic}
+use Rattle.house_model.specs.Steps.{effect_of}
+use Rattle.house_model.proofs.EffectCases.{effects_all}
+use Rattle.house_model.proofs.PresenceCases.{departure_all}
 use Rattle.house_core.specs.declared.world.World as code
-use Rattle.house_core.specs.Readiness.{AreReady, needed, needed_by}
-use Rattle.house_core.specs.Wholes.{HasSpare, IsHeldBy}
-use Rattle.house_core.specs.Worlds.{Did}
+use Rattle.house_core.specs.Readiness.{AreOfSessions, AreReady, IsOfSessions, needed, needed_by}
+use Rattle.house_core.specs.Houses.{session_by}
+use Rattle.house_core.specs.Wholes.{HasSpare, IsHeldBy, IsTied}
+use Rattle.house_core.specs.Worlds.{Did, seen}
 use Rattle.house_core.proofs.ActLemmas.{on_ok}
 use Rattle.house_core.proofs.DidLemmas.{did_then}
 use Rattle.house_core.proofs.OffLemmas.{there}
 use Rattle.house_core.proofs.TiedLemmas.{changed_here, changed_is}
+
+-- what comes of a stanza, and of a departure, is of sessions
+pub stanza_of_sessions : (o : Scene) (s : ℕ) (st : Stanza) → AreOfSessions (effects_in o s st)
+stanza_of_sessions o s st =
+    effects_all o s st IsOfSessions (record {
+      refusal = λ condition. tt;
+      result = tt;
+      found = λ place. tt;
+      copy = λ e h is found. tt;
+      presence = λ e h short found. tt;
+      show = λ h found. tt;
+      asked = λ own. asks (asking o.domain o.world own);
+      shows = λ e priority short. refl;
+      hides = refl;
+      directs = λ addresses. refl;
+    })
+  where
+    asks : (xs : List Address) → AllByRecursion (λ x. IsOfSessions (asked_by (here o.world s) x)) xs
+    asks [] = tt
+    asks (x ∷ more) = (tt, asks more)
+
+pub departure_of_sessions : (world : World KeptTraffic) (s : ℕ) → AreOfSessions (departure world s)
+departure_of_sessions world s = departure_all world s IsOfSessions (λ h found. tt) refl (λ addresses. refl)
+
+-- all that is kept is short
+pub scene_short : (a : code.World) (domain : List ℕ) (users : List (List ℕ)) → IsTied a.table
+    → IsShortScene (record { domain = domain; users = users; world = seen a })
+scene_short a domain users tied = record {
+  addresses = λ s. address_by (session_of s a.table) (λ x at. (tied.each s x at).address);
+  asking = λ own. tt;
+  presences = λ s. presence_by (session_of s a.table) (λ x at. (tied.each s x at).shown);
+}
+  where
+    address_by : (o : Option SessionRecord) → ((x : SessionRecord) → o ≡ Some x → IsShortAddress x.address)
+        → IsShortAddress (session_by a.table.lines o).rest.address
+    address_by None each = omega arith
+    address_by (Some x) each = each x refl
+
+    presence_by : (o : Option SessionRecord) → ((x : SessionRecord) → o ≡ Some x → IfSome x.presence (λ p. length p ≤ 16384))
+        → IfSome (session_by a.table.lines o).rest.manner.presence (λ p. length p ≤ 16384)
+    presence_by None each = tt
+    presence_by (Some x) each = each x refl
 
 -- there is room for less
 pub spare_less : (n k r : ℕ) (t : TableRecord) → HasSpare n r t → HasSpare (n - k) r t
@@ -156,10 +210,10 @@ ready_rest e more old new ready left = λ s x at.
 
 -- an effect was applied, and those after it go on from there
 pub applied_first : (e : Effect) (more all : List Effect) (a b c : code.World) → all ≡ e ∷ more
-    → Did (queued e ∷ []) 0 a b → Did (map queued more) 0 b c → Did (map queued all) 0 a c
+    → Did (effect_of e ∷ []) 0 a b → Did (map effect_of more) 0 b c → Did (map effect_of all) 0 a c
 applied_first e more all a b c is one rest =
-    subst (λ (es : List Effect). Did (map queued es) 0 a c) (sym is)
-    (did_then (queued e ∷ []) (map queued more) 0 0 a b c one rest)
+    subst (λ (es : List Effect). Did (map effect_of es) 0 a c) (sym is)
+    (did_then (effect_of e ∷ []) (map effect_of more) 0 0 a b c one rest)
 
 -- any stanza, where it does not matter which
 abbrev pub some_stanza : Stanza

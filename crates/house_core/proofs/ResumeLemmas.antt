@@ -18,6 +18,7 @@ use Rattle.session_table.specs.Tables.{IsLive, TableRecord, Rises, attached, cha
 use Rattle.session_table.specs.Tables as tables
 use Rattle.session_table.proofs.ListLemmas.{rises_changed}
 use Rattle.session_table.proofs.NumberLemmas.{lookup_changed}
+use Rattle.contact_table.specs.Books.{empty_book}
 use Rattle.house_model.specs.declared.answer.Answer.{Answer}
 use Rattle.house_model.specs.Numbered.{put}
 use Rattle.house_model.specs.Sessions.{Hold, Held, Away, Resume, Rest, Session, session, resumed, step_if, session_step}
@@ -232,6 +233,8 @@ module _ (a : code.World) (w s h n : ℕ) (x : SessionRecord) (tied : IsTied a.t
     short = all_drop _ n x.queue.waiting old.short;
     away = λ on none. absurd (let e : ◌≡◌ {A = Option ℕ} (Some w) None = none in cc);
     known = old.known;
+    shown = old.shown;
+    address = old.address;
   })
 
   t2_own : session_of s t2 ≡ Some z
@@ -267,6 +270,7 @@ module _ (a : code.World) (w s h n : ℕ) (x : SessionRecord) (tied : IsTied a.t
       record {
         world = λ i. record {
           opened = t.opened;
+          book = empty_book;
           lines = (lines_staged t a.answers.items w (Bound c s) low ∙ sym (λ j. settled s (before j).hold (step j).hold ls)) i;
           made = t.made;
           sessions = λ m. moved_at a d w s c x z tied at logged t2_own t2_else live refl t2_here left same
@@ -353,6 +357,7 @@ module _ (a : code.World) (w s h n : ℕ) (x : SessionRecord) (tied : IsTied a.t
         record {
           world = λ i. record {
             opened = t.opened;
+            book = empty_book;
             lines = ((λ j. lines_of t3 (set a.answers.items v (empty j)))
                 ∙ (lines_put t2 a.answers.items v o [] low2 (omega (arith, low2, answered, length-set t.lines w (Bound c s)))
                 ∙ (ap (put v (over_line d (Moved c))) (lines_staged t a.answers.items w (Bound c s) low)

@@ -15,11 +15,12 @@ use Rattle.house_core.proofs.DidLemmas.{did_none}
 use Rattle.house_core.proofs.DueLemmas.{due_is, due_is_none}
 
 pub swept_ends : (k : Kept) (w t s : ℕ) (a b : code.World) → Rises 0 a.table.sessions a.table.made → k.world ≡ seen a
-    → first_due k.head.moment a.table.sessions ≡ Some s → Did (departs s Lost) 0 a b
+    → first_due k.head.moment a.table.sessions ≡ Some s → Did (departs (seen a) s Lost) 0 a b
     → Ends (verdict k (Sweep w t)) 0 (Swept s) a b
 swept_ends k w t s a b rises world first did =
     let due = due_is k a.table rises (ap (λ (x : World KeptTraffic). x.made) world) (ap (λ (x : World KeptTraffic). x.sessions) world) in
-    subst (λ (o : Option ℕ). Ends (sweeps o) 0 (Swept s) a b) (sym first ∙ due) (record { answer = refl; did = did })
+    subst (λ (o : Option ℕ). Ends (sweeps k.world o) 0 (Swept s) a b) (sym first ∙ due)
+    (record { answer = refl; did = subst (λ (x : World KeptTraffic). Did (departs x s Lost) 0 a b) (sym world) did })
 
 pub nothing_ends : (k : Kept) (w t : ℕ) (answer : Option ℕ) (a : code.World) → IsTied a.table → k.world ≡ seen a → answer ≡ None
     → IsFirst (λ x. table.is_due k.head.moment x ≡ true) a.table answer
@@ -27,4 +28,4 @@ pub nothing_ends : (k : Kept) (w t : ℕ) (answer : Option ℕ) (a : code.World)
 nothing_ends k w t answer a tied world none first =
     let due = due_is_none k a.table (ap (λ (x : World KeptTraffic). x.sessions) world)
     (subst (λ (o : Option ℕ). IsFirst (λ x. table.is_due k.head.moment x ≡ true) a.table o) none first) in
-    subst (λ (o : Option ℕ). Ends (sweeps o) 0 (Nothing false) a a) (sym due) (record { answer = refl; did = did_none a tied })
+    subst (λ (o : Option ℕ). Ends (sweeps k.world o) 0 (Nothing false) a a) (sym due) (record { answer = refl; did = did_none a tied })

@@ -6,6 +6,7 @@ use Rattle.std.specs.Vec.{with_item}
 use Rattle.session_table.specs.declared.life.Life.TheVariants.{Live}
 use Rattle.session_table.specs.Sessions.{SessionRecord}
 use Rattle.session_table.specs.Tables.{TableRecord, conn_of, line_of, session_of, with_session}
+use Rattle.contact_table.specs.Books.{empty_book}
 use Rattle.house_model.specs.declared.answer.Answer.{Answer}
 use Rattle.house_model.specs.Numbered.{put}
 use Rattle.house_model.specs.Sessions.{Hold, Held, Op, Session, session, step_if, session_step}
@@ -80,7 +81,7 @@ module _ (a : code.World) (s w : ℕ) (x y : SessionRecord) (op : Op) (at : sess
   one_session = sessions_put t (λ _. y) s x at ∙ ap (λ (o : Session KeptTraffic). put s o (sessions_of t)) (after ∙ sym stepped)
 
   held_world : world_of (with_session s t y) a.answers.items ≡ apply brief (seen a) (On s op)
-  held_world = λ i. record { opened = t.opened; lines = sym same_lines i; made = t.made; sessions = one_session i }
+  held_world = λ i. record { opened = t.opened; book = empty_book; lines = sym same_lines i; made = t.made; sessions = one_session i }
 
   pub held_did : (more : ℕ) → IsTied a.table → IsSession y
       → ((turns : ℕ) → IsFew turns a.table → (y.given_up + y.queue.given ≤ turns + more) × (y.acted ≤ turns + more))

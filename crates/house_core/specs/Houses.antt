@@ -8,6 +8,7 @@ use Rattle.session_table.specs.declared.line.Line.TheVariants.{Empty}
 use Rattle.session_table.specs.Sessions.{SessionRecord}
 use Rattle.session_table.specs.Tables.{TableRecord, conn_of, line_of, session_of}
 use Rattle.house_model.specs.declared.answer.Answer.{Answer}
+use Rattle.contact_table.specs.Books.{empty_book}
 use Rattle.house_model.specs.Sessions.{Hold, Held, Away, Ended, Rest, Session, session, gone}
 use Rattle.house_model.specs.Traffic.{KeptTraffic, nothing_kept}
 use Rattle.house_model.specs.States.{Line, World, Kept}
@@ -38,7 +39,12 @@ traffic_of x = record {
 }
 
 abbrev pub rest_of : SessionRecord → Rest
-rest_of x = record { address = x.address; resume_id = x.resume_id; deadline = x.deadline }
+rest_of x = record {
+  address = x.address;
+  resume_id = x.resume_id;
+  deadline = x.deadline;
+  manner = record { presence = x.presence; priority = x.priority; directed = x.directed; wants_roster = x.wants_roster; pushes = x.pushes };
+}
 
 -- the session of a number, as it is kept; one that is not there is gone, or not made yet
 abbrev pub session_by : List stage.Line → Option SessionRecord → Session KeptTraffic
@@ -52,9 +58,9 @@ abbrev pub lines_of : TableRecord → List (List Answer) → ℕ → Line
 lines_of t answers w = record { stage = line_of w t; answers = slice_index_or answers w [] }
 
 abbrev pub world_of : TableRecord → List (List Answer) → World KeptTraffic
-world_of t answers = record { opened = t.opened; lines = lines_of t answers; made = t.made; sessions = sessions_of t }
+world_of t answers = record { opened = t.opened; lines = lines_of t answers; made = t.made; sessions = sessions_of t; book = empty_book }
 
--- what the definitions see of a house
+-- what the definitions see of a house; nothing is kept of its users yet
 abbrev pub held : HouseRecord → Kept
 held h = record {
   head = record { domain = h.domain; users = h.users; workers = length h.table.lines; turns = h.turns; moment = h.moment };

@@ -3,6 +3,7 @@ pub mod Wholes
 pub mod Worlds
 pub mod Gates
 pub mod Listings
+pub mod Marks
 pub mod Readiness
 pub mod Pulls
 pub mod Logins

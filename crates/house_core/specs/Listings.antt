@@ -1,20 +1,41 @@
--- The sessions of a user that go on, as the table has them.
-use Rattle.std.specs.Prelude.{ℕ, pos, not, List, [], ◌∷◌, Bool, true, false, ◌&&◌, Some}
-use Rattle.jid_core.specs.Addresses.{same_part}
+-- The sessions of a user that go on, as the table has them, and what goes to one session.
+use Rattle.std.specs.Prelude.{ℕ, not, List, [], ◌∷◌, Bool, true, false, ◌&&◌, Some, is_some}
+use Rattle.std.specs.List.{list_any}
+use Rattle.jid_core.specs.Addresses.{Address, same_part}
+use Rattle.stanza_model.specs.declared.effect.Effect.{Effect}
 use Rattle.stanza_model.specs.declared.here.Here.{Here}
+use Rattle.stanza_model.specs.declared.stanza.Stanza.{Stanza}
+use Rattle.stanza_model.specs.declared.stanza.Stanza.TheVariants.{Message}
+use Rattle.stanza_router.specs.Messages.{copied_to}
 use Rattle.session_table.specs.Sessions.{SessionRecord, is_over}
+use Rattle.house_model.specs.Presences.{names}
 
 abbrev pub is_users : List ℕ → SessionRecord → Bool
 is_users user x = not (is_over x.state) && same_part x.address.local (Some user)
 
 -- a session of this number as the rules on stanzas see it
 abbrev pub here_from : ℕ → SessionRecord → Here
-here_from n x = record { session = n; address = x.address; available = false; priority = pos 0; wants_roster = false; pushes = 0 }
+here_from n x = record {
+  session = n;
+  address = x.address;
+  available = is_some x.presence;
+  priority = x.priority;
+  wants_roster = x.wants_roster;
+  pushes = x.pushes;
+}
+
+abbrev pub is_named : List Address → SessionRecord → Bool
+is_named addresses x = not (is_over x.state) && list_any (names (here_from 0 x)) addresses
 
 abbrev pub listed_by : Bool → ℕ × SessionRecord → List Here → List Here
 listed_by true e later = here_from e.0 e.1 ∷ later
 listed_by false e later = later
 
-abbrev pub listed : List ℕ → List (ℕ × SessionRecord) → List Here
-listed user [] = []
-listed user (e ∷ more) = listed_by (is_users user e.1) e (listed user more)
+abbrev pub listed : (SessionRecord → Bool) → List (ℕ × SessionRecord) → List Here
+listed pick [] = []
+listed pick (e ∷ more) = listed_by (pick e.1) e (listed pick more)
+
+-- a message that goes to one session
+abbrev pub message_copied : Here → Stanza → (session : ℕ) → List Effect
+message_copied who (Message to form e) session = copied_to who to e session ∷ []
+message_copied who st session = []

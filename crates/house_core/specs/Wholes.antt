@@ -1,5 +1,5 @@
 -- What is true of every house in memory.
-use Rattle.std.specs.Prelude.{◌≡◌, ℕ, ◌+◌, ◌<◌, ◌≤◌, List, true, length, Some, None, IsSome, IsSomeAnd}
+use Rattle.std.specs.Prelude.{◌≡◌, ℕ, ◌+◌, ◌<◌, ◌≤◌, List, true, length, Some, None, IfSome, IsSome, IsSomeAnd}
 use Rattle.std.specs.List.{list_all, AllByRecursion}
 use Rattle.stanza_tree.specs.declared.frame.Entry.{Entry}
 use Rattle.stanza_tree.specs.Entries.{frame}
@@ -11,6 +11,7 @@ use Rattle.session_table.specs.Sessions.{SessionRecord}
 use Rattle.session_table.specs.Tables.{TableRecord, line_of, session_of}
 use Rattle.house_model.specs.declared.answer.Answer.{Answer}
 use Rattle.house_model.specs.Answers.{answer_text}
+use Rattle.house_model.specs.Fitting.{IsShortAddress}
 use Rattle.house_model.specs.Steps.{last_moment}
 
 -- how many bytes a frame may have
@@ -25,8 +26,8 @@ pub record AreReady (answers : List Answer) (room : ℕ) : Type 0 where
 abbrev pub AreShort : List Entry → Type 0
 AreShort entries = AllByRecursion (λ e. length (frame e) ≤ most_of_frame) entries
 
--- what is true of each session that is there: the places of its traffic are in order, each frame fits a pull, and one that no line holds,
--- or that has an id, counts
+-- what is true of each session that is there: the places of its traffic are in order, each frame fits a pull, one that no line holds, or
+-- that has an id, counts, a presence that is kept has at most so many bytes, and so has its address
 pub record IsSession (x : SessionRecord) : Type 0 where
   pub given : x.queue.given ≤ length x.queue.waiting
   pub asked : x.asked_at ≤ x.given_up + x.queue.given
@@ -34,6 +35,8 @@ pub record IsSession (x : SessionRecord) : Type 0 where
   pub short : AreShort x.queue.waiting
   pub away : x.state ≡ Live → x.holder ≡ None → x.counts ≡ true
   pub known : IsSome x.resume_id → x.counts ≡ true
+  pub shown : IfSome x.presence (λ p. length p ≤ 16384)
+  pub address : IsShortAddress x.address
 
 -- session s is there, goes on, and line w holds it
 abbrev pub IsHeldBy : ℕ → ℕ → TableRecord → Type 0

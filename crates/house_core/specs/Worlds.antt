@@ -1,6 +1,8 @@
 -- The world in memory, and what effects make of it.
-use Rattle.std.specs.Prelude.{◌≡◌, ℕ, ◌+◌, ◌<◌, ◌≤◌, Bool, true, false, List, [], ◌∷◌, Option, Some, None, length, slice_index_or}
+use Rattle.std.specs.Prelude.{◌≡◌, ℕ, ◌+◌, ◌<◌, ◌≤◌, Bool, true, false, List, [], ◌∷◌, Option, Some, None, IsSomeAnd, length, slice_index_or}
+use Rattle.sm_resume.specs.declared.decision.Cause.{Cause}
 use Rattle.sm_resume.specs.declared.decision.Cause.TheVariants.{Lost}
+use Rattle.session_table.specs.declared.life.Life.TheVariants.{Over}
 use Rattle.sm_resume.specs.declared.id.ResumeId.{ResumeId}
 use Rattle.session_table.specs.Sessions.{SessionRecord, ended, left_until}
 use Rattle.house_model.specs.Gate.{Verdict, left_by, patience}
@@ -14,7 +16,7 @@ use Rattle.house_model.specs.States.{World}
 use Rattle.house_model.specs.Effects.{Effect, On, apply_all}
 use Rattle.house_core.specs.Houses.{world_of}
 use Rattle.house_core.specs.Wholes.{IsHeldBy, IsTied, IsFew, AreUsers}
-use Rattle.session_table.specs.Tables.{TableRecord, line_of, session_of}
+use Rattle.session_table.specs.Tables.{TableRecord, is_there, line_of, session_of}
 
 abbrev pub seen : code.World → World KeptTraffic
 seen x = world_of x.table x.answers.items
@@ -22,6 +24,10 @@ seen x = world_of x.table x.answers.items
 -- session s is held at some line
 abbrev pub IsHeld : ℕ → TableRecord → Type 0
 IsHeld s t = (w : ℕ) × IsHeldBy w s t
+
+-- session s is there, and over
+abbrev pub IsOver : ℕ → TableRecord → Type 0
+IsOver s t = IsSomeAnd (session_of s t) (λ x. (cause : Cause) × (x.state ≡ Over cause))
 
 -- where session s is there, it counts its stanzas, or does not
 abbrev pub Counts : Bool → ℕ → TableRecord → Type 0
@@ -71,6 +77,14 @@ given_next false x = record x { queue = without_sent (marked_sent x.queue); give
 abbrev pub KeepsLogged : (old new : code.World) → Type 0
 KeepsLogged old new = (w c u : ℕ) → line_of w old.table ≡ Logged c u
     → (line_of w new.table ≡ Logged c u) × (slice_index_or new.answers.items w [] ≡ slice_index_or old.answers.items w [])
+
+-- the same connections are logged in, each session that was there is there, one that was over is over, and there is as much room for
+-- another
+pub record Stays (old new : code.World) : Type 0 where
+  pub logged : KeepsLogged old new
+  pub there : (s : ℕ) → is_there s old.table ≡ true → is_there s new.table ≡ true
+  pub over : (s : ℕ) → IsOver s old.table → IsOver s new.table
+  pub spare : new.table.spare ≡ old.table.spare
 
 -- a session of whose stanzas the client that resumes handled n: the others are given again
 abbrev pub rewound_to : ℕ → SessionRecord → SessionRecord

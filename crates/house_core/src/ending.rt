@@ -1,12 +1,14 @@
 //! Sessions that are over or past their deadline are taken away.
-ghost use Rattle.std.specs.Prelude.{◌≡◌, ℕ, ◌+◌, ◌^◌, ◌<◌, ◌++◌, ◌∷◌, [], List, length, IfOk, OnErr, OnOk};
+ghost use Rattle.std.specs.Prelude.{◌≡◌, ℕ, ◌+◌, ◌-◌, ◌^◌, ◌<◌, ◌++◌, ◌∷◌, [], List, length, true, IfOk, OnErr, OnOk};
 ghost use Rattle.house_model.specs.declared.event.Event.{Event};
 ghost use Rattle.house_model.specs.Histories.{Turn, StandsFor, ended, kept_step, passed};
 ghost use Rattle.house_model.specs.States.{Kept, State};
-ghost use Rattle.house_model.specs.Steps.{verdict};
+ghost use Rattle.house_model.specs.Steps.{departs, verdict};
+ghost use Rattle.session_table.specs.Tables.{Rises, is_there};
+ghost use Rattle.sm_resume.specs.declared.decision.Cause.TheVariants.{Lost};
 ghost use Rattle.house_core.specs.Houses.{held};
-ghost use Rattle.house_core.specs.Wholes.{IsTied};
-ghost use Rattle.house_core.specs.Worlds.{Ends, seen};
+ghost use Rattle.house_core.specs.Wholes.{IsFew, IsTied};
+ghost use Rattle.house_core.specs.Worlds.{Did, Ends, seen};
 
 use crate::house::House;
 use crate::world::World;
@@ -15,34 +17,56 @@ use sm_resume::Cause;
 use stanza_tree::NoMemory;
 
 impl World {
-    // The session of least number that is over or past its deadline departs.
-    fn sweep(&mut self, moment: u64) -> Reply
+    // The session of least number that is over or past its deadline departs. All memory is taken first.
+    fn sweep(&mut self, moment: u64) -> Result<Reply, NoMemory>
         requires answered { length self.old.answers.items ≡ length self.old.table.lines }
         requires tied { IsTied self.old.table }
-        ensures { (k : Kept) (w t : ℕ) → k.world ≡ seen self.old → k.head.moment ≡ moment → Ends (verdict k (Event.Sweep w t)) 0 result self.old self.new }
+        requires small { IsFew (2 ^ 64 - 5001) self.old.table }
+        ensures done { (k : Kept) (w t : ℕ) → k.world ≡ seen self.old → k.head.moment ≡ moment
+            → IfOk result (λ r. Ends (verdict k (Event.Sweep w t)) 0 r self.old self.new) }
+        ensures refused { OnErr result (Did [] 0 self.old self.new) }
     {
         let Some(s) = self.table.due(moment) else {
-            return Reply::Nothing { due: false };
+            return Ok(Reply::Nothing { due: false });
         };
+        self.sweep_away(s)?;
+        Ok(Reply::Swept(s))
+    }
+
+    // The session departs.
+    fn sweep_away(&mut self, s: u64) -> Result<(), NoMemory>
+        requires answered { length self.old.answers.items ≡ length self.old.table.lines }
+        requires tied { IsTied self.old.table }
+        requires small { IsFew (2 ^ 64 - 5001) self.old.table }
+        requires there { is_there s self.old.table ≡ true }
+        ensures rises { Rises 0 self.old.table.sessions self.old.table.made }
+        ensures did { OnOk result (Did (departs (seen self.old) s Lost) 0 self.old self.new) }
+        ensures refused { OnErr result (Did [] 0 self.old self.new) }
+    {
         let _ = self.table.session(s);
-        self.depart(s, Cause::Lost);
-        Reply::Swept(s)
+        let told = self.departure(*self.answers.allocator(), s)?;
+        self.prepare(told.as_slice())?;
+        self.depart(s, Cause::Lost, told);
+        Ok(())
     }
 }
 
 impl House {
-    fn apply_sweep(&mut self, _w: u32, t: u64) -> Reply
+    fn apply_sweep(&mut self, _w: u32, t: u64) -> Result<Reply, NoMemory>
         requires line { _w < length self.old.table.lines }
         requires turns { self.old.turns < 2 ^ 63 + 2 ^ 62 }
-        ensures state { held self.new ≡ (kept_step (held self.old) (Event.Sweep _w t)).state }
-        ensures reply { result ≡ (kept_step (held self.old) (Event.Sweep _w t)).reply }
+        ensures state { OnOk result (held self.new ≡ (kept_step (held self.old) (Event.Sweep _w t)).state) }
+        ensures reply { IfOk result (λ r. r ≡ (kept_step (held self.old) (Event.Sweep _w t)).reply) }
+        ensures refused { OnErr result (held self.new ≡ passed (held self.old)) }
     {
         self.turns += 1;
-        self.moment = self.later(t);
-        self.world.sweep(self.moment)
+        let moment = self.later(t);
+        let reply = self.world.sweep(moment)?;
+        self.moment = moment;
+        Ok(reply)
     }
 
-    /// The session of least number that is over or past its deadline departs. It needs no connection.
+    /// The session of least number that is over or past its deadline departs, and others are told. It needs no connection.
     pub fn sweep(&mut self, w: u32, t: u64) -> Result<Reply, NoMemory>
         requires line { w < length self.old.table.lines }
         requires turns { self.old.turns < 2 ^ 63 + 2 ^ 62 }
@@ -51,6 +75,6 @@ impl House {
         ensures refused { OnErr result (held self.new ≡ passed (held self.old)) }
         ensures history { (o : State) (h : List Turn) → StandsFor o h (held self.old) → StandsFor o (h ++ ended (Event.Sweep w t) result ∷ []) (held self.new) }
     {
-        Ok(self.apply_sweep(w, t))
+        self.apply_sweep(w, t)
     }
 }

@@ -1,17 +1,18 @@
 //! Messages (RFC 6121, 8.5).
-ghost use Rattle.std.specs.Prelude.{◌≡◌, IfOk, IfSome, true};
-ghost use Rattle.session_table.specs.Tables.{is_there};
+ghost use Rattle.std.specs.Prelude.{◌≡◌, IfOk};
 ghost use Rattle.std.specs.Option.{option_copied};
 ghost use Rattle.house_model.specs.Routing.{chosen, delivered, has_account, is_invitation, message, receivers, to_no_room, to_users, user_in};
+ghost use Rattle.house_core.specs.Listings.{message_copied};
 ghost use Rattle.house_core.specs.Wholes.{IsTied};
 ghost use Rattle.house_core.specs.Worlds.{seen};
 
 use crate::lines::place_among;
+use crate::requests::one;
 use crate::world::World;
 use house_model::{MessageForm, Stanza};
 use jid_core::Part;
 use stanza_model::{Condition, Effect, Here, refuse};
-use stanza_router::{Place, deliver, keep_receivers};
+use stanza_router::{Place, copy_to, deliver, keep_receivers};
 use stanza_tree::{Element, NoMemory};
 use std::alloc::Global;
 
@@ -42,8 +43,20 @@ fn to_no_room(form: MessageForm, message: &Element) -> Condition
     }
 }
 
+/// A copy of a message for a session.
+fn copy_message(alloc: Global, who: &Here, stanza: &Stanza, s: u64) -> Result<Vec<Effect>, NoMemory>
+    ensures { IfOk result (λ effects. effects.items ≡ message_copied who.now stanza.now s) }
+{
+    match stanza {
+        Stanza::Message { to, element, .. } => {
+            one(alloc, copy_to(alloc, who, to.as_ref(), element, s)?)
+        }
+        _ => Ok(Vec::new(alloc)),
+    }
+}
+
 /// The user whose a place is, where `own` is the sender.
-fn user_in<'a>(own: &'a Part, place: &'a Place) -> Option<&'a Part>
+pub(crate) fn user_in<'a>(own: &'a Part, place: &'a Place) -> Option<&'a Part>
     ensures { option_copied result ≡ user_in own.now place.now }
 {
     match place {
@@ -53,8 +66,8 @@ fn user_in<'a>(own: &'a Part, place: &'a Place) -> Option<&'a Part>
     }
 }
 
-/// Whether a place's user has an account, as one has whose session a message finds.
-fn has_account(users: &[Part], user: Option<&Part>, found: &[Here]) -> bool
+/// Whether a place's user has an account, as one has whose session a stanza finds.
+pub(crate) fn has_account(users: &[Part], user: Option<&Part>, found: &[Here]) -> bool
     ensures { result ≡ has_account users.now (option_copied user.entry) found.now }
 {
     if !found.is_empty() {
@@ -86,26 +99,7 @@ impl World {
         Ok(sessions)
     }
 
-    /// Whom a message finds: the session at its address, which goes on, or those chosen among the user's.
-    fn receivers(
-        &self,
-        alloc: Global,
-        form: MessageForm,
-        place: &Place,
-        user: Option<&Part>,
-        live: Option<u64>,
-    ) -> Result<Vec<Here>, NoMemory>
-        requires tied { IsTied self.now.table }
-        requires there { IfSome live (λ s. is_there s self.now.table ≡ true) }
-        ensures { IfOk result (λ found. found.items ≡ receivers (seen self.now) form place.now (option_copied user.entry) live) }
-    {
-        match live {
-            Some(s) => self.found(alloc, s),
-            None => self.chosen(alloc, form, place, user),
-        }
-    }
-
-    /// What comes of a message for users.
+    /// What comes of a message for users: a copy for the session at its address, or what RFC 6121 says of the user's sessions.
     fn to_users(
         &self,
         alloc: Global,
@@ -120,8 +114,10 @@ impl World {
         ensures { IfOk result (λ effects. effects.items
             ≡ to_users users.now (seen self.now) who.now stanza.now form place.now (option_copied user.entry)) }
     {
-        let live = self.live_for(place, stanza.to());
-        let found = self.receivers(alloc, form, place, user, live)?;
+        if let Some(s) = self.live_for(place, stanza.to()) {
+            return copy_message(alloc, who, stanza, s);
+        }
+        let found = self.chosen(alloc, form, place, user)?;
         let known = has_account(users, user, found.as_slice());
         deliver(alloc, who, stanza, place, known, found.as_slice())
     }

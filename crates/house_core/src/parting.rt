@@ -5,18 +5,23 @@ ghost use Rattle.sm_queue.specs.Queues.{acknowledged, has_room, pushed, spare};
 ghost use Rattle.session_table.specs.Sessions.{SessionRecord};
 ghost use Rattle.session_table.specs.Tables.{IsLive, changed, conn_of, is_logged, is_there, line_of, session_of};
 ghost use Rattle.house_model.specs.Effects.{Begin, On};
-ghost use Rattle.house_model.specs.Sessions.{End, Push, Resume};
+ghost use Rattle.house_model.specs.Fitting.{AreSmall};
+ghost use Rattle.house_model.specs.Routing.{departure};
+ghost use Rattle.house_model.specs.Sessions.{End, Part, Push, Resume};
 ghost use Rattle.house_model.specs.Steps.{departs};
 ghost use Rattle.house_model.specs.Traffic.{kept_inward};
+ghost use Rattle.house_core.specs.Readiness.{AreOfSessions, AreReady};
 ghost use Rattle.house_core.specs.Wholes.{HasSpare, IsFew, IsTied};
-ghost use Rattle.house_core.specs.Worlds.{Counts, Did, Handles, KeepsLogged, rewound_to, seen};
+ghost use Rattle.house_core.specs.Worlds.{Counts, Did, Handles, IsOver, KeepsLogged, Stays, rewound_to, seen};
 
 use crate::counting::inward;
+use crate::make::know_short;
 use crate::world::World;
 use jid_core::Jid;
 use session_table::{Life, Session};
 use sm_counters::Count;
 use sm_resume::Cause;
+use stanza_model::Effect;
 use stanza_tree::Entry;
 
 // The client handled the first n stanzas that were given; the others are given again.
@@ -51,7 +56,7 @@ impl World {
         requires tied { IsTied self.old.table }
         requires there { is_there s self.old.table ≡ true }
         ensures did { Did (On s (End cause) ∷ []) 0 self.old self.new }
-        ensures room { self.new.table.spare ≡ self.old.table.spare }
+        ensures stays { Stays self.old self.new }
         ensures queues { (n r : ℕ) → HasSpare n r self.old.table → HasSpare n r self.new.table }
     {
         let Some(session) = self.table.session(s) else {
@@ -66,16 +71,33 @@ impl World {
         }
     }
 
-    /// The session ends and is there no more.
-    pub(crate) fn depart(&mut self, s: u64, cause: Cause)
+    /// The session ends, others are told, and it is there no more.
+    pub(crate) fn depart(&mut self, s: u64, cause: Cause, told: Vec<Effect>)
         requires answered { length self.old.answers.items ≡ length self.old.table.lines }
         requires tied { IsTied self.old.table }
+        requires small { IsFew (2 ^ 64 - 5001) self.old.table }
         requires there { is_there s self.old.table ≡ true }
-        ensures did { Did (departs s cause) 0 self.old self.new }
+        requires told { told.items ≡ departure (seen self.old) s }
+        requires ready { AreReady told.items self.old.table }
+        requires short { AreSmall told.items }
+        requires sessions { AreOfSessions told.items }
+        ensures did { Did (departs (seen self.old) s cause) 0 self.old self.new }
         ensures others { KeepsLogged self.old self.new }
         ensures room { self.old.table.spare ≤ self.new.table.spare }
     {
         self.end(s, cause);
+        self.apply_all(told);
+        self.remove(s);
+    }
+
+    // The session, which is over, is there no more.
+    fn remove(&mut self, s: u64)
+        requires tied { IsTied self.old.table }
+        requires over { IsOver s self.old.table }
+        ensures did { Did (On s Part ∷ []) 0 self.old self.new }
+        ensures others { KeepsLogged self.old self.new }
+        ensures room { self.old.table.spare ≤ self.new.table.spare }
+    {
         let _ = self.table.session(s);
         self.table.remove(s);
     }
@@ -88,6 +110,7 @@ impl World {
         requires room { (x : SessionRecord) → session_of s self.old.table ≡ Some x → 0 < spare x.queue }
         requires short { length (frame entry) ≤ 524288 }
         ensures did { Did (On s (Push entry) ∷ []) 0 self.old self.new }
+        ensures stays { Stays self.old self.new }
         ensures queues { (n r : ℕ) → HasSpare n r self.old.table
             → HasSpare (n - (if r == s then 1 else 0)) r self.new.table }
     {
@@ -115,6 +138,7 @@ impl World {
             → has_room x.queue.waiting entry ≡ true }
         requires short { length (frame entry) ≤ 524288 }
         ensures did { Did (On s (Push entry) ∷ []) 0 self.old self.new }
+        ensures stays { Stays self.old self.new }
         ensures queues { (n r : ℕ) → HasSpare n r self.old.table
             → HasSpare (n - (if r == s then 1 else 0)) r self.new.table }
     {
@@ -175,6 +199,7 @@ impl World {
         ensures answers { self.new.answers ≡ self.old.answers }
     {
         let _ = self.table.session(0);
+        know_short(&address);
         self.table.bind(w, address);
     }
 }

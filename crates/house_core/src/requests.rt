@@ -1,10 +1,9 @@
 //! Requests and their answers (RFC 6120, 8.2.3): what the server, the service of rooms and its rooms answer, and what goes to a session.
-ghost use Rattle.std.specs.Prelude.{◌≡◌, [], ◌∷◌, IfOk, IfSome, true};
+ghost use Rattle.std.specs.Prelude.{◌≡◌, [], ◌∷◌, IfOk, true};
 ghost use Rattle.std.specs.Option.{option_copied};
 ghost use Rattle.stanza_model.specs.Replies.{may_be_answered};
 ghost use Rattle.house_model.specs.Requests.{asks_a_room, begins_session, binds_resource, discovers, gets, has_child, pings, queries, sets};
 ghost use Rattle.house_model.specs.Routing.{discovered, done, iq, to_room, to_server, to_service, to_session};
-ghost use Rattle.session_table.specs.Tables.{is_there};
 ghost use Rattle.house_core.specs.Wholes.{IsTied};
 ghost use Rattle.house_core.specs.Worlds.{seen};
 
@@ -12,7 +11,7 @@ use crate::world::World;
 use house_model::Stanza;
 use jid_core::Jid;
 use stanza_model::{Condition, Effect, Here, IqForm, refuse, result_of, say_to};
-use stanza_router::{Place, copies, discover};
+use stanza_router::{Place, copy_to, discover};
 use stanza_tree::{Element, NoMemory};
 use std::alloc::Global;
 
@@ -89,10 +88,10 @@ fn asks_a_room(stanza: &Stanza) -> bool
 }
 
 /// What is said to a session.
-fn one(alloc: Global, effect: Effect) -> Result<Vec<Effect>, NoMemory>
+pub(crate) fn one(alloc: Global, effect: Effect) -> Result<Vec<Effect>, NoMemory>
     ensures { IfOk result (λ effects. effects.items ≡ effect ∷ []) }
 {
-    let mut effects = Vec::new(alloc);
+    let mut effects = Vec::with_capacity(alloc, 1)?;
     effects.push(effect)?;
     Ok(effects)
 }
@@ -188,15 +187,11 @@ impl World {
         element: &Element,
         live: Option<u64>,
     ) -> Result<Vec<Effect>, NoMemory>
-        requires there { IfSome live (λ s. is_there s self.now.table ≡ true) }
         ensures { IfOk result (λ effects. effects.items
             ≡ to_session (seen self.now) who.now stanza.now (option_copied to.entry) element.now live) }
     {
         match live {
-            Some(s) => {
-                let receiver = self.found(alloc, s)?;
-                copies(alloc, who, to, element, receiver.as_slice())
-            }
+            Some(s) => one(alloc, copy_to(alloc, who, to, element, s)?),
             None => refuse(alloc, who, stanza, Condition::ServiceUnavailable),
         }
     }

@@ -1,129 +1,30 @@
 //! What comes of a stanza, by its kind and the place that it is for.
-ghost use Rattle.std.specs.Prelude.{◌≡◌, ◌≤◌, [], ◌∷◌, length, IfOk, IfSome, Option, Some, map, true};
+ghost use Rattle.std.specs.Prelude.{◌≡◌, true, IfOk};
 ghost use Rattle.std.specs.Option.{option_copied};
-ghost use Rattle.jid_core.specs.Addresses.{address_text};
 ghost use Rattle.house_model.specs.Fitting.{AreSmall};
 ghost use Rattle.house_model.specs.Histories.{StanzaFits};
-ghost use Rattle.house_model.specs.Lookups.{goes_on, live_at, numbers_of};
-ghost use Rattle.house_model.specs.Routing.{effects_at, effects_in, here, live_for};
+ghost use Rattle.house_model.specs.Routing.{departure, departure_by, effects_at, effects_in};
 ghost use Rattle.session_table.specs.Tables.{is_there};
-ghost use Rattle.house_core.specs.Listings.{here_from, is_users};
+ghost use Rattle.house_core.specs.Readiness.{AreOfSessions};
 ghost use Rattle.house_core.specs.Wholes.{IsTied};
 ghost use Rattle.house_core.specs.Worlds.{IsHeld, seen};
 
-use crate::make::{know_short, know_to};
+use crate::make::know_to;
 use crate::world::World;
 use house_model::Stanza;
-use jid_core::{Jid, Part};
-use session_table::{Life, Session};
+use jid_core::Part;
+use presence_core::unavailable;
 use stanza_model::{Effect, Here, refuse};
 use stanza_router::{Place, place};
 use stanza_tree::NoMemory;
 use std::alloc::Global;
 
-/// A session as the rules on stanzas see it. Presence is not built yet: nobody is available, and nobody asks for a roster.
-fn here_of(alloc: Global, number: u64, session: &Session) -> Result<Here, NoMemory>
-    ensures { IfOk result (λ h. h ≡ here_from number session.now) }
-{
-    Ok(Here {
-        session: number,
-        address: session.address().copy(alloc)?,
-        available: false,
-        priority: 0,
-        wants_roster: false,
-        pushes: 0,
-    })
-}
-
-/// Whether a session goes on and is the user's.
-fn is_users(user: &Part, session: &Session) -> bool
-    ensures { result ≡ is_users user.now session.now }
-{
-    match &session.address().local {
-        Some(local) => session.state() == Life::Live && local.bytes() == user.bytes(),
-        None => false,
-    }
-}
-
 impl World {
-    /// Whether a session that is there goes on.
-    fn is_live(&self, s: u64) -> bool
-        requires there { is_there s self.now.table ≡ true }
-        ensures { result ≡ goes_on ((seen self.now).sessions s).hold }
-    {
-        match self.table.session(s) {
-            Some(session) => session.state() == Life::Live,
-            None => false,
-        }
-    }
-
-    /// The session at an address, where it goes on.
-    fn live_at(&self, address: &Jid) -> Option<u64>
-        requires tied { IsTied self.now.table }
-        ensures live { result ≡ live_at (seen self.now) address.now }
-        ensures there { IfSome result (λ s. is_there s self.now.table ≡ true) }
-    {
-        let _ = self.table.session(0);
-        match self.table.at(address) {
-            Some(s) if self.is_live(s) => Some(s),
-            _ => None,
-        }
-    }
-
-    /// The session that goes on at the address of a session.
-    pub(crate) fn live_for(&self, place: &Place, to: Option<&Jid>) -> Option<u64>
-        requires tied { IsTied self.now.table }
-        ensures live { result ≡ live_for (seen self.now) place.now (option_copied to.entry) }
-        ensures there { IfSome result (λ s. is_there s self.now.table ≡ true) }
-    {
-        match (place, to) {
-            (Place::UserAt(_, _), Some(to)) => self.live_at(to),
-            _ => None,
-        }
-    }
-
-    /// A session that is there, as the rules on stanzas see it.
-    pub(crate) fn here(&self, alloc: Global, s: u64) -> Result<Option<Here>, NoMemory>
-        requires { is_there s self.now.table ≡ true }
-        ensures { IfOk result (λ h. h ≡ Some (here (seen self.now) s)) }
-    {
-        match self.table.session(s) {
-            Some(session) => Ok(Some(here_of(alloc, s, session)?)),
-            None => Ok(None),
-        }
-    }
-
-    /// A session that is there, alone.
-    pub(crate) fn found(&self, alloc: Global, s: u64) -> Result<Vec<Here>, NoMemory>
-        requires { is_there s self.now.table ≡ true }
-        ensures { IfOk result (λ found. found.items ≡ here (seen self.now) s ∷ []) }
-    {
-        let mut found = Vec::new(alloc);
-        if let Some(h) = self.here(alloc, s)? {
-            found.push(h)?;
-        }
-        Ok(found)
-    }
-
-    /// The sessions of a user that go on.
-    pub(crate) fn sessions_of(&self, alloc: Global, user: &Part) -> Result<Vec<Here>, NoMemory>
-        requires { IsTied self.now.table }
-        ensures { IfOk result (λ found. found.items ≡ map (here (seen self.now)) (numbers_of (seen self.now) user.now)) }
-    {
-        let _ = self.table.session(0);
-        let mut found = Vec::new(alloc);
-        for (number, session) in self.table.sessions() {
-            if is_users(user, session) {
-                found.push(here_of(alloc, *number, session)?)?;
-            }
-        }
-        Ok(found)
-    }
-
     /// What comes of a stanza of `who`, whose local part is `own`, at a place.
     fn effects_at(
         &self,
         alloc: Global,
+        domain: &Part,
         users: &[Part],
         own: &Part,
         who: &Here,
@@ -131,13 +32,27 @@ impl World {
         place: &Place,
     ) -> Result<Vec<Effect>, NoMemory>
         requires tied { IsTied self.now.table }
-        ensures { IfOk result (λ effects. effects.items ≡ effects_at users.now (seen self.now) own.now who.now stanza.now place.now) }
+        ensures { IfOk result (λ effects. effects.items
+            ≡ effects_at (record { domain = domain.now; users = users.now; world = seen self.now }) own.now who.now stanza.now place.now) }
     {
         match stanza {
             Stanza::Message { form, element, .. } => {
                 self.message(alloc, users, own, who, stanza, *form, element, place)
             }
-            Stanza::Presence { .. } => Ok(Vec::new(alloc)),
+            Stanza::Presence { to, form, element } => {
+                self.presence(
+                    alloc,
+                    domain,
+                    users,
+                    own,
+                    who,
+                    stanza,
+                    to.as_ref(),
+                    *form,
+                    element,
+                    place,
+                )
+            }
             Stanza::Iq { to, element, .. } => {
                 self.iq(alloc, who, stanza, to.as_ref(), element, place)
             }
@@ -164,17 +79,7 @@ impl World {
             return Ok(Vec::new(alloc));
         };
         let place = place(alloc, stanza.to(), own, domain)?;
-        self.effects_at(alloc, users, own, &who, stanza, &place)
-    }
-
-    // The address of a session is short.
-    fn know_address(&self, s: u64)
-        requires { IsHeld s self.now.table }
-        ensures { length (address_text ((seen self.now).sessions s).rest.address) ≤ 3071 }
-    {
-        if let Some(session) = self.table.session(s) {
-            know_short(session.address());
-        }
+        self.effects_at(alloc, domain, users, own, &who, stanza, &place)
     }
 
     /// The effects of a stanza of a session. What they queue is short.
@@ -191,10 +96,51 @@ impl World {
         requires fits { StanzaFits stanza.now }
         ensures effects { IfOk result (λ effects. effects.items ≡ effects_in (record { domain = domain.now; users = users.now; world = seen self.now }) s stanza.now) }
         ensures short { IfOk result (λ effects. AreSmall effects.items) }
+        ensures sessions { IfOk result (λ effects. AreOfSessions effects.items) }
     {
-        self.know_address(s);
         know_to(stanza);
         let effects = self.effects_in(alloc, domain, users, s, stanza)?;
+        Ok(effects)
+    }
+
+    /// What others are told of a session that departs.
+    fn departure_of(
+        &self,
+        alloc: Global,
+        own: Option<&Part>,
+        who: &Here,
+    ) -> Result<Vec<Effect>, NoMemory>
+        requires tied { IsTied self.now.table }
+        ensures { IfOk result (λ effects. effects.items ≡ departure_by (option_copied own.entry) (seen self.now) who.now) }
+    {
+        let Some(own) = own else {
+            return Ok(Vec::new(alloc));
+        };
+        let watchers = self.watchers(alloc, own, who)?;
+        let named = self.named(alloc, self.directed_by(who))?;
+        unavailable(alloc, who, None, watchers.as_slice(), named.as_slice())
+    }
+
+    fn departure_in(&self, alloc: Global, s: u64) -> Result<Vec<Effect>, NoMemory>
+        requires tied { IsTied self.now.table }
+        requires there { is_there s self.now.table ≡ true }
+        ensures { IfOk result (λ effects. effects.items ≡ departure (seen self.now) s) }
+    {
+        match self.here(alloc, s)? {
+            Some(who) => self.departure_of(alloc, who.address.local.as_ref(), &who),
+            None => Ok(Vec::new(alloc)),
+        }
+    }
+
+    /// What others are told of a session that departs. It is short.
+    pub(crate) fn departure(&self, alloc: Global, s: u64) -> Result<Vec<Effect>, NoMemory>
+        requires tied { IsTied self.now.table }
+        requires there { is_there s self.now.table ≡ true }
+        ensures effects { IfOk result (λ effects. effects.items ≡ departure (seen self.now) s) }
+        ensures short { IfOk result (λ effects. AreSmall effects.items) }
+        ensures sessions { IfOk result (λ effects. AreOfSessions effects.items) }
+    {
+        let effects = self.departure_in(alloc, s)?;
         Ok(effects)
     }
 }

@@ -22,7 +22,7 @@ use Rattle.house_model.specs.States.{State, Kept, keep}
 use Rattle.house_model.specs.Effects.{On, apply}
 use Rattle.house_model.specs.Gate.{Verdict, to_act, gate_at}
 use Rattle.house_model.specs.Routing.{effects}
-use Rattle.house_model.specs.Steps.{queued, acks, body, verdict, turn}
+use Rattle.house_model.specs.Steps.{effect_of, acks, body, verdict, turn}
 use Rattle.house_model.specs.Histories.{Outcome, Made, Short, Turn, IsOutcome, after, Legal, IsOpening}
 use Rattle.house_model.specs.Bridge.{hold_of, core_of, effects_ops, short_at, turn_ops, alone_of}
 use Rattle.house_model.specs.Lines.{shorts}
@@ -160,11 +160,11 @@ module _ (a : Account Stanza) (o : State) (g : List Turn) (s : ℕ) (starts : Is
   stage_act w y t said v kept (Bound c i) is fits =
       lead_both a x said v v (if eqb s i then one.Act y ∷ [] else [])
       (effects_ops s (apply whole st.world (On i (Act y)))
-      (map queued (effects kept i y)))
+      (map effect_of (effects kept i y)))
       (heard_lead ((v ≡ said) × house.IsWhole a o g s c) (eqb s i) w c i said v (one.Act y) refl is fits
       (λ k counted held. whole_is c said v k counted held) (λ e. e))
       (effects_muted a (run x (if eqb s i then one.Act y ∷ [] else [])) v s (apply whole st.world (On i (Act y)))
-      (map queued (effects kept i y))
+      (map effect_of (effects kept i y))
       (queued_plain client_ear (effects kept i y)))
 
   stage_short : (w : ℕ) (y : Stanza) (said v : ℕ) (l : stage.Line) → (st.world.lines w).stage ≡ l

@@ -5,10 +5,10 @@ use Rattle.sm_resume.specs.declared.decision.Cause.TheVariants.{Moved}
 use Rattle.session_table.specs.declared.line.Line as stage
 use Rattle.session_table.specs.declared.line.Line.TheVariants.{Bound}
 use Rattle.house_model.specs.Numbered.{put}
-use Rattle.house_model.specs.Sessions.{Hold, Held, Away, Ended, Gone, Rest, Session, Op, Push, Pull, Request, Enable, Ack, Tell, Act, Drop, Resume, End, Part, pushed, acked, resumed, begun, step_if, session_step}
+use Rattle.house_model.specs.Sessions.{Hold, Held, Away, Ended, Gone, Rest, Session, Op, Push, Pull, Request, Enable, Ack, Tell, Act, Drop, Resume, End, Part, Marks, pushed, acked, resumed, begun, step_if, session_step}
 use Rattle.house_model.specs.Traffic.{Traffic, whole}
 use Rattle.house_model.specs.States.{Line, World, empty_line}
-use Rattle.house_model.specs.Effects.{Effect, Open, At, Begin, On, Log, Say, Said, Leave, Close, logged, over_line, bound_line, moved_if, settled, touch, apply, apply_all}
+use Rattle.house_model.specs.Effects.{Effect, Open, At, Begin, On, Note, Log, Say, Said, Leave, Close, logged, over_line, bound_line, moved_if, settled, touch, apply, apply_all}
 use Rattle.house_model.specs.Sound.{IsFree, FitsIn, Fits, Back}
 use Rattle.house_model.proofs.PutLemmas.{put_is, put_here}
 use Rattle.house_model.proofs.SoundLemmas.{both_same}
@@ -170,6 +170,7 @@ old_or_free (Act x) s world fits m v d (inr p) = absurd p
 old_or_free (Drop t) s world fits m v d (inr p) = absurd p
 old_or_free (End cause) s world fits m v d (inr p) = absurd p
 old_or_free Part s world fits m v d (inr p) = absurd p
+old_or_free (Marks mark) s world fits m v d (inr p) = absurd p
 
 touch_back : (j : ℕ) (op : Op) (world : World Traffic) → FitsIn world (On j op) → Back world
     → Back (touch whole j op world)
@@ -212,6 +213,7 @@ apply_back world (Begin v d a) fits back s w c is =
       | inr p ↦ put_back v (bound_line d (world.made + 1) (world.lines v)) world.lines w c s fits
           (back s w c (ap (λ (x : Session Traffic). x.hold) (sym p.1) ∙ is))
     ]
+apply_back world (Note change) fits back s w c is = back s w c is
 apply_back world (On j op) fits back s w c is = touch_back j op world fits back s w c is
 
 pub all_back : (world : World Traffic) (es : List Effect) → Fits world es → Back world → Back (apply_all whole world es)

@@ -6,10 +6,10 @@ use Rattle.sm_account.specs.Sessions as one
 use Rattle.sm_account.specs.Sessions.{Core, core_run}
 use Rattle.sm_account.specs.Logs.{log_of}
 use Rattle.sm_account.proofs.Logs.{log_append}
-use Rattle.house_model.specs.Sessions.{Op, Push, Pull, Request, Enable, Ack, Tell, Act, Drop, Resume, End, Part}
+use Rattle.house_model.specs.Sessions.{Op, Push, Pull, Request, Enable, Ack, Tell, Act, Drop, Resume, End, Part, Marks}
 use Rattle.house_model.specs.Traffic.{Traffic, whole}
 use Rattle.house_model.specs.States.{World}
-use Rattle.house_model.specs.Effects.{Effect, Open, At, Begin, On, apply}
+use Rattle.house_model.specs.Effects.{Effect, Open, At, Begin, On, Note, apply}
 use Rattle.house_model.specs.Bridge.{op_ops, effect_ops, effects_ops}
 
 -- what is heard
@@ -77,6 +77,7 @@ op_quiet r f (Drop t) s q is = one_quiet r f s one.Drop q refl
 op_quiet r f (Resume w c h) s q is = one_quiet r f s (one.Resume c h) q (unheard r.resume is)
 op_quiet r f (End cause) s q is = one_quiet r f s one.End q refl
 op_quiet r f Part s q is = refl
+op_quiet r f (Marks mark) s q is = refl
 
 pub quiet_if : {A : Type 0} (f : Core Stanza → one.Op Stanza → List A) (b : Bool) (ops : List (one.Op Stanza))
     (s : Core Stanza) → log_of f s ops ≡ [] → log_of f s (if b then ops else []) ≡ []
@@ -87,6 +88,7 @@ effect_quiet : {A : Type 0} (r : Ear) (f : Core Stanza → one.Op Stanza → Lis
     (e : Effect) (s : Core Stanza) → IsQuiet r f → IsPlain r e → log_of f s (effect_ops k world e) ≡ []
 effect_quiet r f k world (Open w) s q is = refl
 effect_quiet r f k world (At w op) s q is = refl
+effect_quiet r f k world (Note change) s q is = refl
 effect_quiet r f k world (Begin w c a) s q is =
     quiet_if f (eqb k (world.made + 1)) (one.Begin c ∷ []) s (one_quiet r f s (one.Begin c) q (unheard r.begin is))
 effect_quiet r f k world (On j op) s q is = quiet_if f (eqb k j) (op_ops op) s (op_quiet r f op s q is)

@@ -3,8 +3,6 @@ use Rattle.std.proofs.Common.{◌≡◌, ℕ, List, [], ◌∷◌, Option, Some,
 use Rattle.std.specs.Prelude.{map, nat_lt, slice_get, ◌&&◌}
 use Rattle.jid_core.specs.Addresses.{Address}
 use Rattle.stanza_tree.specs.declared.frame.Entry.{Entry}
-use Rattle.stanza_model.specs.declared.effect.Effect as stanza
-use Rattle.stanza_model.specs.declared.effect.Effect.TheVariants.{Queue}
 use Rattle.stanza_model.specs.declared.stanza.Stanza.{Stanza}
 use Rattle.sm_resume.specs.declared.decision.Cause.TheVariants.{Flood, Lost}
 use Rattle.sm_resume.specs.declared.id.ResumeId.{ResumeId}
@@ -14,16 +12,16 @@ use Rattle.house_model.specs.declared.event.Event.{Event}
 use Rattle.house_model.specs.declared.event.Event.TheVariants as event
 use Rattle.house_model.specs.Sessions.{Hold, Held, Away, Ended, Gone, Session, Act}
 use Rattle.house_model.specs.Traffic.{Traffic, KeptTraffic, whole, brief, kept_sent}
-use Rattle.house_model.specs.States.{World, State, Kept, keep, opening}
+use Rattle.house_model.specs.States.{World, State, Kept, keep, opening, keep_world}
 use Rattle.house_model.specs.Effects.{Open, At, Begin, On, Say, Leave, Close, apply}
 use Rattle.house_model.specs.Gate.{Waits, Knows, Holds, Needs, to_login, to_bind, to_manage, to_act, to_ask, to_pull, most_answers, left, closed, gate_at}
 use Rattle.house_model.specs.Lookups.{session_at}
 use Rattle.house_model.specs.Routing.{effects}
-use Rattle.house_model.specs.Steps.{logs_in, replaces, binds, enables, takes, resumes_by, is_known, resumes, queued, acts, acks, asks, requests, gives_entry, pulls, sweeps, departs, due, body, verdict, turn}
+use Rattle.house_model.specs.Steps.{logs_in, replaces, binds, enables, takes, resumes_by, is_known, resumes, effect_of, acts, acks, asks, requests, gives_entry, pulls, sweeps, departs, due, body, verdict, turn}
 use Rattle.house_model.specs.Histories.{Outcome, Made, Short, Turn, next_by, next, after, IsOpening}
 use Rattle.house_model.specs.Sound.{Fits, Back}
 use Rattle.house_model.proofs.GateLemmas.{gate_leads}
-use Rattle.house_model.proofs.FitLemmas.{IsMatched, AllOn, all_on_fit, free_all, fits_append, departs_on, replaces_on, left_fits, closed_fits, leaves_fits, logged_free}
+use Rattle.house_model.proofs.FitLemmas.{IsMatched, all_on_fit, free_all, fits_append, queued_on, departs_on, replaces_on, left_fits, closed_fits, leaves_fits, logged_free}
 use Rattle.house_model.proofs.BackLemmas.{all_back}
 use Rattle.house_model.proofs.TurnLaws.{next_sound, starts_sound}
 
@@ -66,15 +64,11 @@ enables_fits : (counts : Bool) (world : World Traffic) (w s : ℕ) (id : Option 
 enables_fits true world w s id = (tt, tt)
 enables_fits false world w s id = (tt, (tt, tt))
 
-queued_on : (es : List stanza.Effect) → AllOn (map queued es)
-queued_on [] = tt
-queued_on (Queue s to rest origin ∷ more) = (tt, queued_on more)
-
 acts_fits : (world : World Traffic) (k : Kept) (s : ℕ) (x : Stanza) → Fits world (acts k s x).effects
 acts_fits world k s x = (
   tt,
   all_on_fit (apply whole world (On s (Act x)))
-      (map queued (effects k s x))
+      (map effect_of (effects k s x))
       (queued_on (effects k s x)),
 )
 
@@ -116,9 +110,9 @@ logs_in_fits : (place : Option ℕ) (world : World Traffic) (w : ℕ) → Fits w
 logs_in_fits (Some place) world w = (tt, tt)
 logs_in_fits None world w = tt
 
-sweeps_fits : (s : Option ℕ) (world : World Traffic) → Fits world (sweeps s).effects
-sweeps_fits None world = tt
-sweeps_fits (Some s) world = all_on_fit world (departs s Lost) (departs_on s Lost)
+sweeps_fits : (k : World KeptTraffic) (s : Option ℕ) (world : World Traffic) → Fits world (sweeps k s).effects
+sweeps_fits k None world = tt
+sweeps_fits k (Some s) world = all_on_fit world (departs k s Lost) (departs_on k s Lost)
 
 -- the events that the gate checks
 gate_fits : (k : Kept) (world : World Traffic) (e : Event) (n : Needs) (w : ℕ) → IsMatched world
@@ -144,7 +138,7 @@ event_fits st (event.DropLine w t) m =
 event_fits st (event.CloseLine w t) m =
     leaves_fits st.world w (st.world.lines w).stage (closed (st.world.lines w).stage)
     (closed_fits st.world w (st.world.lines w).stage (At w Leave) m refl (λ to free. free))
-event_fits st (event.Sweep w t) m = sweeps_fits (due (keep (turn (event.Sweep w t) st))) st.world
+event_fits st (event.Sweep w t) m = sweeps_fits (keep_world st.world) (due (keep (turn (event.Sweep w t) st))) st.world
 event_fits st (event.Login w user) m =
     gate_fits (keep (turn (event.Login w user) st)) st.world (event.Login w user) to_login w m
     (logs_in_fits _ st.world w) (λ c u is. tt) (λ c s. tt)

@@ -1,18 +1,22 @@
 -- Lists of effects that fit.
-use Rattle.std.proofs.Common.{◌≡◌, inl, inr, ℕ, ◌+◌, List, [], ◌∷◌, ◌++◌, Option, Some, None, Bool, true, false, sym, ap, ◌∙◌, subst}
+use Rattle.std.proofs.Common.{◌≡◌, inl, inr, ℕ, ◌+◌, List, [], ◌∷◌, ◌++◌, map, Option, Some, None, Bool, true, false, refl, sym, ap, ◌∙◌, subst}
 use Rattle.std.specs.Prelude.{⊤}
+use Rattle.stanza_model.specs.declared.effect.Effect as stanza
+use Rattle.stanza_model.specs.declared.effect.Effect.TheVariants.{Queue, Set}
+use Rattle.stanza_model.specs.declared.effect.Change.TheVariants as change
 use Rattle.sm_resume.specs.declared.decision.Cause.{Cause}
 use Rattle.sm_resume.specs.declared.decision.Cause.TheVariants.{Replaced}
 use Rattle.sm_resume.specs.declared.id.ResumeId.{ResumeId}
 use Rattle.session_table.specs.declared.line.Line as stage
 use Rattle.session_table.specs.declared.line.Line.TheVariants.{Empty, Fresh, Logged, Bound, Over}
 use Rattle.house_model.specs.Numbered.{put}
-use Rattle.house_model.specs.Sessions.{Hold, Held, Rest, Op, Push, Pull, Request, Enable, Ack, Tell, Act, Drop, Resume, End, Part, step_if, session_step}
-use Rattle.house_model.specs.Traffic.{Traffic, whole}
+use Rattle.house_model.specs.Sessions.{Hold, Held, Rest, Op, Push, Pull, Request, Enable, Ack, Tell, Act, Drop, Resume, End, Part, Marks, step_if, session_step, Ways}
+use Rattle.house_model.specs.Traffic.{KeptTraffic, Traffic, whole}
 use Rattle.house_model.specs.States.{Line, World, Kept}
-use Rattle.house_model.specs.Effects.{Effect, Open, At, Begin, On, Leave, settled, touch, apply, apply_all}
+use Rattle.house_model.specs.Effects.{Effect, Open, At, Begin, On, Note, Leave, settled, touch, apply, apply_all}
 use Rattle.house_model.specs.Gate.{left_by, left, closed}
-use Rattle.house_model.specs.Steps.{departs, replaces, leaves}
+use Rattle.house_model.specs.Routing.{departure}
+use Rattle.house_model.specs.Steps.{departs, effect_of, replaces, leaves}
 use Rattle.house_model.specs.Sound.{Sound, IsFree, FitsIn, Fits, Back}
 use Rattle.house_model.proofs.PutLemmas.{put_here}
 use Rattle.house_model.proofs.SoundLemmas.{settled_is, apply_sound}
@@ -32,6 +36,7 @@ IsNoResume op = ⊤
 abbrev pub AllOn : List Effect → Type 0
 AllOn [] = ⊤
 AllOn (On s op ∷ es) = IsNoResume op × AllOn es
+AllOn (Note change ∷ es) = AllOn es
 AllOn (e ∷ es) = ⊥
 
 on_fits : (world : World Traffic) (s : ℕ) (op : Op) → IsNoResume op → FitsIn world (On s op)
@@ -46,6 +51,7 @@ on_fits world s (Drop t) is = tt
 on_fits world s (Resume w c h) is = absurd is
 on_fits world s (End cause) is = tt
 on_fits world s Part is = tt
+on_fits world s (Marks mark) is = tt
 
 no_resume : (op : Op) (w c : ℕ) → IsNoResume op → IsResume op w c → ⊥
 no_resume (Resume v d h) w c is r = is
@@ -59,6 +65,7 @@ no_resume (Act x) w c is r = r
 no_resume (Drop t) w c is r = r
 no_resume (End cause) w c is r = r
 no_resume Part w c is r = r
+no_resume (Marks mark) w c is r = r
 
 -- a line that was free stays free
 free_on : (world : World Traffic) (s : ℕ) (op : Op) (w : ℕ) → IsMatched world → IsNoResume op
@@ -80,6 +87,7 @@ matched_on world e fits m = record { sound = apply_sound world e m.sound; back =
 pub all_on_fit : (world : World Traffic) (es : List Effect) → AllOn es → Fits world es
 all_on_fit world [] all = tt
 all_on_fit world (On s op ∷ es) all = (on_fits world s op all.0, all_on_fit (apply whole world (On s op)) es all.1)
+all_on_fit world (Note change ∷ es) all = (tt, all_on_fit (apply whole world (Note change)) es all)
 all_on_fit world (Open v ∷ es) all = absurd all
 all_on_fit world (At v op ∷ es) all = absurd all
 all_on_fit world (Begin v c a ∷ es) all = absurd all
@@ -90,6 +98,8 @@ free_all world [] w all m free = free
 free_all world (On s op ∷ es) w all m free =
     free_all (apply whole world (On s op)) es w all.1 (matched_on world (On s op) (on_fits world s op all.0) m)
     (free_on world s op w m all.0 free)
+free_all world (Note change ∷ es) w all m free =
+    free_all (apply whole world (Note change)) es w all (matched_on world (Note change) tt m) free
 free_all world (Open v ∷ es) w all m free = absurd all
 free_all world (At v op ∷ es) w all m free = absurd all
 free_all world (Begin v c a ∷ es) w all m free = absurd all
@@ -99,12 +109,42 @@ pub fits_append : (world : World Traffic) (xs ys : List Effect) → Fits world x
 fits_append world [] ys a b = b
 fits_append world (x ∷ xs) ys a b = (a.0, fits_append (apply whole world x) xs ys a.1 b)
 
-pub departs_on : (s : ℕ) (cause : Cause) → AllOn (departs s cause)
-departs_on s cause = (tt, (tt, tt))
+pub queued_on : (es : List stanza.Effect) → AllOn (map effect_of es)
+queued_on [] = tt
+queued_on (Queue s to rest origin ∷ more) = (tt, queued_on more)
+queued_on (Set (change.WantsRoster s) ∷ more) = (tt, queued_on more)
+queued_on (Set (change.Pushed s pushes) ∷ more) = (tt, queued_on more)
+queued_on (Set (change.Contact user address name groups) ∷ more) = queued_on more
+queued_on (Set (change.NoContact user address) ∷ more) = queued_on more
+queued_on (Set (change.Sees a b now) ∷ more) = queued_on more
+queued_on (Set (change.Asked a b now) ∷ more) = queued_on more
+queued_on (Set (change.Available s stanza priority) ∷ more) = (tt, queued_on more)
+queued_on (Set (change.Unavailable s) ∷ more) = (tt, queued_on more)
+queued_on (Set (change.Directed s addresses) ∷ more) = (tt, queued_on more)
+
+on_append : (xs ys : List Effect) → AllOn xs → AllOn ys → AllOn (xs ++ ys)
+on_append [] ys a b = b
+on_append (On s op ∷ xs) ys a b = (a.0, on_append xs ys a.1 b)
+on_append (Note change ∷ xs) ys a b = on_append xs ys a b
+on_append (Open v ∷ xs) ys a b = absurd a
+on_append (At v op ∷ xs) ys a b = absurd a
+on_append (Begin v c x ∷ xs) ys a b = absurd a
+
+-- they make no session
+pub on_made : {T : Type 0} (z : Ways T) (world : World T) (es : List Effect) → AllOn es → (apply_all z world es).made ≡ world.made
+on_made z world [] all = refl
+on_made z world (On s op ∷ es) all = on_made z (apply z world (On s op)) es all.1
+on_made z world (Note change ∷ es) all = on_made z (apply z world (Note change)) es all
+on_made z world (Open v ∷ es) all = absurd all
+on_made z world (At v op ∷ es) all = absurd all
+on_made z world (Begin v c a ∷ es) all = absurd all
+
+pub departs_on : (k : World KeptTraffic) (s : ℕ) (cause : Cause) → AllOn (departs k s cause)
+departs_on k s cause = (tt, on_append (map effect_of (departure k s)) (On s Part ∷ []) (queued_on (departure k s)) (tt, tt))
 
 pub replaces_on : (k : Kept) (s : Option ℕ) → AllOn (replaces k s)
 replaces_on k None = tt
-replaces_on k (Some s) = departs_on s (Replaced (k.world.made + 1))
+replaces_on k (Some s) = departs_on k.world s (Replaced (k.world.made + 1))
 
 -- an operation by which the line that holds the session lets it go
 abbrev LetsGo : Op → Type 0

@@ -5,7 +5,7 @@ use Rattle.stanza_tree.specs.declared.frame.Entry.{Entry}
 use Rattle.house_model.specs.Sessions.{Hold, Held, Away, Ended, Gone, Rest, Session, Op, Push, Enable, Ack, Resume, session, pushed, acked, resumed, begun, step_if, session_step}
 use Rattle.house_model.specs.Traffic.{Traffic, whole}
 use Rattle.house_model.specs.States.{World}
-use Rattle.house_model.specs.Effects.{Effect, Open, At, Begin, On, apply, apply_all}
+use Rattle.house_model.specs.Effects.{Effect, Open, At, Begin, On, Note, apply, apply_all}
 use Rattle.house_model.specs.Steps.{has_id}
 use Rattle.house_model.specs.Sound.{Sound}
 use Rattle.house_model.specs.Lines.{is_among}
@@ -63,6 +63,7 @@ effect_mark : (k : ℕ) (world : World Traffic) (e : Effect) → Sound world →
     → mark_of ((apply whole world e).sessions k) ≡ mark_of (world.sessions k)
 effect_mark k world (Open v) o is = refl
 effect_mark k world (At v op) o is = refl
+effect_mark k world (Note change) o is = refl
 effect_mark k world (Begin v c a) o is = elim (put_is (world.made + 1) (begun whole v c a) world.sessions k) [
   | inl p ↦ ap mark_of p.1
       ∙ ap mark_of (sym (o.later k (let same : k ≡ world.made + 1 = p.0 in omega arith)))

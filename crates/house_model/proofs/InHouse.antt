@@ -3,22 +3,29 @@ use Rattle.std.proofs.Common.{◌≡◌, ℕ, ◌+◌, inl, inr, List, [], ◌�
 use Rattle.std.proofs.lemmas.Bool.{cases_lt}
 use Rattle.std.specs.List.{AllByRecursion}
 use Rattle.stanza_model.specs.declared.effect.Effect as stanza
-use Rattle.stanza_model.specs.declared.effect.Effect.TheVariants.{Queue}
+use Rattle.stanza_model.specs.declared.effect.Effect.TheVariants.{Queue, Set}
+use Rattle.stanza_model.specs.declared.effect.Change.TheVariants as change
 use Rattle.stanza_model.specs.declared.stanza.Stanza.{Stanza}
+use Rattle.jid_core.specs.Addresses.{Address}
+use Rattle.presence_core.specs.Broadcasts.{asked_by}
+use Rattle.sm_resume.specs.declared.decision.Cause.{Cause}
 use Rattle.session_table.specs.declared.line.Line.TheVariants.{Bound}
 use Rattle.house_model.specs.declared.event.Event.{Event}
 use Rattle.house_model.specs.declared.event.Event.TheVariants as event
-use Rattle.house_model.specs.Sessions.{Hold, Held, Away, Ended, Gone, Rest, Session, Op, Push, Act, begun, unmade, session_step}
+use Rattle.house_model.specs.Sessions.{Hold, Held, Away, Ended, Gone, Rest, Session, Op, Push, Act, End, begun, unmade, session_step, Marks, Shown, Hidden, Directs, WantsRoster, Pushed}
 use Rattle.house_model.specs.Traffic.{Traffic, whole}
 use Rattle.house_model.specs.States.{World, State, keep, keep_by, keep_world}
-use Rattle.house_model.specs.Effects.{Effect, Open, At, Begin, On, apply, apply_all}
+use Rattle.house_model.specs.Effects.{Effect, Open, At, Begin, On, Note, apply, apply_all}
 use Rattle.house_model.specs.Fitting.{IsInHouse, EffectFits, AllFit}
 use Rattle.house_model.specs.Histories.{Outcome, Made, Short, Turn, next_by, next, after, IsOpening}
-use Rattle.house_model.specs.Lookups.{is_there}
-use Rattle.house_model.specs.Routing.{Scene, scene_of, effects}
+use Rattle.house_model.specs.Lookups.{here, is_there}
+use Rattle.house_model.specs.Presences.{asking}
+use Rattle.house_model.specs.Routing.{Scene, scene_of, departure, effects}
 use Rattle.house_model.specs.Sound.{Sound}
-use Rattle.house_model.specs.Steps.{queued, verdict, turn}
-use Rattle.house_model.proofs.EffectCases.{IsFound, Covers, effects_all}
+use Rattle.house_model.specs.Steps.{effect_of, verdict, turn}
+use Rattle.house_model.proofs.EffectCases.{effects_all}
+use Rattle.house_model.proofs.Founds.{IsFound}
+use Rattle.house_model.proofs.PresenceCases.{Covers, departure_all}
 use Rattle.house_model.proofs.Partings.{IsNoPart, step_gone}
 use Rattle.house_model.proofs.PutLemmas.{put_is, put_else}
 use Rattle.house_model.proofs.SoundLemmas.{unmade_stays}
@@ -31,6 +38,7 @@ HasNoZero world = world.sessions 0 ≡ unmade whole
 apply_no_zero : (world : World Traffic) (e : Effect) → HasNoZero world → HasNoZero (apply whole world e)
 apply_no_zero world (Open w) none = none
 apply_no_zero world (At w op) none = none
+apply_no_zero world (Note change) none = none
 apply_no_zero world (Begin w c a) none =
     put_else (world.made + 1) (begun whole w c a) world.sessions 0 (λ e. omega (arith, e)) ∙ none
 apply_no_zero world (On k op) none = elim (put_is k (session_step whole (world.sessions k) op) world.sessions 0) [
@@ -103,19 +111,40 @@ stays_in_house world s k op stays is = record {
   ];
 }
 
-queued_fits : (world : World Traffic) (e x : stanza.Effect) → EffectFits world e → EffectFits (apply whole world (queued x)) e
-queued_fits world (Queue s to rest origin) (Queue k t r g) fits =
-    (stays_in_house world s k (Push (record { to = t; rest = r; origin = g })) tt fits.0, fits.1)
+-- no effect of a stanza takes a session away
+effect_keeps : (world : World Traffic) (s : ℕ) (x : stanza.Effect) → IsInHouse s world → IsInHouse s (apply whole world (effect_of x))
+effect_keeps world s (Queue k to rest origin) is = stays_in_house world s k (Push (record { to = to; rest = rest; origin = origin })) tt is
+effect_keeps world s (Set (change.WantsRoster k)) is = stays_in_house world s k (Marks WantsRoster) tt is
+effect_keeps world s (Set (change.Pushed k pushes)) is = stays_in_house world s k (Marks (Pushed pushes)) tt is
+effect_keeps world s (Set (change.Available k stanza priority)) is = stays_in_house world s k (Marks (Shown stanza priority)) tt is
+effect_keeps world s (Set (change.Unavailable k)) is = stays_in_house world s k (Marks Hidden) tt is
+effect_keeps world s (Set (change.Directed k addresses)) is = stays_in_house world s k (Marks (Directs addresses)) tt is
+effect_keeps world s (Set (change.Contact user address name groups)) is = record { above = is.above; made = is.made; stays = is.stays }
+effect_keeps world s (Set (change.NoContact user address)) is = record { above = is.above; made = is.made; stays = is.stays }
+effect_keeps world s (Set (change.Sees a b now)) is = record { above = is.above; made = is.made; stays = is.stays }
+effect_keeps world s (Set (change.Asked a b now)) is = record { above = is.above; made = is.made; stays = is.stays }
+
+queued_fits : (world : World Traffic) (e x : stanza.Effect) → EffectFits world e → EffectFits (apply whole world (effect_of x)) e
+queued_fits world (Queue s to rest origin) x fits = (effect_keeps world s x fits.0, fits.1)
+queued_fits world (Set (change.WantsRoster k)) x fits = effect_keeps world k x fits
+queued_fits world (Set (change.Pushed k pushes)) x fits = effect_keeps world k x fits
+queued_fits world (Set (change.Available k stanza priority)) x fits = effect_keeps world k x fits
+queued_fits world (Set (change.Unavailable k)) x fits = effect_keeps world k x fits
+queued_fits world (Set (change.Directed k addresses)) x fits = effect_keeps world k x fits
+queued_fits world (Set (change.Contact user address name groups)) x fits = tt
+queued_fits world (Set (change.NoContact user address)) x fits = tt
+queued_fits world (Set (change.Sees a b now)) x fits = tt
+queued_fits world (Set (change.Asked a b now)) x fits = tt
 
 later_fit : (world : World Traffic) (x : stanza.Effect) (es : List stanza.Effect) → AllByRecursion (EffectFits world) es
-    → AllByRecursion (EffectFits (apply whole world (queued x))) es
+    → AllByRecursion (EffectFits (apply whole world (effect_of x))) es
 later_fit world x [] all = tt
 later_fit world x (e ∷ es) all = (queued_fits world e x all.0, later_fit world x es all.1)
 
 -- what fits at first fits when its turn comes
 all_fit : (world : World Traffic) (es : List stanza.Effect) → AllByRecursion (EffectFits world) es → AllFit world es
 all_fit world [] all = tt
-all_fit world (e ∷ es) all = (all.0, all_fit (apply whole world (queued e)) es (later_fit world e es all.1))
+all_fit world (e ∷ es) all = (all.0, all_fit (apply whole world (effect_of e)) es (later_fit world e es all.1))
 
 covered : (world : World Traffic) (o : Scene) (s : ℕ) (x : Stanza) → o.world ≡ keep_world world → IsInHouse s world
     → Covers o s x (EffectFits (apply whole world (On s (Act x))))
@@ -128,7 +157,21 @@ covered world o s x same is = record {
         (found_in_house world h.session (subst (λ k. IsFound k h.session) same found)),
     refl,
   );
+  presence = λ e h small found. (
+    stays_in_house world h.session s (Act x) tt
+        (found_in_house world h.session (subst (λ k. IsFound k h.session) same found.found)),
+    refl,
+  );
+  show = λ h found. (stays_in_house world s s (Act x) tt is, refl);
+  asked = λ own. asks (asking o.domain o.world own);
+  shows = λ e priority small. stays_in_house world s s (Act x) tt is;
+  hides = stays_in_house world s s (Act x) tt is;
+  directs = λ addresses. stays_in_house world s s (Act x) tt is;
 }
+  where
+    asks : (xs : List Address) → AllByRecursion (λ a. EffectFits (apply whole world (On s (Act x))) (asked_by (here o.world s) a)) xs
+    asks [] = tt
+    asks (a ∷ more) = ((stays_in_house world s s (Act x) tt is, refl), asks more)
 
 pub stanza_fits : (o : State) (h : List Turn) (w c s t : ℕ) (x : Stanza) → IsOpening o
     → ((after o h).world.lines w).stage ≡ Bound c s
@@ -140,3 +183,12 @@ stanza_fits o h w c s t x starts bound =
     all_fit (apply whole (after o h).world (On s (Act x))) (effects (keep (turn (event.Act w x t) (after o h))) s x)
     (effects_all (scene_of (keep (turn (event.Act w x t) (after o h)))) s x (EffectFits (apply whole (after o h).world (On s (Act x))))
     (covered (after o h).world (scene_of (keep (turn (event.Act w x t) (after o h)))) s x refl is))
+
+pub departure_fits : (o : State) (h : List Turn) (s : ℕ) (cause : Cause) → IsOpening o → IsInHouse s (after o h).world
+    → AllFit (apply whole (after o h).world (On s (End cause))) (departure (keep_world (after o h).world) s)
+departure_fits o h s cause starts is =
+    let world : World Traffic = (after o h).world in
+    let ended : World Traffic = apply whole world (On s (End cause)) in
+    all_fit ended (departure (keep_world world) s) (departure_all (keep_world world) s (EffectFits ended)
+    (λ r found. (stays_in_house world r.session s (End cause) tt (found_in_house world r.session found.found), refl))
+    (stays_in_house world s s (End cause) tt is) (λ addresses. stays_in_house world s s (End cause) tt is))

@@ -30,6 +30,7 @@ use Rattle.house_model.proofs.SoundLemmas.{all_sound}
 use Rattle.house_model.proofs.Cores.{all_core}
 use Rattle.house_model.proofs.Resumes.{finds, taken_if, decided, finds_counts, finds_live}
 use Rattle.house_model.proofs.Ears.{Ear, tells, IsQuiet, AllPlain, effects_quiet, plain_append}
+use Rattle.house_model.proofs.FitLemmas.{on_made, replaces_on}
 use Rattle.house_model.proofs.Quiet.{left_plain, replaces_plain}
 use Rattle.house_model.proofs.Told.{TurnIs, silent, short_silent}
 
@@ -77,8 +78,7 @@ effects_append k world (x ∷ xs) ys =
 -- Bind
 pub replaces_made : (k : Kept) (world : World Traffic) (o : Option ℕ)
     → (apply_all whole world (replaces k o)).made ≡ world.made
-replaces_made k world None = refl
-replaces_made k world (Some s) = refl
+replaces_made k world o = on_made whole world (replaces k o) (replaces_on k o)
 
 begin_joined : (b : Bool) (k w c : ℕ) (world : World Traffic) → eqb k (world.made + 1) ≡ b → Sound world
     → (if b then c ∷ [] else [])

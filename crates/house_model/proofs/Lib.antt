@@ -9,6 +9,7 @@ pub mod Ears
 pub mod EffectCases
 pub mod EventFits
 pub mod FitLemmas
+pub mod Founds
 pub mod GateLemmas
 pub mod Given
 pub mod GivenIds
@@ -23,6 +24,7 @@ pub mod Muted
 pub mod OrderLemmas
 pub mod Partings
 pub mod Prefixes
+pub mod PresenceCases
 pub mod PutLemmas
 pub mod Quiet
 pub mod ReplySizes

@@ -5,10 +5,10 @@ use Rattle.sm_account.specs.Sessions as one
 use Rattle.sm_account.specs.Connections as alone
 use Rattle.sm_account.specs.Connections.{step, run}
 use Rattle.sm_account.specs.Accounts.{Account, OperationFits, AllOperationsFit}
-use Rattle.house_model.specs.Sessions.{Op, Push, Pull, Request, Enable, Ack, Tell, Act, Drop, Resume, End, Part}
+use Rattle.house_model.specs.Sessions.{Op, Push, Pull, Request, Enable, Ack, Tell, Act, Drop, Resume, End, Part, Marks}
 use Rattle.house_model.specs.Traffic.{Traffic, whole}
 use Rattle.house_model.specs.States.{World}
-use Rattle.house_model.specs.Effects.{Effect, Open, At, Begin, On, apply}
+use Rattle.house_model.specs.Effects.{Effect, Open, At, Begin, On, Note, apply}
 use Rattle.house_model.specs.Bridge.{op_ops, effect_ops, effects_ops}
 use Rattle.house_model.proofs.Ears.{Ear, tells, plain, IsPlain, AllPlain}
 
@@ -63,6 +63,7 @@ op_muted a x said (Drop t) is = one_muted a x said one.Drop refl
 op_muted a x said (Resume w c h) is = absurd (true≢false (sym is))
 op_muted a x said (End cause) is = one_muted a x said one.End refl
 op_muted a x said Part is = refl
+op_muted a x said (Marks mark) is = refl
 
 muted_if : (b : Bool) (a : Account Stanza) (x : alone.Session Stanza) (said : ℕ) (ops : List (one.Op Stanza))
     → Lead a x said ops said → Lead a x said (if b then ops else []) said
@@ -73,6 +74,7 @@ effect_muted : (a : Account Stanza) (x : alone.Session Stanza) (said k : ℕ) (w
     → IsPlain client_ear e → Lead a x said (effect_ops k world e) said
 effect_muted a x said k world (Open w) is = refl
 effect_muted a x said k world (At w op) is = refl
+effect_muted a x said k world (Note change) is = refl
 effect_muted a x said k world (Begin w c address) is =
     muted_if (eqb k (world.made + 1)) a x said (one.Begin c ∷ []) (one_muted a x said (one.Begin c) refl)
 effect_muted a x said k world (On j op) is = muted_if (eqb k j) a x said (op_ops op) (op_muted a x said op is)

@@ -1,10 +1,11 @@
 -- A session departs by a Sweep where it is over or due, or by a Bind of its address, and not otherwise.
-use Rattle.std.proofs.Common.{◌≡◌, ◌⊎◌, inl, inr, ℕ, zero, suc, ◌+◌, ◌≤◌, List, [], ◌∷◌, ◌++◌, Option, Some, None, Bool, true, false, refl, sym, ap, ◌∙◌, true≢false}
+use Rattle.std.proofs.Common.{◌≡◌, ◌⊎◌, inl, inr, ℕ, zero, suc, ◌+◌, ◌≤◌, List, [], ◌∷◌, ◌++◌, Option, Some, None, Bool, true, false, refl, sym, ap, ◌∙◌, true≢false, map}
 use Rattle.std.specs.Prelude.{nat_lt, not, ⊤}
 use Rattle.std.proofs.lemmas.Bool.{ltb-false}
 use Rattle.stanza_tree.specs.declared.frame.Entry.{Entry}
 use Rattle.jid_core.specs.Addresses.{Address, same_address, address_text}
-use Rattle.sm_resume.specs.declared.decision.Cause.TheVariants.{Flood, Replaced}
+use Rattle.sm_resume.specs.declared.decision.Cause.{Cause}
+use Rattle.sm_resume.specs.declared.decision.Cause.TheVariants.{Flood, Lost, Replaced}
 use Rattle.session_table.specs.declared.line.Line.TheVariants.{Logged}
 use Rattle.house_model.specs.declared.answer.Answer.TheVariants as answer
 use Rattle.house_model.specs.declared.event.Event.{Event}
@@ -12,12 +13,13 @@ use Rattle.house_model.specs.declared.event.Event.TheVariants as event
 use Rattle.house_model.specs.declared.reply.Reply.TheVariants as reply
 use Rattle.house_model.specs.Numbered.{least, or_here}
 use Rattle.house_model.specs.Sessions.{Hold, Held, Away, Ended, Gone, Rest, Session, Op, Push, Ack, Drop, Resume, End, Part, pushed, acked, resumed, begun, step_if, session_step}
-use Rattle.house_model.specs.Traffic.{Traffic, whole}
-use Rattle.house_model.specs.States.{State, World, Kept, keep, keep_by, keep_session}
-use Rattle.house_model.specs.Effects.{Effect, Open, At, Begin, On, Say, Close, apply, apply_all}
+use Rattle.house_model.specs.Traffic.{Traffic, whole, KeptTraffic}
+use Rattle.house_model.specs.Routing.{departure}
+use Rattle.house_model.specs.States.{State, World, Kept, keep, keep_by, keep_session, keep_world}
+use Rattle.house_model.specs.Effects.{Effect, Open, At, Begin, On, Note, Say, Close, apply, apply_all}
 use Rattle.house_model.specs.Gate.{Verdict, most_answers, to_bind, left}
 use Rattle.house_model.specs.Lookups.{is_there, is_at, session_at}
-use Rattle.house_model.specs.Steps.{replaces, binds, has_place, bound_address, resource_or, has_come, is_due, due, departs, sweeps, verdict, turn}
+use Rattle.house_model.specs.Steps.{replaces, binds, has_place, bound_address, resource_or, has_come, is_due, due, departs, effect_of, sweeps, verdict, turn}
 use Rattle.house_model.specs.Histories.{step}
 use Rattle.house_model.specs.Resuming.{IsOverOrDue, IsSwept, IsReplaced}
 use Rattle.house_model.proofs.PutLemmas.{put_is, put_else}
@@ -25,7 +27,7 @@ use Rattle.house_model.proofs.SoundLemmas.{same_or_not}
 use Rattle.house_model.proofs.GateLemmas.{gate_leads}
 use Rattle.house_model.proofs.Resumes.{and_right}
 use Rattle.house_model.proofs.Ears.{Ear, IsPlain, AllPlain, plain_append}
-use Rattle.house_model.proofs.Quiet.{is_deaf, verdict_plain, left_plain}
+use Rattle.house_model.proofs.Quiet.{is_deaf, verdict_plain, left_plain, queued_plain}
 
 abbrev part_ear : Ear
 part_ear =
@@ -93,6 +95,7 @@ effect_gone : (k : ℕ) (world : World Traffic) (e : Effect) → Spares k e
     → ((apply whole world e).sessions k).hold ≡ Gone → (world.sessions k).hold ≡ Gone
 effect_gone k world (Open v) spares is = is
 effect_gone k world (At v op) spares is = is
+effect_gone k world (Note change) spares is = is
 effect_gone k world (Begin v c a) spares is = elim (put_is (world.made + 1) (begun whole v c a) world.sessions k) [
   | inl p ↦ absurd (let bad : Held v c ≡ Gone = ap (λ (s : Session Traffic). s.hold) (sym p.1) ∙ is in cc)
   | inr p ↦ ap (λ (s : Session Traffic). s.hold) (sym p.1) ∙ is
@@ -113,6 +116,7 @@ plain_spares k (On j op) is = tt
 plain_spares k (Open w) is = tt
 plain_spares k (At w op) is = tt
 plain_spares k (Begin w c a) is = tt
+plain_spares k (Note change) is = tt
 
 plain_spare : (k : ℕ) (es : List Effect) → AllPlain part_ear es → AllSpare k es
 plain_spare k [] all = tt
@@ -162,19 +166,31 @@ due_is now b Gone t r is = absurd (true≢false (sym is))
 abbrev Departs : State → Event → ℕ → Type 0
 Departs st e s = ((st.world.sessions s).hold ≡ Gone) ⊎ (IsSwept st e s ⊎ IsReplaced st e s)
 
+spare_append : (k : ℕ) (xs ys : List Effect) → AllSpare k xs → AllSpare k ys → AllSpare k (xs ++ ys)
+spare_append k [] ys a b = b
+spare_append k (x ∷ xs) ys a b = (a.0, spare_append k xs ys a.1 b)
+
+-- another departs
+departs_spare : (k : World KeptTraffic) (s i : ℕ) (cause : Cause) → (s ≡ i → ⊥) → AllSpare s (departs k i cause)
+departs_spare k s i cause ne = (
+  tt,
+  spare_append s (map effect_of (departure k i)) (On i Part ∷ [])
+      (plain_spare s (map effect_of (departure k i)) (queued_plain part_ear (departure k i))) (ne, tt),
+)
+
 sweep_departs : (o : Option ℕ) (st : State) (w t s : ℕ) → due (keep (turn (event.Sweep w t) st)) ≡ o
-    → ((apply_all whole st.world (sweeps o).effects).sessions s).hold ≡ Gone → Departs st (event.Sweep w t) s
+    → ((apply_all whole st.world (sweeps (keep_world st.world) o).effects).sessions s).hold ≡ Gone → Departs st (event.Sweep w t) s
 sweep_departs None st w t s at is = inl is
 sweep_departs (Some i) st w t s at is = elim (same_or_not s i) [
   | inl e ↦ inr (inl (
-    ap (λ (x : Option ℕ). (sweeps x).reply) at ∙ ap reply.Swept (sym e),
+    ap (λ (x : Option ℕ). (sweeps (keep_world st.world) x).reply) at ∙ ap reply.Swept (sym e),
     due_is (turn (event.Sweep w t) st).head.moment (st.world.sessions s).counts (st.world.sessions s).hold
         (st.world.sessions s).traffic (st.world.sessions s).rest
         (least_passes st.world.made
         (λ n. is_due (turn (event.Sweep w t) st).head.moment (keep_session (st.world.sessions n))) s
         (at ∙ ap Some (sym e))),
   ))
-  | inr ne ↦ inl (all_gone s st.world (sweeps (Some i)).effects (tt, (ne, tt)) is)
+  | inr ne ↦ inl (all_gone s st.world (departs (keep_world st.world) i Lost) (departs_spare (keep_world st.world) s i Lost ne) is)
 ]
 
 -- Bind
@@ -213,8 +229,9 @@ module _ (st : State) (w : ℕ) (id : List ℕ) (resource : Option (List ℕ)) (
           | inl gone ↦ inl gone
           | inr same ↦ inr (inr (u, record { conn = c; logged = stage; bound = bound; same = same }))
         ]
-    | inr ne ↦ inl (all_gone s st.world (departs i (Replaced (st.world.made + 1)) ++ made c u)
-        (tt, (ne, (tt, (tt, tt)))) is)
+    | inr ne ↦ inl (all_gone s st.world (departs kept.world i (Replaced (st.world.made + 1)) ++ made c u)
+        (spare_append s (departs kept.world i (Replaced (st.world.made + 1))) (made c u)
+        (departs_spare kept.world s i (Replaced (st.world.made + 1)) ne) (tt, (tt, tt))) is)
   ]
 
   binds_departs : (has : Bool) (c u : ℕ) → (st.world.lines w).stage ≡ Logged c u

@@ -4,7 +4,8 @@ use Rattle.std.specs.Prelude.{map, nat_lt, slice_get, ◌&&◌}
 use Rattle.jid_core.specs.Addresses.{Address}
 use Rattle.stanza_tree.specs.declared.frame.Entry.{Entry}
 use Rattle.stanza_model.specs.declared.effect.Effect as stanza
-use Rattle.stanza_model.specs.declared.effect.Effect.TheVariants.{Queue}
+use Rattle.stanza_model.specs.declared.effect.Effect.TheVariants.{Queue, Set}
+use Rattle.stanza_model.specs.declared.effect.Change.TheVariants as change
 use Rattle.stanza_model.specs.declared.stanza.Stanza.{Stanza}
 use Rattle.sm_resume.specs.declared.decision.Cause.{Cause}
 use Rattle.sm_resume.specs.declared.decision.Cause.TheVariants.{Flood, Lost, Replaced}
@@ -14,14 +15,14 @@ use Rattle.session_table.specs.declared.line.Line.TheVariants.{Empty, Fresh, Log
 use Rattle.house_model.specs.declared.answer.Answer.{Answer}
 use Rattle.house_model.specs.declared.event.Event.{Event}
 use Rattle.house_model.specs.declared.event.Event.TheVariants as event
-use Rattle.house_model.specs.Sessions.{Hold, Held, Away, Ended, Gone, Session}
+use Rattle.house_model.specs.Sessions.{Hold, Held, Away, Ended, Gone, Session, Part}
 use Rattle.house_model.specs.Traffic.{KeptTraffic, brief, kept_sent}
-use Rattle.house_model.specs.States.{Kept}
-use Rattle.house_model.specs.Effects.{Effect, Open, At, Begin, Say, Close}
+use Rattle.house_model.specs.States.{Kept, World}
+use Rattle.house_model.specs.Effects.{Effect, Open, At, Begin, Say, Close, On}
 use Rattle.house_model.specs.Gate.{Waits, Knows, Holds, Needs, to_login, to_bind, to_manage, to_act, to_ask, to_pull, most_answers, left_by, left, closed, gate_at}
 use Rattle.house_model.specs.Lookups.{session_at}
-use Rattle.house_model.specs.Routing.{effects}
-use Rattle.house_model.specs.Steps.{logs_in, replaces, binds, enables, takes, resumes_by, is_known, resumes, queued, acts, acks, asks, requests, gives_entry, pulls, leaves, sweeps, departs, due, body, verdict}
+use Rattle.house_model.specs.Routing.{departure, effects}
+use Rattle.house_model.specs.Steps.{logs_in, replaces, binds, enables, takes, resumes_by, is_known, resumes, effect_of, acts, acks, asks, requests, gives_entry, pulls, leaves, sweeps, departs, due, body, verdict}
 use Rattle.house_model.proofs.Resumes.{and_left, and_right}
 use Rattle.house_model.proofs.Ears.{Ear, AllPlain, plain, plain_append}
 use Rattle.house_model.proofs.GateLemmas.{gate_leads}
@@ -53,12 +54,26 @@ leaves_plain r (Logged c u) w es p = plain_append r es _ p (tt, tt)
 leaves_plain r (Bound c s) w es p = plain_append r es _ p (tt, tt)
 leaves_plain r (Over c cause) w es p = plain_append r es _ p (tt, tt)
 
-departs_plain : (r : Ear) (s : ℕ) (cause : Cause) → not r.part ≡ true → AllPlain r (departs s cause)
-departs_plain r s cause is = (refl, (is, tt))
+pub queued_plain : (r : Ear) (es : List stanza.Effect) → AllPlain r (map effect_of es)
+queued_plain r [] = tt
+queued_plain r (Queue s to rest origin ∷ more) = (refl, queued_plain r more)
+queued_plain r (Set (change.WantsRoster s) ∷ more) = (refl, queued_plain r more)
+queued_plain r (Set (change.Pushed s pushes) ∷ more) = (refl, queued_plain r more)
+queued_plain r (Set (change.Contact user address name groups) ∷ more) = (tt, queued_plain r more)
+queued_plain r (Set (change.NoContact user address) ∷ more) = (tt, queued_plain r more)
+queued_plain r (Set (change.Sees a b now) ∷ more) = (tt, queued_plain r more)
+queued_plain r (Set (change.Asked a b now) ∷ more) = (tt, queued_plain r more)
+queued_plain r (Set (change.Available s stanza priority) ∷ more) = (refl, queued_plain r more)
+queued_plain r (Set (change.Unavailable s) ∷ more) = (refl, queued_plain r more)
+queued_plain r (Set (change.Directed s addresses) ∷ more) = (refl, queued_plain r more)
+
+departs_plain : (r : Ear) (k : World KeptTraffic) (s : ℕ) (cause : Cause) → not r.part ≡ true → AllPlain r (departs k s cause)
+departs_plain r k s cause is =
+    (refl, plain_append r (map effect_of (departure k s)) (On s Part ∷ []) (queued_plain r (departure k s)) (is, tt))
 
 pub replaces_plain : (r : Ear) (k : Kept) (o : Option ℕ) → not r.part ≡ true → AllPlain r (replaces k o)
 replaces_plain r k None is = tt
-replaces_plain r k (Some s) is = departs_plain r s (Replaced (k.world.made + 1)) is
+replaces_plain r k (Some s) is = departs_plain r k.world s (Replaced (k.world.made + 1)) is
 
 binds_plain : (r : Ear) (has : Bool) (k : Kept) (w c : ℕ) (a : Address) (id : List ℕ) → not r.begin ≡ true → not r.part ≡ true
     → AllPlain r (binds has k w c a id).effects
@@ -91,10 +106,6 @@ resumes_plain r None k w c u h is = (tt, tt)
 resumes_plain r (Some id) k w c u h is =
     resumes_by_plain r (is_known k id u (k.world.sessions id.session)) (k.world.sessions id.session).hold w c id.session
     h id (k.world.sessions id.session).traffic is
-
-pub queued_plain : (r : Ear) (es : List stanza.Effect) → AllPlain r (map queued es)
-queued_plain r [] = tt
-queued_plain r (Queue s to rest origin ∷ more) = (refl, queued_plain r more)
 
 acts_plain : (r : Ear) (k : Kept) (s : ℕ) (x : Stanza) → not r.act ≡ true → AllPlain r (acts k s x).effects
 acts_plain r k s x is =
@@ -139,9 +150,9 @@ logs_in_plain : (r : Ear) (place : Option ℕ) (w : ℕ) → AllPlain r (logs_in
 logs_in_plain r None w = tt
 logs_in_plain r (Some place) w = (tt, tt)
 
-sweeps_plain : (r : Ear) (s : Option ℕ) → not r.part ≡ true → AllPlain r (sweeps s).effects
-sweeps_plain r None is = tt
-sweeps_plain r (Some s) is = departs_plain r s Lost is
+sweeps_plain : (r : Ear) (k : World KeptTraffic) (s : Option ℕ) → not r.part ≡ true → AllPlain r (sweeps k s).effects
+sweeps_plain r k None is = tt
+sweeps_plain r k (Some s) is = departs_plain r k s Lost is
 
 pub gate_plain : (r : Ear) (k : Kept) (e : Event) (n : Needs) (w : ℕ) → AllPlain r (body k e Waits).effects
     → ((c u : ℕ) → AllPlain r (body k e (Knows c u)).effects)
@@ -173,7 +184,7 @@ verdict_plain r k (event.DropLine w t) is =
     leaves_plain r (k.world.lines w).stage w (left k (k.world.lines w).stage) (left_plain r k (k.world.lines w).stage)
 verdict_plain r k (event.CloseLine w t) is =
     leaves_plain r (k.world.lines w).stage w (closed (k.world.lines w).stage) (closed_plain r (k.world.lines w).stage)
-verdict_plain r k (event.Sweep w t) is = sweeps_plain r (due k) is
+verdict_plain r k (event.Sweep w t) is = sweeps_plain r k.world (due k) is
 verdict_plain r k (event.Login w user) is =
     gate_plain r k (event.Login w user) to_login w (logs_in_plain r _ w) (λ c u. tt) (λ c s. tt)
 verdict_plain r k (event.Bind w id resource t dice) is =

@@ -12,10 +12,10 @@ use Rattle.sm_account.specs.Accounts.{IsOneOf}
 use Rattle.sm_account.specs.Logs.{log_of}
 use Rattle.sm_account.proofs.Logs.{log_append, IsNumbered, numbered_step, counts_stay}
 use Rattle.house_model.specs.declared.event.Event.TheVariants as event
-use Rattle.house_model.specs.Sessions.{Op, Push, Pull, Request, Enable, Ack, Tell, Act, Drop, Resume, End, Part}
+use Rattle.house_model.specs.Sessions.{Op, Push, Pull, Request, Enable, Ack, Tell, Act, Drop, Resume, End, Part, Marks}
 use Rattle.house_model.specs.Traffic.{Traffic, whole}
 use Rattle.house_model.specs.States.{World, State, keep}
-use Rattle.house_model.specs.Effects.{Effect, Open, At, Begin, On, apply}
+use Rattle.house_model.specs.Effects.{Effect, Open, At, Begin, On, Note, apply}
 use Rattle.house_model.specs.Steps.{verdict, turn}
 use Rattle.house_model.specs.Histories.{Turn, Made, Short, Legal, IsOpening}
 use Rattle.house_model.specs.Sound.{Sound}
@@ -157,11 +157,13 @@ op_no_short s (Drop t) = one_no_short s one.Drop tt
 op_no_short s (Resume w c h) = one_no_short s (one.Resume c h) tt
 op_no_short s (End cause) = one_no_short s one.End tt
 op_no_short s Part = refl
+op_no_short s (Marks mark) = refl
 
 effect_no_short : (k : ℕ) (world : World Traffic) (e : Effect) (s : Core Stanza)
     → log_of one_shorts s (effect_ops k world e) ≡ []
 effect_no_short k world (Open w) s = refl
 effect_no_short k world (At w op) s = refl
+effect_no_short k world (Note change) s = refl
 effect_no_short k world (Begin w c a) s =
     quiet_if one_shorts (eqb k (world.made + 1)) (one.Begin c ∷ []) s (one_no_short s (one.Begin c) tt)
 effect_no_short k world (On j op) s = quiet_if one_shorts (eqb k j) (op_ops op) s (op_no_short s op)

@@ -1,6 +1,6 @@
 -- What comes of a stanza that a stream can bring is small.
-use Rattle.std.proofs.Common.{◌≡◌, ℕ, ◌+◌, ◌≤◌, inl, inr, List, [], ◌∷◌, ◌++◌, length, Option, Some, None, Bool, true, false, codes, refl, sym, subst, arith, length-append, if◌then◌else◌, cond}
-use Rattle.std.specs.Prelude.{IfSome}
+use Rattle.std.proofs.Common.{◌≡◌, ℕ, ◌+◌, ◌≤◌, inl, inr, List, [], ◌∷◌, ◌++◌, length, Option, Some, None, Bool, true, false, codes, refl, sym, ap, subst, arith, length-append, if◌then◌else◌, cond}
+use Rattle.std.specs.Prelude.{IfSome, unwrap_or}
 use Rattle.std.specs.List.{AllByRecursion}
 use Rattle.std.specs.Option.{option_map}
 use Rattle.std.proofs.lemmas.Grind.{common_steps}
@@ -13,6 +13,7 @@ use Rattle.stanza_tree.specs.declared.node.Attr.{Attr}
 use Rattle.stanza_tree.specs.declared.node.Element.{Element}
 use Rattle.stanza_tree.proofs.Bounds.{length-frame, length-text-sent-le, length-value_text-le}
 use Rattle.jid_core.specs.Addresses.{Address, bare, local_text, resource_text, address_text}
+use Rattle.stanza_model.specs.Errors.{plain_attr}
 use Rattle.stanza_model.specs.Kinds.{message_form, presence_form, iq_form}
 use Rattle.stanza_model.specs.Stanzas.{kind_of, type_of, id_of, address_in, is_unreadable, has_wrong_content, faulty, unless_unreadable, presence_by, iq_by, stanza_as, to_in, id_in, element_in}
 use Rattle.stanza_model.specs.declared.condition.Condition.TheVariants.{BadRequest, JidMalformed}
@@ -26,11 +27,18 @@ use Rattle.stanza_model.specs.declared.stanza.Stanza.{Stanza}
 use Rattle.stanza_model.specs.declared.stanza.Stanza.TheVariants.{Message, Presence, Iq, Faulty}
 use Rattle.stanza_model.proofs.StanzaLemmas.{stanza_of-element}
 use Rattle.stanza_router.specs.Messages.{addressed, copied}
-use Rattle.house_model.specs.Fitting.{IsSmall, AreSmall}
+use Rattle.presence_core.specs.Broadcasts as broadcasts
+use Rattle.presence_core.specs.Broadcasts.{asked_by, presence_from, request_from}
+use Rattle.presence_core.specs.Copies.{presence_text}
+use Rattle.house_model.specs.Fitting.{IsSmall, AreSmall, IsShortAddress, IsShortScene}
 use Rattle.house_model.specs.Histories.{IsSent, IsShortId, IsShortFault, StanzaFits}
-use Rattle.house_model.specs.Routing.{Scene, here, effects_in}
+use Rattle.house_model.specs.Lookups.{here}
+use Rattle.house_model.specs.Presences.{asking}
+use Rattle.house_model.specs.Routing.{Scene, departure, effects_in}
 use Rattle.house_model.proofs.EffectCases.{effects_all}
-use Rattle.house_model.proofs.ReplySizes.{spelt_length, under-parts, error-reply-le, empty-reply-le}
+use Rattle.house_model.proofs.Founds.{IsHere}
+use Rattle.house_model.proofs.PresenceCases.{departure_all}
+use Rattle.house_model.proofs.ReplySizes.{spelt_length, under-le, under-parts, plain-attributes, plain-declared, error-reply-le, empty-reply-le}
 use Rattle.house_model.proofs.DiscoverySizes.{discovery-le}
 
 -- The value of an attribute is a part of the text.
@@ -171,13 +179,67 @@ all-small : (es : List Effect) → AllByRecursion IsSmall es → AreSmall es
 all-small [] all = tt
 all-small (e ∷ es) all = (all.0, all-small es all.1)
 
-pub stanza_small : (o : Scene) (s : ℕ) (st : Stanza) → StanzaFits st → length (address_text (o.world.sessions s).rest.address) ≤ 3071
-    → IfSome (to_in st) (λ a. length (address_text a) ≤ 3071) → AreSmall (effects_in o s st)
-stanza_small o s st fits own to =
+-- Presence. A copy, and the presence of another session, has its address and a text that is short.
+shown-small : (to rest : List ℕ) → length to ≤ 3071 → length rest ≤ 30000
+    → length (frame (record { to = to; rest = rest; origin = Direct })) ≤ 524288
+shown-small to rest own short =
+    omega (arith, own, short, length-frame (record { to = to; rest = rest; origin = Direct }), length-value_text-le to)
+
+kept-small : (p : Option (List ℕ)) → IfSome p (λ t. length t ≤ 16384) → length (unwrap_or p []) ≤ 30000
+kept-small None short = omega arith
+kept-small (Some p) short = omega (arith, short)
+
+here-short : (o : Scene) (h : Here) → IsShortScene o → IsHere o.world h → IsShortAddress h.address
+here-short o h short is = subst (λ (x : Here). IsShortAddress x.address) (sym is.seen) (short.addresses h.session)
+
+presence-le : (x : Address) (form : List ℕ) → IsShortAddress x → length form ≤ 11 → length (text (presence_from x form)) ≤ 30000
+presence-le x form short few =
+    omega (
+      arith,
+      short,
+      few,
+      under-le client_space client_space (codes "presence")
+          (plain_attr (codes "from") (address_text x) ∷ plain_attr (codes "type") form ∷ []) [],
+      plain-attributes (codes "from") (address_text x) (plain_attr (codes "type") form ∷ []),
+      plain-attributes (codes "type") form [],
+      ap length (plain-declared (codes "from") (address_text x) (plain_attr (codes "type") form ∷ [])),
+      ap length (plain-declared (codes "type") form []),
+      length-value_text-le (address_text x),
+      length-value_text-le form,
+    )
+
+request-le : (x : Address) → IsShortAddress x → length (text (request_from x)) ≤ 500000
+request-le x short = (let few = presence-le x (codes "subscribe") short (omega arith) in omega (arith, few))
+
+asked-small : (who : Here) (xs : List Address) → IsShortAddress who.address → AllByRecursion IsShortAddress xs
+    → AllByRecursion (λ x. IsSmall (asked_by who x)) xs
+asked-small who [] own all = tt
+asked-small who (x ∷ xs) own all = (said-small who (request_from x) (request-le x all.0) own, asked-small who xs own all.1)
+
+pub stanza_small : (o : Scene) (s : ℕ) (st : Stanza) → StanzaFits st → IsShortScene o → IfSome (to_in st) IsShortAddress
+    → AreSmall (effects_in o s st)
+stanza_small o s st fits short to =
+    let own : IsShortAddress (o.world.sessions s).rest.address = short.addresses s in
     let id : spelt_length (id_in st) ≤ 196608 = id-small st fits in
     all-small (effects_in o s st) (effects_all o s st IsSmall (record {
       refusal = λ condition. said-small (here o.world s) _ (error-reply-le st condition to id) own;
       result = said-small (here o.world s) _ (empty-reply-le st to id) own;
       found = λ place. said-small (here o.world s) _ (discovery-le place st to id) own;
       copy = λ e h is found. copy-small (here o.world s) h (to_in st) e (element-small st e fits is) own to;
+      presence = λ e h small is. shown-small (address_text h.address) (presence_text (here o.world s) e) (here-short o h short is) (omega (arith, small));
+      show = λ h is.
+          shown-small (address_text (here o.world s).address) _ own
+          (kept-small (o.world.sessions h.session).rest.manner.presence (short.presences h.session));
+      asked = λ user. asked-small (here o.world s) (asking o.domain o.world user) own (short.asking user);
+      shows = λ e priority small. small;
+      hides = tt;
+      directs = λ addresses. tt;
     }))
+
+-- Departure.
+pub departure_small : (o : Scene) (s : ℕ) → IsShortScene o → AreSmall (departure o.world s)
+departure_small o s short =
+    all-small (departure o.world s) (departure_all o.world s IsSmall
+    (λ h is. shown-small (address_text h.address) (text (broadcasts.departure (here o.world s))) (here-short o h short is)
+    (presence-le (here o.world s).address (codes "unavailable") (short.addresses s) (omega arith)))
+    tt (λ addresses. tt))

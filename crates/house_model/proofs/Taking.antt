@@ -19,7 +19,7 @@ use Rattle.house_model.specs.States.{State, Kept, keep}
 use Rattle.house_model.specs.Effects.{At, Say, Close}
 use Rattle.house_model.specs.Gate.{Verdict, Holds, to_act, to_ask, most_answers, is_full, flooded, left, gate_at}
 use Rattle.house_model.specs.Routing.{effects}
-use Rattle.house_model.specs.Steps.{queued, asks, body, turn}
+use Rattle.house_model.specs.Steps.{effect_of, asks, body, turn}
 use Rattle.house_model.specs.Histories.{Made, Short}
 use Rattle.house_model.specs.Sound.{Sound}
 use Rattle.house_model.specs.Bridge.{core_of, effects_ops, short_at}
@@ -68,7 +68,7 @@ stage_taken k w x t st kept (Fresh c) o is = refl
 stage_taken k w x t st kept (Logged c u) o is = refl
 stage_taken k w x t st kept (Bound c s) o is =
     heard act_ear log.takes k w c s st (Act x) (one.Act x)
-    (map queued (effects kept s x))
+    (map effect_of (effects kept s x))
     (λ c. record { connection = c; stanza = x } ∷ []) takes_quiet
     (queued_plain act_ear (effects kept s x)) refl o is
     (λ held. held_takes (st.world.sessions k).counts _ c x held)
@@ -127,7 +127,7 @@ stage_done k w x t st kept (Fresh c) o is = refl
 stage_done k w x t st kept (Logged c u) o is = refl
 stage_done k w x t st kept (Bound c s) o is =
     heard act_ear log.does k w c s st (Act x) (one.Act x)
-    (map queued (effects kept s x))
+    (map effect_of (effects kept s x))
     (λ c. x ∷ []) does_quiet
     (queued_plain act_ear (effects kept s x)) refl o is
     (λ held. held_does (st.world.sessions k).counts _ c x held)

@@ -4,23 +4,24 @@ use Rattle.std.specs.Prelude.{map, nat_lt, slice_get, ◌&&◌, ⊤}
 use Rattle.jid_core.specs.Addresses.{Address}
 use Rattle.stanza_tree.specs.declared.frame.Entry.{Entry}
 use Rattle.stanza_model.specs.declared.effect.Effect as stanza
-use Rattle.stanza_model.specs.declared.effect.Effect.TheVariants.{Queue}
+use Rattle.stanza_model.specs.declared.effect.Effect.TheVariants.{Queue, Set}
+use Rattle.stanza_model.specs.declared.effect.Change.TheVariants as change
 use Rattle.stanza_model.specs.declared.stanza.Stanza.{Stanza}
-use Rattle.sm_resume.specs.declared.decision.Cause.TheVariants.{Flood}
+use Rattle.sm_resume.specs.declared.decision.Cause.TheVariants.{Flood, Replaced}
 use Rattle.sm_resume.specs.declared.id.ResumeId.{ResumeId}
 use Rattle.session_table.specs.declared.line.Line as stage
 use Rattle.session_table.specs.declared.line.Line.TheVariants.{Empty, Fresh, Logged, Bound, Over}
 use Rattle.house_model.specs.declared.answer.Answer.{Answer}
 use Rattle.house_model.specs.declared.event.Event.{Event}
 use Rattle.house_model.specs.declared.event.Event.TheVariants as event
-use Rattle.house_model.specs.Sessions.{Hold, Held, Away, Ended, Gone, Session}
+use Rattle.house_model.specs.Sessions.{Hold, Held, Away, Ended, Gone, Session, End, Part}
 use Rattle.house_model.specs.Traffic.{KeptTraffic, brief, kept_sent}
-use Rattle.house_model.specs.States.{Kept}
-use Rattle.house_model.specs.Effects.{Effect, Open, At, Begin, Say, Leave, Close}
+use Rattle.house_model.specs.States.{Kept, World}
+use Rattle.house_model.specs.Effects.{Effect, Open, At, Begin, Say, Leave, Close, On}
 use Rattle.house_model.specs.Gate.{Verdict, Waits, Knows, Holds, Needs, to_login, to_bind, to_manage, to_act, to_ask, to_pull, most_answers, left, closed, gate_at}
 use Rattle.house_model.specs.Lookups.{session_at}
-use Rattle.house_model.specs.Routing.{effects}
-use Rattle.house_model.specs.Steps.{logs_in, replaces, binds, enables, takes, resumes_by, is_known, resumes, queued, acts, acks, asks, requests, gives_entry, pulls, leaves, sweeps, due, body, verdict}
+use Rattle.house_model.specs.Routing.{departure, effects}
+use Rattle.house_model.specs.Steps.{logs_in, replaces, binds, enables, takes, resumes_by, is_known, resumes, effect_of, acts, acks, asks, requests, gives_entry, pulls, leaves, sweeps, due, body, verdict}
 use Rattle.house_model.specs.Histories.{opened_by}
 use Rattle.house_model.proofs.GateLemmas.{gate_leads}
 
@@ -63,10 +64,35 @@ logs_in_silent : (place : Option ℕ) (w : ℕ) → IsSilent (logs_in w place)
 logs_in_silent (Some place) w = record { opened = refl; text = refl }
 logs_in_silent None w = record { opened = refl; text = refl }
 
+queued_opens : (es : List stanza.Effect) → opens_in (map effect_of es) ≡ 0
+queued_opens [] = refl
+queued_opens (Queue s to rest origin ∷ more) = omega (arith, queued_opens more)
+queued_opens (Set (change.WantsRoster s) ∷ more) = omega (arith, queued_opens more)
+queued_opens (Set (change.Pushed s pushes) ∷ more) = omega (arith, queued_opens more)
+queued_opens (Set (change.Contact user address name groups) ∷ more) = omega (arith, queued_opens more)
+queued_opens (Set (change.NoContact user address) ∷ more) = omega (arith, queued_opens more)
+queued_opens (Set (change.Sees a b now) ∷ more) = omega (arith, queued_opens more)
+queued_opens (Set (change.Asked a b now) ∷ more) = omega (arith, queued_opens more)
+queued_opens (Set (change.Available s stanza priority) ∷ more) = omega (arith, queued_opens more)
+queued_opens (Set (change.Unavailable s) ∷ more) = omega (arith, queued_opens more)
+queued_opens (Set (change.Directed s addresses) ∷ more) = omega (arith, queued_opens more)
+
+opens_append : (xs ys : List Effect) → opens_in (xs ++ ys) ≡ opens_in xs + opens_in ys
+opens_append [] ys = omega arith
+opens_append (x ∷ xs) ys = omega (arith, opens_append xs ys)
+
 replaces_opens : (s : Option ℕ) (k : Kept) (w c : ℕ) (a : Address) (answer : Answer)
     → opens_in (replaces k s ++ (Begin w c a ∷ At w (Say answer) ∷ [])) ≡ 0
 replaces_opens None k w c a answer = refl
-replaces_opens (Some s) k w c a answer = refl
+replaces_opens (Some s) k w c a answer =
+    let more : List Effect = Begin w c a ∷ At w (Say answer) ∷ [] in
+    let told : List Effect = map effect_of (departure k.world s) in
+    omega (
+      arith,
+      opens_append (On s (End (Replaced (k.world.made + 1))) ∷ told ++ On s Part ∷ []) more,
+      opens_append told (On s Part ∷ []),
+      queued_opens (departure k.world s),
+    )
 
 binds_silent : (has : Bool) (k : Kept) (w c : ℕ) (a : Address) (id : List ℕ) → IsSilent (binds has k w c a id)
 binds_silent false k w c a id = record { opened = refl; text = refl }
@@ -95,10 +121,6 @@ resumes_silent (Some id) k w c u h =
     resumes_by_silent (is_known k id u (k.world.sessions id.session)) (k.world.sessions id.session).hold w c
     id.session h id (k.world.sessions id.session).traffic
 
-queued_opens : (es : List stanza.Effect) → opens_in (map queued es) ≡ 0
-queued_opens [] = refl
-queued_opens (Queue s to rest origin ∷ more) = omega (arith, queued_opens more)
-
 acts_silent : (k : Kept) (s : ℕ) (x : Stanza) → IsSilent (acts k s x)
 acts_silent k s x = record {
   opened = omega (arith, queued_opens (effects k s x));
@@ -113,9 +135,12 @@ asks_silent : (counts : Bool) (w s : ℕ) (t : KeptTraffic) → IsSilent (asks c
 asks_silent true w s t = record { opened = refl; text = refl }
 asks_silent false w s t = record { opened = refl; text = refl }
 
-sweeps_silent : (s : Option ℕ) → IsSilent (sweeps s)
-sweeps_silent None = record { opened = refl; text = refl }
-sweeps_silent (Some s) = record { opened = refl; text = refl }
+sweeps_silent : (k : World KeptTraffic) (s : Option ℕ) → IsSilent (sweeps k s)
+sweeps_silent k None = record { opened = refl; text = refl }
+sweeps_silent k (Some s) = record {
+  opened = omega (arith, opens_append (map effect_of (departure k s)) (On s Part ∷ []), queued_opens (departure k s));
+  text = refl;
+}
 
 -- a Pull gives a text, and opens no connection
 requests_opens : (owed : Bool) (k : Kept) (s : ℕ) → opens_in (requests owed k s).effects ≡ 0
@@ -198,7 +223,7 @@ verdict_silent k (event.DropLine w t) is =
 verdict_silent k (event.CloseLine w t) is =
     leaves_silent (k.world.lines w).stage w (closed (k.world.lines w).stage)
     (closed_opens (k.world.lines w).stage (At w Leave))
-verdict_silent k (event.Sweep w t) is = sweeps_silent (due k)
+verdict_silent k (event.Sweep w t) is = sweeps_silent k.world (due k)
 
 pub verdict_opens : (k : Kept) (e : Event) → opens_in (verdict k e).effects ≡ opened_by e
 verdict_opens k (event.OpenLine w) = left_opens k (k.world.lines w).stage (Open w)

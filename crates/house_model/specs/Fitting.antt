@@ -1,14 +1,20 @@
 -- What every list of effects of a stanza keeps to.
-use Rattle.std.specs.Prelude.{◌≡◌, ℕ, ◌<◌, ◌≤◌, List, [], ◌∷◌, length, ⊤}
+use Rattle.std.specs.Prelude.{◌≡◌, ℕ, ◌<◌, ◌≤◌, List, [], ◌∷◌, length, IfSome, ⊤}
+use Rattle.std.specs.List.{AllByRecursion}
+use Rattle.jid_core.specs.Addresses.{Address, address_text}
 use Rattle.stanza_tree.specs.Entries.{frame}
 use Rattle.stanza_tree.specs.declared.frame.Origin.TheVariants.{Direct}
 use Rattle.stanza_model.specs.declared.effect.Effect.{Effect}
-use Rattle.stanza_model.specs.declared.effect.Effect.TheVariants.{Queue}
+use Rattle.stanza_model.specs.declared.effect.Effect.TheVariants.{Queue, Set}
+use Rattle.stanza_model.specs.declared.effect.Change.{Change}
+use Rattle.stanza_model.specs.declared.effect.Change.TheVariants.{WantsRoster, Pushed, Available, Unavailable, Directed}
+use Rattle.house_model.specs.Presences.{asking}
+use Rattle.house_model.specs.Routing.{Scene}
 use Rattle.house_model.specs.Sessions.{Gone}
 use Rattle.house_model.specs.Traffic.{Traffic, whole}
 use Rattle.house_model.specs.States.{World}
 use Rattle.house_model.specs.Effects.{apply}
-use Rattle.house_model.specs.Steps.{queued}
+use Rattle.house_model.specs.Steps.{effect_of}
 
 -- a session of this number was made, and is not gone
 pub record IsInHouse (s : ℕ) (world : World Traffic) : Type 0 where
@@ -16,19 +22,40 @@ pub record IsInHouse (s : ℕ) (world : World Traffic) : Type 0 where
   pub made : s ≤ world.made
   pub stays : (world.sessions s).hold ≡ Gone → ⊥
 
+-- each session that a change names is in the house
+abbrev pub ChangeFits : World Traffic → Change → Type 0
+ChangeFits world (WantsRoster s) = IsInHouse s world
+ChangeFits world (Pushed s pushes) = IsInHouse s world
+ChangeFits world (Available s stanza priority) = IsInHouse s world
+ChangeFits world (Unavailable s) = IsInHouse s world
+ChangeFits world (Directed s addresses) = IsInHouse s world
+ChangeFits world change = ⊤
+
 -- what an effect names is in the house, and a stanza is queued as itself, not as an item of a room
 abbrev pub EffectFits : World Traffic → Effect → Type 0
 EffectFits world (Queue s to rest origin) = IsInHouse s world × (origin ≡ Direct)
+EffectFits world (Set c) = ChangeFits world c
 
 -- each effect, in the state in which its turn comes
 abbrev pub AllFit : World Traffic → List Effect → Type 0
 AllFit world [] = ⊤
-AllFit world (e ∷ more) = EffectFits world e × AllFit (apply whole world (queued e)) more
+AllFit world (e ∷ more) = EffectFits world e × AllFit (apply whole world (effect_of e)) more
 
--- what is queued has at most so many bytes as a frame
+-- what is queued has at most so many bytes as a frame, and a presence that is kept so many
 abbrev pub IsSmall : Effect → Type 0
+IsSmall (Set (Available s stanza priority)) = length stanza ≤ 16384
+IsSmall (Set c) = ⊤
 IsSmall (Queue s to rest origin) = length (frame (record { to = to; rest = rest; origin = origin })) ≤ 524288
 
 abbrev pub AreSmall : List Effect → Type 0
 AreSmall [] = ⊤
 AreSmall (e ∷ more) = IsSmall e × AreSmall more
+
+abbrev pub IsShortAddress : Address → Type 0
+IsShortAddress a = length (address_text a) ≤ 3071
+
+-- what the rules on stanzas read is short: the address of each session, and of each who has asked, and each presence that is kept
+pub record IsShortScene (o : Scene) : Type 0 where
+  pub addresses : (s : ℕ) → IsShortAddress (o.world.sessions s).rest.address
+  pub asking : (own : List ℕ) → AllByRecursion IsShortAddress (asking o.domain o.world own)
+  pub presences : (s : ℕ) → IfSome (o.world.sessions s).rest.manner.presence (λ p. length p ≤ 16384)

@@ -8,6 +8,7 @@ pub mod Histories
 pub mod Lines
 pub mod Lookups
 pub mod Numbered
+pub mod Presences
 pub mod Promises
 pub mod Requests
 pub mod Resuming

@@ -1,6 +1,7 @@
 -- Which sessions and users the house finds. All is read off what the code keeps.
-use Rattle.std.specs.Prelude.{ℕ, List, position, bytes_eq, Option, Some, None, is_some, Bool, true, false, ◌&&◌, if◌then◌else◌}
+use Rattle.std.specs.Prelude.{ℕ, List, map, position, bytes_eq, Option, Some, None, is_some, Bool, true, false, ◌&&◌, if◌then◌else◌}
 use Rattle.jid_core.specs.Addresses.{Address, same_address, same_part}
+use Rattle.stanza_model.specs.declared.here.Here.{Here}
 use Rattle.house_model.specs.Numbered.{least, all_passing}
 use Rattle.house_model.specs.Sessions.{Hold, Held, Away, Ended, Gone, Session}
 use Rattle.house_model.specs.Traffic.{KeptTraffic}
@@ -49,6 +50,25 @@ is_of user s = is_there s && (goes_on s.hold && same_part s.rest.address.local (
 -- the sessions of a user that go on, by number
 abbrev pub numbers_of : World KeptTraffic → (user : List ℕ) → List ℕ
 numbers_of world user = all_passing world.made (λ s. is_of user (world.sessions s))
+
+-- all sessions that go on, by number
+abbrev pub numbers_going : World KeptTraffic → List ℕ
+numbers_going world = all_passing world.made (λ s. is_there (world.sessions s) && goes_on (world.sessions s).hold)
+
+-- a session as the rules on stanzas see it
+abbrev pub here : World KeptTraffic → ℕ → Here
+here world s = record {
+  session = s;
+  address = (world.sessions s).rest.address;
+  available = is_some (world.sessions s).rest.manner.presence;
+  priority = (world.sessions s).rest.manner.priority;
+  wants_roster = (world.sessions s).rest.manner.wants_roster;
+  pushes = (world.sessions s).rest.manner.pushes;
+}
+
+-- the sessions of a user that go on
+abbrev pub sessions_of : World KeptTraffic → (user : List ℕ) → List Here
+sessions_of world user = map (here world) (numbers_of world user)
 
 -- which users there are
 

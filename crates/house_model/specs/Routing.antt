@@ -1,17 +1,19 @@
 -- What comes of a stanza, by its kind and the place that it is for (RFC 6120, 10; RFC 6121, 8.5). The rows of each table go from the top
 -- down, and the first that fits decides. All is read off what the code keeps.
-use Rattle.std.specs.Prelude.{ℕ, pos, List, [], ◌∷◌, map, Bool, true, false, ◌||◌, codes, Option, Some, None, is_some, if◌then◌else◌}
+use Rattle.std.specs.Prelude.{ℕ, nat_lt, List, [], ◌∷◌, Bool, true, false, ◌||◌, codes, Option, Some, None, is_some, if◌then◌else◌}
 use Rattle.jid_core.specs.Addresses.{Address}
 use Rattle.stanza_tree.specs.Children.{child_of}
 use Rattle.stanza_tree.specs.declared.node.Element.{Element}
 use Rattle.stanza_model.specs.Replies.{result_of, said_to, refused}
 use Rattle.stanza_model.specs.Stanzas.{to_in}
 use Rattle.stanza_model.specs.declared.condition.Condition.{Condition}
-use Rattle.stanza_model.specs.declared.condition.Condition.TheVariants.{BadRequest, ItemNotFound, NotAllowed, RemoteServerNotFound, ServiceUnavailable}
+use Rattle.stanza_model.specs.declared.condition.Condition.TheVariants.{BadRequest, ItemNotFound, NotAcceptable, NotAllowed, RemoteServerNotFound, ServiceUnavailable}
 use Rattle.stanza_model.specs.declared.effect.Effect.{Effect}
 use Rattle.stanza_model.specs.declared.here.Here.{Here}
 use Rattle.stanza_model.specs.declared.kinds.MessageForm.{MessageForm}
 use Rattle.stanza_model.specs.declared.kinds.MessageForm.TheVariants.{Groupchat}
+use Rattle.stanza_model.specs.declared.kinds.PresenceForm.{PresenceForm}
+use Rattle.stanza_model.specs.declared.kinds.PresenceForm.TheVariants.{Available, Unavailable, Error}
 use Rattle.stanza_model.specs.declared.stanza.Stanza.{Stanza}
 use Rattle.stanza_model.specs.declared.stanza.Stanza.TheVariants.{Message, Presence, Iq, Faulty}
 use Rattle.stanza_router.specs.Discovery.{discovery}
@@ -19,7 +21,10 @@ use Rattle.stanza_router.specs.Messages.{copied, deliveries, receivers_of}
 use Rattle.stanza_router.specs.Places.{place_of}
 use Rattle.stanza_router.specs.declared.places.Place.{Place}
 use Rattle.stanza_router.specs.declared.places.Place.TheVariants.{Account, Server, User, UserAt, Service, Room, RoomAt, Foreign}
-use Rattle.house_model.specs.Lookups.{live_at, numbers_of, has_user}
+use Rattle.presence_core.specs.Broadcasts.{available, unavailable}
+use Rattle.presence_core.specs.DirectedPresence.{directed}
+use Rattle.house_model.specs.Lookups.{live_at, has_user, here, sessions_of}
+use Rattle.house_model.specs.Presences.{asking, directed_by, length_sent, most_of_presence, named, shown, watchers}
 use Rattle.house_model.specs.Requests.{pings, begins_session, binds_resource, discovers, asks_a_room}
 use Rattle.house_model.specs.States.{World, Kept}
 use Rattle.house_model.specs.Traffic.{KeptTraffic}
@@ -32,17 +37,6 @@ pub record Scene : Type 0 where
 
 abbrev pub scene_of : Kept → Scene
 scene_of k = record { domain = k.head.domain.domain; users = k.head.users; world = k.world }
-
--- a session as those rules see it. Presence is not built yet: nobody is available, and nobody asks for a roster.
-abbrev pub here : World KeptTraffic → ℕ → Here
-here world s = record {
-  session = s;
-  address = (world.sessions s).rest.address;
-  available = false;
-  priority = pos 0;
-  wants_roster = false;
-  pushes = 0;
-}
 
 -- the session that goes on at the address of a session
 abbrev pub live_for : World KeptTraffic → Place → Option Address → Option ℕ
@@ -61,7 +55,7 @@ user_in own place = None
 -- whom a message finds: the session at its address, or those that RFC 6121 chooses among the user's
 abbrev pub chosen : World KeptTraffic → MessageForm → Place → Option (List ℕ) → List Here
 chosen world form place None = []
-chosen world form place (Some user) = receivers_of form place (map (here world) (numbers_of world user))
+chosen world form place (Some user) = receivers_of form place (sessions_of world user)
 
 abbrev pub receivers : World KeptTraffic → MessageForm → Place → Option (List ℕ) → Option ℕ → List Here
 receivers world form place user (Some s) = here world s ∷ []
@@ -147,17 +141,67 @@ iq world who st to e (Room room) = to_room who st (Room room)
 iq world who st to e (RoomAt room nick) = refused who st ServiceUnavailable
 iq world who st to e Foreign = refused who st RemoteServerNotFound
 
--- Presence is not built yet. A faulty stanza is refused, wherever it goes.
-abbrev pub effects_at : List (List ℕ) → World KeptTraffic → (own : List ℕ) → Here → Stanza → Place → List Effect
-effects_at users world own who (Message to form e) place = message users world own who (Message to form e) form e place
-effects_at users world own who (Presence to form e) place = []
-effects_at users world own who (Iq to id form e) place = iq world who (Iq to id form e) to e place
-effects_at users world own who (Faulty kind to id answered condition) place = refused who (Faulty kind to id answered condition) condition
+-- Presence.
+
+-- RFC 6121, 4.2 to 4.5: for those who see the sender
+abbrev pub broadcast : Scene → (own : List ℕ) → Here → Stanza → PresenceForm → List Effect
+broadcast o own who st Available = available who st (watchers o.world own who) (shown o.world own who) (asking o.domain o.world own)
+broadcast o own who st Unavailable = unavailable who (Some st) (watchers o.world own who) (named o.world (directed_by o.world who))
+broadcast o own who st form = refused who st BadRequest
+
+-- RFC 6121, 4.6: to a user, where it has an account
+abbrev pub directed_if : Bool → World KeptTraffic → Here → Stanza → List Here → List Effect
+directed_if true world who st receivers = directed who st receivers (directed_by world who)
+directed_if false world who st receivers = []
+
+abbrev pub directed_to : Scene → (own : List ℕ) → Here → Stanza → Place → List Here → List Effect
+directed_to o own who st place receivers = directed_if (has_account o.users (user_in own place) receivers) o.world who st receivers
+
+-- RFC 6121, 8.5.3.1: an error goes to a session alone
+abbrev pub error_to : World KeptTraffic → Here → Address → Element → Option ℕ → List Effect
+error_to world who to e (Some s) = copied who (Some to) e (here world s) ∷ []
+error_to world who to e None = []
+
+-- subscriptions are not built yet
+abbrev pub to_user : Scene → (own : List ℕ) → Here → Stanza → Address → PresenceForm → Element → Place → List Effect
+to_user o own who st to Available e place = directed_to o own who st place (named o.world (to ∷ []))
+to_user o own who st to Unavailable e place = directed_to o own who st place (named o.world (to ∷ []))
+to_user o own who st to Error e place = error_to o.world who to e (live_for o.world place (Some to))
+to_user o own who st to form e place = []
+
+-- XEP-0045, 7.2: there are no rooms yet, and none can be made
+abbrev pub to_be_in_room : Here → Stanza → PresenceForm → List Effect
+to_be_in_room who st Available = refused who st ServiceUnavailable
+to_be_in_room who st form = []
+
+abbrev pub to_address : Scene → (own : List ℕ) → Here → Stanza → Address → PresenceForm → Element → Place → List Effect
+to_address o own who st to form e Account = to_user o own who st to form e Account
+to_address o own who st to form e (User user) = to_user o own who st to form e (User user)
+to_address o own who st to form e (UserAt user resource) = to_user o own who st to form e (UserAt user resource)
+to_address o own who st to form e (Room room) = to_be_in_room who st form
+to_address o own who st to form e (RoomAt room nick) = to_be_in_room who st form
+to_address o own who st to form e place = []
+
+abbrev pub presence_to : Scene → (own : List ℕ) → Here → Stanza → Option Address → PresenceForm → Element → Place → List Effect
+presence_to o own who st None form e place = broadcast o own who st form
+presence_to o own who st (Some to) form e place = to_address o own who st to form e place
+
+abbrev pub presence : Scene → (own : List ℕ) → Here → Stanza → Option Address → PresenceForm → Element → Place → List Effect
+presence o own who st to form e place =
+    if nat_lt most_of_presence (length_sent who to e) then refused who st NotAcceptable else presence_to o own who st to form e place
+
+-- Every stanza. A faulty one is refused, wherever it goes.
+
+abbrev pub effects_at : Scene → (own : List ℕ) → Here → Stanza → Place → List Effect
+effects_at o own who (Message to form e) place = message o.users o.world own who (Message to form e) form e place
+effects_at o own who (Presence to form e) place = presence o own who (Presence to form e) to form e place
+effects_at o own who (Iq to id form e) place = iq o.world who (Iq to id form e) to e place
+effects_at o own who (Faulty kind to id answered condition) place = refused who (Faulty kind to id answered condition) condition
 
 -- RFC 6120, 7: the address of a session has a local part, which is its user's
 abbrev pub effects_by : Option (List ℕ) → Scene → Here → Stanza → List Effect
 effects_by None o who st = []
-effects_by (Some own) o who st = effects_at o.users o.world own who st (place_of own o.domain (to_in st))
+effects_by (Some own) o who st = effects_at o own who st (place_of own o.domain (to_in st))
 
 abbrev pub effects_in : Scene → ℕ → Stanza → List Effect
 effects_in o s st = effects_by (here o.world s).address.local o (here o.world s) st
@@ -165,3 +209,12 @@ effects_in o s st = effects_by (here o.world s).address.local o (here o.world s)
 -- the effects of a stanza of a session
 abbrev pub effects : Kept → ℕ → Stanza → List Effect
 effects k s st = effects_in (scene_of k) s st
+
+-- Departure. RFC 6121, 4.5.2: those who see a session, or were sent its presence alone, are told by the server that it is gone
+
+abbrev pub departure_by : Option (List ℕ) → World KeptTraffic → Here → List Effect
+departure_by None world who = []
+departure_by (Some own) world who = unavailable who None (watchers world own who) (named world (directed_by world who))
+
+abbrev pub departure : World KeptTraffic → ℕ → List Effect
+departure world s = departure_by (here world s).address.local world (here world s)

@@ -1,5 +1,5 @@
 -- A session and what happens to it, over the whole traffic of the definition and over what is kept of it alike.
-use Rattle.std.specs.Prelude.{ℕ, [], Option, Some, None, Bool, true, false}
+use Rattle.std.specs.Prelude.{ℕ, ℤ, pos, List, [], Option, Some, None, Bool, true, false}
 use Rattle.stanza_tree.specs.declared.frame.Entry.{Entry}
 use Rattle.stanza_model.specs.declared.stanza.Stanza.{Stanza}
 use Rattle.jid_core.specs.Addresses.{Address}
@@ -14,11 +14,23 @@ pub data Hold : Type 0 where
   Ended : (cause : Cause) → Hold
   Gone : Hold
 
+-- what its client told of itself, and was told of its roster (RFC 6121, 2.1.6, 4.2 and 4.6)
+pub record Manner : Type 0 where
+  pub presence : Option (List ℕ)  -- its presence, while it is available
+  pub priority : ℤ
+  pub directed : List Address  -- to whom it sent presence alone
+  pub wants_roster : Bool  -- it asked for its roster
+  pub pushes : ℕ  -- how many changes of it were queued
+
+abbrev pub silent : Manner
+silent = record { presence = None; priority = pos 0; directed = []; wants_roster = false; pushes = 0 }
+
 -- what counting does not speak of
 pub record Rest : Type 0 where
   pub address : Address
   pub resume_id : Option ResumeId  -- the id by which it is resumed, where the client asked for one
   pub deadline : Option ℕ  -- the moment from which it is swept, where no connection holds it
+  pub manner : Manner
 
 -- A session: whether its stanzas are counted (XEP-0198, 3), who holds it, its traffic, and the rest.
 pub record Session (T : Type 0) : Type 0 where
@@ -50,7 +62,7 @@ abbrev pub nobody : Address
 nobody = record { local = None; domain = []; resource = None }
 
 abbrev pub nowhere : Rest
-nowhere = record { address = nobody; resume_id = None; deadline = None }
+nowhere = record { address = nobody; resume_id = None; deadline = None; manner = silent }
 
 -- A session that is not made yet is a value too. What is kept of one that departed is the same.
 abbrev pub gone : {T : Type 0} → T → Session T
@@ -63,6 +75,24 @@ unmade z = gone z.none
 abbrev pub begun : {T : Type 0} → Ways T → (line conn : ℕ) → Address → Session T
 begun z w c address = session false (Held w c) z.none (record nowhere { address = address })
 
+-- what changes in its manner
+pub data Mark : Type 0 where
+  Shown : (stanza : List ℕ) → (priority : ℤ) → Mark
+  Hidden : Mark
+  Directs : (addresses : List Address) → Mark
+  WantsRoster : Mark
+  Pushed : (pushes : ℕ) → Mark
+
+abbrev pub marked : Mark → Manner → Manner
+marked (Shown stanza priority) m = record m { presence = Some stanza; priority = priority }
+marked Hidden m = record m { presence = None; priority = pos 0 }
+marked (Directs addresses) m = record m { directed = addresses }
+marked WantsRoster m = record m { wants_roster = true }
+marked (Pushed pushes) m = record m { pushes = pushes }
+
+abbrev pub with_mark : Mark → Rest → Rest
+with_mark mark r = record r { manner = marked mark r.manner }
+
 pub data Op : Type 0 where
   Push : (entry : Entry) → Op  -- an entry is queued
   Pull : Op  -- the next entry is given
@@ -74,6 +104,7 @@ pub data Op : Type 0 where
   Drop : (deadline : ℕ) → Op
   Resume : (line conn count : ℕ) → Op
   End : (cause : Cause) → Op
+  Marks : (mark : Mark) → Op  -- its client told something, or was told
   Part : Op
 
 abbrev pub over : {T : Type 0} → Bool → T → Rest → Cause → Session T
@@ -109,6 +140,9 @@ step_if z true (Held v d) t r (Drop deadline) = session true Away t (record r { 
 step_if z true (Held v d) t r (Resume w c h) = resumed (z.resume t h) (Held v d) t r w c
 step_if z true Away t r (Resume w c h) = resumed (z.resume t h) Away t r w c
 step_if z b (Ended cause) t r Part = z.part b t r
+step_if z b (Held v d) t r (Marks mark) = session b (Held v d) t (with_mark mark r)
+step_if z true Away t r (Marks mark) = session true Away t (with_mark mark r)
+step_if z b (Ended cause) t r (Marks mark) = session b (Ended cause) t (with_mark mark r)
 step_if z b m t r op = session b m t r
 
 abbrev pub session_step : {T : Type 0} → Ways T → Session T → Op → Session T

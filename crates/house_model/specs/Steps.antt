@@ -4,7 +4,9 @@ use Rattle.stanza_tree.specs.declared.frame.Entry.{Entry}
 use Rattle.stanza_tree.specs.Entries.{frame}
 use Rattle.jid_core.specs.Addresses.{Address, same_bare, address_text}
 use Rattle.stanza_model.specs.declared.effect.Effect as stanza
-use Rattle.stanza_model.specs.declared.effect.Effect.TheVariants.{Queue}
+use Rattle.stanza_model.specs.declared.effect.Effect.TheVariants as effect
+use Rattle.stanza_model.specs.declared.effect.Change.{Change}
+use Rattle.stanza_model.specs.declared.effect.Change.TheVariants as change
 use Rattle.stanza_model.specs.declared.stanza.Stanza.{Stanza}
 use Rattle.sm_resume.specs.declared.decision.Cause.{Cause}
 use Rattle.sm_resume.specs.declared.decision.Cause.TheVariants.{Replaced, Lost}
@@ -20,11 +22,11 @@ use Rattle.house_model.specs.declared.reply.Reply.TheVariants as reply
 use Rattle.house_model.specs.Answers.{answer_text, request_text}
 use Rattle.house_model.specs.Numbered.{least, passing}
 use Rattle.house_model.specs.Lookups.{is_there, is_at, session_at, user_place}
-use Rattle.house_model.specs.Routing.{effects}
-use Rattle.house_model.specs.Sessions.{Hold, Held, Away, Ended, Session, Push, Pull, Request, Enable, Ack, Tell, Act, Resume, End, Part, Ways}
+use Rattle.house_model.specs.Routing.{departure, effects}
+use Rattle.house_model.specs.Sessions.{Hold, Held, Away, Ended, Session, Push, Pull, Request, Enable, Ack, Tell, Act, Resume, End, Part, Marks, WantsRoster, Pushed, Shown, Hidden, Directs, Ways}
 use Rattle.house_model.specs.Traffic.{KeptTraffic, kept_sent, kept_inward, brief}
-use Rattle.house_model.specs.States.{Head, House, Kept}
-use Rattle.house_model.specs.Effects.{Effect, Open, At, Begin, On, Log, Say, Said, Leave, Close, apply_all}
+use Rattle.house_model.specs.States.{Head, House, Kept, World}
+use Rattle.house_model.specs.Effects.{Effect, Open, At, Begin, On, Note, Log, Say, Said, Leave, Close, apply_all}
 use Rattle.house_model.specs.Gate.{Verdict, does, only, gives, Pass, Stop, Free, Waits, Knows, Holds, left, closed, gate}
 
 -- OpenLine: what is at the line is left, and the next connection is there
@@ -36,9 +38,18 @@ abbrev pub logs_in : ℕ → Option ℕ → Verdict
 logs_in w None = only reply.NoUser
 logs_in w (Some place) = does reply.Done (At w (Log place) ∷ [])
 
--- Departure: the session ends, and is there no more. It is over with this cause, unless it was over already.
-abbrev pub departs : (s : ℕ) → Cause → List Effect
-departs s cause = On s (End cause) ∷ On s Part ∷ []
+-- what is set, and what is queued
+abbrev pub set : Change → Effect
+set (change.WantsRoster s) = On s (Marks WantsRoster)
+set (change.Pushed s pushes) = On s (Marks (Pushed pushes))
+set (change.Available s stanza priority) = On s (Marks (Shown stanza priority))
+set (change.Unavailable s) = On s (Marks Hidden)
+set (change.Directed s addresses) = On s (Marks (Directs addresses))
+set change = Note change
+
+abbrev pub effect_of : stanza.Effect → Effect
+effect_of (effect.Queue s to rest origin) = On s (Push (record { to = to; rest = rest; origin = origin }))
+effect_of (effect.Set c) = set c
 
 -- Bind: RFC 6120, 7.6 and 7.7. The address is the user's, with the resource asked for or with the dice as 32 hexadecimal digits.
 abbrev pub hex_digit : ℕ → ℕ
@@ -67,9 +78,13 @@ has_place k a =
     nat_lt (passing k.world.made (λ s. is_there (k.world.sessions s) && not (is_at a (k.world.sessions s)))) most_sessions
     && nat_lt (passing k.world.made (λ s. is_there (k.world.sessions s) && (same_bare (k.world.sessions s).rest.address a && not (is_at a (k.world.sessions s))))) most_of_user
 
+-- Departure: the session ends, others are told, and it is there no more. It is over with this cause, unless it was over already.
+abbrev pub departs : World KeptTraffic → (s : ℕ) → Cause → List Effect
+departs world s cause = (On s (End cause) ∷ map effect_of (departure world s)) ++ On s Part ∷ []
+
 abbrev pub replaces : Kept → Option ℕ → List Effect
 replaces k None = []
-replaces k (Some s) = departs s (Replaced (k.world.made + 1))
+replaces k (Some s) = departs k.world s (Replaced (k.world.made + 1))
 
 abbrev pub binds : Bool → Kept → (w conn : ℕ) → Address → List ℕ → Verdict
 binds false k w c a id = does reply.Done (At w (Say (answer.Refused id)) ∷ [])
@@ -110,11 +125,8 @@ resumes k w c user (Some id) h =
     resumes_by (is_known k id user (k.world.sessions id.session)) (k.world.sessions id.session).hold w c id.session h id (k.world.sessions id.session).traffic
 
 -- Act: the stanza counts as acted on, whatever comes of it
-abbrev pub queued : stanza.Effect → Effect
-queued (Queue s to rest origin) = On s (Push (record { to = to; rest = rest; origin = origin }))
-
 abbrev pub acts : Kept → ℕ → Stanza → Verdict
-acts k s x = does reply.Done (On s (Act x) ∷ map queued (effects k s x))
+acts k s x = does reply.Done (On s (Act x) ∷ map effect_of (effects k s x))
 
 -- Ack: XEP-0198, 4
 abbrev pub ack_reply : Option KeptTraffic → Cause → Reply
@@ -173,9 +185,9 @@ leaves Empty w effects = only reply.Absent
 leaves g w effects = does reply.Done (effects ++ At w Leave ∷ [])
 
 -- Sweep: the session of least number that is over or past its deadline departs
-abbrev pub sweeps : Option ℕ → Verdict
-sweeps None = only (reply.Nothing false)
-sweeps (Some s) = does (reply.Swept s) (departs s Lost)
+abbrev pub sweeps : World KeptTraffic → Option ℕ → Verdict
+sweeps world None = only (reply.Nothing false)
+sweeps world (Some s) = does (reply.Swept s) (departs world s Lost)
 
 abbrev pub body : Kept → Event → Pass → Verdict
 body k e (Stop v) = v
@@ -192,7 +204,7 @@ body k (event.Ask w) (Holds c s) = asks (k.world.sessions s).counts w s (k.world
 body k (event.Pull w t) pass = pulls k w (k.world.lines w).answers pass
 body k (event.DropLine w t) Free = leaves (k.world.lines w).stage w (left k (k.world.lines w).stage)
 body k (event.CloseLine w t) Free = leaves (k.world.lines w).stage w (closed (k.world.lines w).stage)
-body k (event.Sweep w t) Free = sweeps (due k)
+body k (event.Sweep w t) Free = sweeps k.world (due k)
 body k e pass = only reply.Unready
 
 abbrev pub verdict : Kept → Event → Verdict

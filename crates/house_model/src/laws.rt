@@ -5,20 +5,21 @@ ghost use Rattle.stanza_tree.specs.Entries.{frame};
 ghost use Rattle.stanza_tree.specs.Spelling.{text};
 ghost use Rattle.stanza_tree.specs.declared.frame.Entry.{Entry};
 ghost use Rattle.stanza_tree.specs.declared.node.Element.{Element};
-ghost use Rattle.jid_core.specs.Addresses.{Address, address_text};
+ghost use Rattle.jid_core.specs.Addresses.{Address};
 ghost use Rattle.stanza_model.specs.Stanzas.{to_in};
 ghost use Rattle.stanza_model.specs.declared.condition.Condition.{Condition};
 ghost use Rattle.stanza_model.specs.declared.kinds.Kind.{Kind};
 ghost use Rattle.stanza_model.specs.declared.stanza.Stanza.{Stanza};
+ghost use Rattle.sm_resume.specs.declared.decision.Cause.{Cause};
 ghost use Rattle.session_table.specs.declared.line.Line.TheVariants.{Bound};
 ghost use Rattle.house_model.specs.declared.event.Event.{Event};
 ghost use Rattle.house_model.specs.declared.event.Event.TheVariants as event;
 ghost use Rattle.house_model.specs.Traffic.{Traffic, whole, brief};
 ghost use Rattle.house_model.specs.States.{World, State, Kept, keep, keep_world};
 ghost use Rattle.house_model.specs.Effects.{Effect, On, apply, apply_all};
-ghost use Rattle.house_model.specs.Sessions.{Act};
-ghost use Rattle.house_model.specs.Routing.{Scene, effects, effects_in};
-ghost use Rattle.house_model.specs.Fitting.{AreSmall, AllFit};
+ghost use Rattle.house_model.specs.Sessions.{Act, End};
+ghost use Rattle.house_model.specs.Routing.{Scene, departure, effects, effects_in};
+ghost use Rattle.house_model.specs.Fitting.{AreSmall, AllFit, IsInHouse, IsShortAddress, IsShortScene};
 ghost use Rattle.house_model.specs.Steps.{verdict, turn};
 ghost use Rattle.house_model.specs.Histories.{Turn, step, kept_step, StanzaFits, GivesNoText, after, kept_next_by, openings, Allowed, Legal, IsOpening, StandsFor};
 ghost use Rattle.house_model.specs.Sound.{Sound, Back, Fits};
@@ -67,17 +68,21 @@ pub fn pulls_alone_give_texts()
     ensures { (st : State) (e : Event) → GivesNoText e → (step st e).text ≡ [] }
 {}
 
-/// What comes of a stanza that a stream can bring has at most 524,288 bytes as frames, each, where the sender's address and the
-/// stanza's have at most 3,071.
+/// What comes of a stanza that a stream can bring, and of a departure, has at most 524,288 bytes as frames, each, and a presence that
+/// is kept 16,384, where addresses have at most 3,071, and presences that were kept 16,384.
 pub fn effects_are_small()
-    ensures { (o : Scene) (s : ℕ) (stanza : Stanza) → StanzaFits stanza → length (address_text (o.world.sessions s).rest.address) ≤ 3071
-        → IfSome (to_in stanza) (λ a. length (address_text a) ≤ 3071) → AreSmall (effects_in o s stanza) }
+    ensures stanza { (o : Scene) (s : ℕ) (stanza : Stanza) → StanzaFits stanza → IsShortScene o → IfSome (to_in stanza) IsShortAddress
+        → AreSmall (effects_in o s stanza) }
+    ensures departure { (o : Scene) (s : ℕ) → IsShortScene o → AreSmall (departure o.world s) }
 {}
 
-/// Each session that the effects of a stanza name is in the house when their turn comes, and no stanza is queued as an item of a room.
+/// Each session that the effects of a stanza, or of a departure, name is in the house when their turn comes, and no stanza is queued as an
+/// item of a room.
 pub fn effects_fit()
-    ensures { (o : State) (h : List Turn) (w c s t : ℕ) (x : Stanza) → IsOpening o → ((after o h).world.lines w).stage ≡ Bound c s
+    ensures stanza { (o : State) (h : List Turn) (w c s t : ℕ) (x : Stanza) → IsOpening o → ((after o h).world.lines w).stage ≡ Bound c s
         → AllFit (apply whole (after o h).world (On s (Act x))) (effects (keep (turn (event.Act w x t) (after o h))) s x) }
+    ensures departure { (o : State) (h : List Turn) (s : ℕ) (cause : Cause) → IsOpening o → IsInHouse s (after o h).world
+        → AllFit (apply whole (after o h).world (On s (End cause))) (departure (keep_world (after o h).world) s) }
 {}
 
 /// What a client that counts has handled, over all connections of its session, is a prefix of what was queued for it since

@@ -8,6 +8,8 @@ mod laws;
 mod lines;
 mod output;
 mod place;
+#[cfg(test)]
+mod presence_tests;
 mod replay;
 mod run;
 #[cfg(test)]

@@ -31,7 +31,7 @@ done
 // What Alice sends, her next frame, and Bob's.
 type Row<'a> = (&'a [u8], &'a [u8], &'a [u8]);
 
-const ROWS: [Row; 20] = [
+const ROWS: [Row; 26] = [
     (
         b"<iq type='get' id='p1' to='carol@example.org/x'><ping xmlns='urn:xmpp:ping'/></iq>",
         b"frame <iq to='alice@example.org/desk' from='carol@example.org/x' id='p1' type='error'><error type='cancel'><service-unavailable xmlns='urn:ietf:params:xml:ns:xmpp-stanzas'/></error></iq>",
@@ -122,7 +122,37 @@ const ROWS: [Row; 20] = [
         b"frame <iq to='alice@example.org/desk' from='tea@rooms.example.org' id='p' type='error'><error type='cancel'><item-not-found xmlns='urn:ietf:params:xml:ns:xmpp-stanzas'/></error></iq>",
         b"nothing",
     ),
-    (b"<presence/>", b"nothing", b"nothing"),
+    (
+        b"<presence/>",
+        b"frame <presence to='alice@example.org/desk' from='alice@example.org/desk'/>",
+        b"nothing",
+    ),
+    (
+        b"<presence><priority>128</priority></presence>",
+        b"frame <presence to='alice@example.org/desk' type='error'><error type='modify'><bad-request xmlns='urn:ietf:params:xml:ns:xmpp-stanzas'/></error></presence>",
+        b"nothing",
+    ),
+    (
+        b"<presence type='subscribe'/>",
+        b"frame <presence to='alice@example.org/desk' type='error'><error type='modify'><bad-request xmlns='urn:ietf:params:xml:ns:xmpp-stanzas'/></error></presence>",
+        b"nothing",
+    ),
+    (
+        b"<presence to='Bob@example.org/home'><status>tea</status></presence>",
+        b"nothing",
+        b"frame <presence to='bob@example.org/home' from='alice@example.org/desk'><status>tea</status></presence>",
+    ),
+    (b"<presence to='bob@example.org'/>", b"nothing", b"nothing"),
+    (
+        b"<presence to='bob@example.org/home' type='error'/>",
+        b"nothing",
+        b"frame <presence to='bob@example.org/home' type='error' from='alice@example.org/desk'/>",
+    ),
+    (
+        b"<presence to='tea@rooms.example.org/alice'/>",
+        b"frame <presence to='alice@example.org/desk' from='tea@rooms.example.org/alice' type='error'><error type='cancel'><service-unavailable xmlns='urn:ietf:params:xml:ns:xmpp-stanzas'/></error></presence>",
+        b"nothing",
+    ),
     (
         b"<presence type='odd'/>",
         b"frame <presence to='alice@example.org/desk' type='error'><error type='modify'><bad-request xmlns='urn:ietf:params:xml:ns:xmpp-stanzas'/></error></presence>",

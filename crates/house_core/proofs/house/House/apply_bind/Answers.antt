@@ -53,7 +53,7 @@ pub bind-requires-clause-small : goal.bind-requires-clause-small
 bind-requires-clause-small c =
     let h = c.self.inside in
     let turns : h.turns ≡ c.args.self.now.turns = ap (λ (x : HouseRecord). x.turns) c.self.view_is in
-    few_later h.turns 18446744073709551614 c.check.new.self.table (c.check.ensures.few h.turns c.self.invariant.counted) (omega (arith, turns, c.requires.turns))
+    few_later h.turns 18446744073709546615 c.check.new.self.table (c.check.ensures.few h.turns c.self.invariant.counted) (omega (arith, turns, c.requires.turns))
 
 pub invariant_of-self-in_default : goal.invariant_of-self-in_default
 invariant_of-self-in_default c =

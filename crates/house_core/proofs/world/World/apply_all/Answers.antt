@@ -2,11 +2,12 @@ use Rattle.std.proofs.Common.{◌≡◌, List, [], map, sym, subst, ◌∙◌, a
 use Rattle.std.proofs.lemmas.List.{nil_from_length}
 use Rattle.stanza_model.specs.declared.effect.Effect.{Effect}
 use Rattle.house_model.specs.Fitting.{AreSmall}
-use Rattle.house_model.specs.Steps.{queued}
-use Rattle.house_core.specs.Readiness.{AreReady}
+use Rattle.house_model.specs.Steps.{effect_of}
+use Rattle.house_core.specs.Readiness.{AreOfSessions, AreReady}
 use Rattle.house_core.specs.Worlds.{Did}
 use Rattle.house_core.proofs.DidLemmas.{did_none}
 use Rattle.house_core.proofs.ReadyLemmas.{applied_first, ready_first, ready_rest}
+use Rattle.house_core.proofs.StayLemmas.{stays_then}
 use Rattle.house_core.proofs.WorldLemmas.{few_later}
 use Rattle.house_core.proofs.world.World.apply_all.Goals as goal
 
@@ -34,15 +35,17 @@ loop-effect-preserved c =
       ready = ready_rest e more before.table after.table
           (subst (λ (es : List Effect). AreReady es before.table) first was.ready) c.apply.ensures.room;
       short = (subst AreSmall first was.short).1;
+      sessions = (subst AreOfSessions first was.sessions).1;
+      stays = stays_then c.args.self.now before after was.stays c.apply.ensures.stays;
       all = λ b rest. was.all b
           (applied_first e more c.loop-effect.effect-iterator.rest.items before after b first did rest);
     }
 
-pub returns : goal.returns
-returns c =
+pub returns-clause-did : goal.returns-clause-did
+returns-clause-did c =
     let a = c.args.self.now in
     let b = c.loop-effect.self in
     let rest = c.loop-effect.effect-iterator.rest in
     let done : rest.items ≡ [] = nil_from_length rest.items (sym rest.ok.0 ∙ c.in-None.ensures.steps.0) in
     c.loop-effect.invariant.all b
-    (subst (λ (es : List Effect). Did (map queued es) 0 b b) (sym done) (did_none b c.loop-effect.invariant.tied))
+    (subst (λ (es : List Effect). Did (map effect_of es) 0 b b) (sym done) (did_none b c.loop-effect.invariant.tied))

@@ -1,10 +1,10 @@
 use Rattle.std.proofs.Common.{◌≡◌, ◌-◌, ◌^◌, length, map}
 use Rattle.house_model.specs.Fitting.{AreSmall}
-use Rattle.house_model.specs.Steps.{queued}
+use Rattle.house_model.specs.Steps.{effect_of}
 use Rattle.house_core.specs.declared.world.World as code
-use Rattle.house_core.specs.Readiness.{AreReady}
+use Rattle.house_core.specs.Readiness.{AreOfSessions, AreReady}
 use Rattle.house_core.specs.Wholes.{IsFew, IsTied}
-use Rattle.house_core.specs.Worlds.{Did}
+use Rattle.house_core.specs.Worlds.{Did, Stays}
 use Rattle.house_core.proofs.world.World.apply_all.Given as goal
 
 abbrev pub invariant-loop-effect : goal.invariant-loop-effect
@@ -16,6 +16,8 @@ invariant-loop-effect l = record {
   small : IsFew (2 ^ 64 - 5001) l.self.table;
   ready : AreReady l.effect-iterator.rest.items l.self.table;
   short : AreSmall l.effect-iterator.rest.items;
-  all : (b : code.World) → Did (map queued l.effect-iterator.rest.items) 0 l.self b
-      → Did (map queued l.fn.effects.items) 0 l.fn.self b;
+  sessions : AreOfSessions l.effect-iterator.rest.items;
+  stays : Stays l.fn.self l.self;
+  all : (b : code.World) → Did (map effect_of l.effect-iterator.rest.items) 0 l.self b
+      → Did (map effect_of l.fn.effects.items) 0 l.fn.self b;
 }

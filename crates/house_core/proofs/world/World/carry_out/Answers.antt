@@ -1,7 +1,7 @@
 use Rattle.std.proofs.Common.{[], ◌∷◌, map, sym, ◌∙◌}
 use Rattle.house_model.specs.Effects.{On}
 use Rattle.house_model.specs.Sessions.{Act}
-use Rattle.house_model.specs.Steps.{queued}
+use Rattle.house_model.specs.Steps.{effect_of}
 use Rattle.house_core.specs.Readiness.{needed}
 use Rattle.house_core.proofs.DidLemmas.{did_then}
 use Rattle.house_core.proofs.ReadyLemmas.{some_stanza}
@@ -23,5 +23,5 @@ apply_all-requires-clause-ready c = λ s. c.act.ensures.room (needed s c.args.ef
 
 pub returns : goal.returns
 returns c = λ stanza.
-    did_then (On c.args.s (Act stanza) ∷ []) (map queued c.args.effects.items) 1 0
-    c.args.self.now c.act.new.self c.apply_all.new.self (c.act.ensures.did stanza) c.apply_all.ensures
+    did_then (On c.args.s (Act stanza) ∷ []) (map effect_of c.args.effects.items) 1 0
+    c.args.self.now c.act.new.self c.apply_all.new.self (c.act.ensures.did stanza) c.apply_all.ensures.did

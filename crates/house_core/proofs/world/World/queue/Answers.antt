@@ -5,6 +5,7 @@ use Rattle.session_table.specs.declared.life.Life.TheVariants.{Live}
 use Rattle.session_table.specs.Sessions.{SessionRecord}
 use Rattle.house_core.proofs.PartLemmas.{push_did}
 use Rattle.house_core.proofs.ReadyLemmas.{spare_pushed}
+use Rattle.house_core.proofs.StayLemmas.{stays_with}
 use Rattle.house_core.proofs.world.World.queue.Goals as goal
 
 pub returns-in-Some-clause-did : goal.returns-in-Some-clause-did
@@ -20,3 +21,8 @@ returns-in-Some-clause-queues c = λ n r has.
     let there = sym c.session_mut.ensures.there ∙ ap option_copied_mut c.in-Some.is in
     spare_pushed c.args.s n r c.args.self.now.table c.in-Some.session.now c.add.new.session c.args.entry there
     c.add.ensures has
+
+pub returns-in-Some-clause-stays : goal.returns-in-Some-clause-stays
+returns-in-Some-clause-stays c =
+    let there = sym c.session_mut.ensures.there ∙ ap option_copied_mut c.in-Some.is in
+    stays_with c.args.self.now c.args.s c.in-Some.session.now c.add.new.session there (ap (λ (x : SessionRecord). x.state) c.add.ensures)

@@ -1,9 +1,10 @@
 use Rattle.std.proofs.Common.{◌∙◌}
+use Rattle.house_core.specs.Listings.{is_users}
 use Rattle.house_core.proofs.ListedLemmas.{listed_end, listed_is}
 use Rattle.house_core.proofs.world.World.sessions_of.Goals as goal
 
 pub returns : goal.returns
 returns c =
-    listed_end c.loop-number.found.items c.args.user.now c.loop-number.number-iterator c.args.self.now.table.sessions c.in-None.ensures.steps.0
-    c.loop-number.invariant.done
+    listed_end c.loop-number.found.items (is_users c.args.user.now) c.loop-number.number-iterator c.args.self.now.table.sessions
+    c.in-None.ensures.steps.0 c.loop-number.invariant.done
     ∙ listed_is c.args.self.now c.args.user.now c.requires c.session.ensures.rises

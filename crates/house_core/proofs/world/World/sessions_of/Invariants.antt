@@ -1,10 +1,10 @@
 use Rattle.std.proofs.Common.{◌≡◌, ◌++◌}
-use Rattle.house_core.specs.Listings.{listed}
+use Rattle.house_core.specs.Listings.{is_users, listed}
 use Rattle.house_core.proofs.world.World.sessions_of.Given as goal
 
 abbrev pub invariant-loop-number : goal.invariant-loop-number
 invariant-loop-number l = record {
   can_next : (goal.iterator-loop-number).can_next l.number-iterator;
   is_finite : (goal.iterator-loop-number).is_finite l.number-iterator;
-  done : l.found.items ++ listed l.user l.number-iterator ≡ listed l.fn.user l.fn.self.table.sessions;
+  done : l.found.items ++ listed (is_users l.user) l.number-iterator ≡ listed (is_users l.fn.user) l.fn.self.table.sessions;
 }

@@ -4,12 +4,12 @@ use Rattle.session_table.specs.Tables.{IsFirst, first_due}
 use Rattle.house_core.proofs.SweepLemmas.{nothing_ends, swept_ends}
 use Rattle.house_core.proofs.world.World.sweep.Goals as goal
 
-pub returns-in_default : goal.returns-in_default
-returns-in_default c = λ k w t world now.
+pub returns-in_default-clause-done : goal.returns-in_default-clause-done
+returns-in_default-clause-done c = λ k w t world now.
     nothing_ends k w t c.due.result c.args.self.now c.requires.tied world c.in_default.is
     (subst (λ (m : ℕ). IsFirst (λ x. is_due m x ≡ true) c.args.self.now.table c.due.result) (sym now) c.due.ensures.first)
 
-pub returns : goal.returns
-returns c = λ k w t world now.
-    swept_ends k w t c.in-Some.s c.args.self.now c.depart.new.self c.session.ensures.rises world
-    (ap (λ (m : ℕ). first_due m c.args.self.now.table.sessions) now ∙ sym c.in-Some.ensures.number) c.depart.ensures.did
+pub returns-clause-done : goal.returns-clause-done
+returns-clause-done c = λ k w t world now.
+    swept_ends k w t c.in-Some.s c.args.self.now c.sweep_away.new.self c.sweep_away.ensures.rises world
+    (ap (λ (m : ℕ). first_due m c.args.self.now.table.sessions) now ∙ sym c.in-Some.ensures.number) c.in_ok-sweep_away.ensures.did

@@ -1,6 +1,6 @@
 use Rattle.std.proofs.Common.{◌≡◌, ◌+◌, ◌≤◌, drop}
 use Rattle.house_core.specs.Readiness.{needed}
-use Rattle.house_core.proofs.applying.needed.Given as goal
+use Rattle.house_core.proofs.reserving.needed.Given as goal
 
 abbrev pub invariant-loop-effect : goal.invariant-loop-effect
 invariant-loop-effect l = record {

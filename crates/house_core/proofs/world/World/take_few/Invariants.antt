@@ -2,7 +2,7 @@ use Rattle.std.proofs.Common.{ℕ, ◌<◌, [], drop}
 use Rattle.house_core.specs.Readiness.{needed}
 use Rattle.house_core.specs.Wholes.{HasSpare, IsHeldBy, IsTied}
 use Rattle.house_core.specs.Worlds.{Did}
-use Rattle.house_core.proofs.world.World.prepare.Given as goal
+use Rattle.house_core.proofs.world.World.take_few.Given as goal
 
 abbrev pub invariant-loop-effect : goal.invariant-loop-effect
 invariant-loop-effect l = record {

@@ -1,7 +1,7 @@
 use Rattle.std.proofs.Common.{[]}
 use Rattle.house_core.proofs.DidLemmas.{did_then}
 use Rattle.house_core.proofs.ReadyLemmas.{ready_step}
-use Rattle.house_core.proofs.world.World.prepare.Goals as goal
+use Rattle.house_core.proofs.world.World.take_few.Goals as goal
 
 pub returns-in_err-take_for-clause-same : goal.returns-in_err-take_for-clause-same
 returns-in_err-take_for-clause-same c =

@@ -1,0 +1,167 @@
+//! The sessions that the rules on stanzas see, and how they see them.
+ghost use Rattle.std.specs.Prelude.{◌≡◌, not, true, IfOk, IfSome, Some};
+ghost use Rattle.std.specs.List.{list_any};
+ghost use Rattle.std.specs.Option.{option_copied};
+ghost use Rattle.house_model.specs.Lookups.{goes_on, here, live_at, sessions_of};
+ghost use Rattle.house_model.specs.Presences.{directed_by, named, names};
+ghost use Rattle.house_model.specs.Routing.{live_for};
+ghost use Rattle.session_table.specs.Sessions.{is_over};
+ghost use Rattle.session_table.specs.Tables.{is_there};
+ghost use Rattle.house_core.specs.Listings.{here_from, is_named, is_users};
+ghost use Rattle.house_core.specs.Wholes.{IsTied};
+ghost use Rattle.house_core.specs.Worlds.{seen};
+
+use crate::world::World;
+use jid_core::{Jid, Part};
+use session_table::{Life, Session};
+use stanza_model::Here;
+use stanza_router::Place;
+use stanza_tree::NoMemory;
+use std::alloc::Global;
+
+/// A session as the rules on stanzas see it.
+fn here_of(alloc: Global, number: u64, session: &Session) -> Result<Here, NoMemory>
+    ensures { IfOk result (λ h. h ≡ here_from number session.now) }
+{
+    Ok(Here {
+        session: number,
+        address: session.address().copy(alloc)?,
+        available: session.presence.is_some(),
+        priority: session.priority,
+        wants_roster: session.wants_roster,
+        pushes: session.pushes,
+    })
+}
+
+/// Whether a session goes on.
+fn is_going(session: &Session) -> bool
+    ensures { result ≡ not (is_over session.now.state) }
+{
+    match session.state() {
+        Life::Live => true,
+        Life::Over(_) => false,
+    }
+}
+
+/// Whether a session goes on and is the user's.
+fn is_users(user: &Part, session: &Session) -> bool
+    ensures { result ≡ is_users user.now session.now }
+{
+    match &session.address().local {
+        Some(local) => session.state() == Life::Live && local.bytes() == user.bytes(),
+        None => false,
+    }
+}
+
+/// Whether an address names a session (RFC 6121, 4.6.4).
+fn names(session: &Session, address: &Jid) -> bool
+    ensures { result ≡ names (here_from 0 session.now) address.now }
+{
+    if address.resource.is_some() {
+        session.address().is_same(address)
+    } else {
+        session.presence.is_some() && session.address().is_same_bare(address)
+    }
+}
+
+fn is_named_among(addresses: &[Jid], session: &Session) -> bool
+    ensures { result ≡ list_any (λ a. names (here_from 0 session.now) a) addresses.now }
+{
+    addresses.iter().any(|address| names(session, address))
+}
+
+/// Whether a session goes on and is named by one of these addresses.
+fn is_named(addresses: &[Jid], session: &Session) -> bool
+    ensures { result ≡ is_named addresses.now session.now }
+{
+    is_going(session) && is_named_among(addresses, session)
+}
+
+impl World {
+    /// Whether a session that is there goes on.
+    fn is_live(&self, s: u64) -> bool
+        requires there { is_there s self.now.table ≡ true }
+        ensures { result ≡ goes_on ((seen self.now).sessions s).hold }
+    {
+        match self.table.session(s) {
+            Some(session) => session.state() == Life::Live,
+            None => false,
+        }
+    }
+
+    /// The session at an address, where it goes on.
+    fn live_at(&self, address: &Jid) -> Option<u64>
+        requires tied { IsTied self.now.table }
+        ensures live { result ≡ live_at (seen self.now) address.now }
+        ensures there { IfSome result (λ s. is_there s self.now.table ≡ true) }
+    {
+        let _ = self.table.session(0);
+        match self.table.at(address) {
+            Some(s) if self.is_live(s) => Some(s),
+            _ => None,
+        }
+    }
+
+    /// The session that goes on at the address of a session.
+    pub(crate) fn live_for(&self, place: &Place, to: Option<&Jid>) -> Option<u64>
+        requires tied { IsTied self.now.table }
+        ensures live { result ≡ live_for (seen self.now) place.now (option_copied to.entry) }
+        ensures there { IfSome result (λ s. is_there s self.now.table ≡ true) }
+    {
+        match (place, to) {
+            (Place::UserAt(_, _), Some(to)) => self.live_at(to),
+            _ => None,
+        }
+    }
+
+    /// A session that is there, as the rules on stanzas see it.
+    pub(crate) fn here(&self, alloc: Global, s: u64) -> Result<Option<Here>, NoMemory>
+        requires { is_there s self.now.table ≡ true }
+        ensures { IfOk result (λ h. h ≡ Some (here (seen self.now) s)) }
+    {
+        match self.table.session(s) {
+            Some(session) => Ok(Some(here_of(alloc, s, session)?)),
+            None => Ok(None),
+        }
+    }
+
+    /// The sessions of a user that go on.
+    pub(crate) fn sessions_of(&self, alloc: Global, user: &Part) -> Result<Vec<Here>, NoMemory>
+        requires { IsTied self.now.table }
+        ensures { IfOk result (λ found. found.items ≡ sessions_of (seen self.now) user.now) }
+    {
+        let _ = self.table.session(0);
+        let mut found = Vec::new(alloc);
+        for (number, session) in self.table.sessions() {
+            if is_users(user, session) {
+                found.push(here_of(alloc, *number, session)?)?;
+            }
+        }
+        Ok(found)
+    }
+
+    /// The sessions that these addresses name. Costs a look at each address for each session.
+    pub(crate) fn named(&self, alloc: Global, addresses: &[Jid]) -> Result<Vec<Here>, NoMemory>
+        requires { IsTied self.now.table }
+        ensures { IfOk result (λ found. found.items ≡ named (seen self.now) addresses.now) }
+    {
+        let _ = self.table.session(0);
+        let mut found = Vec::new(alloc);
+        for (number, session) in self.table.sessions() {
+            if is_named(addresses, session) {
+                found.push(here_of(alloc, *number, session)?)?;
+            }
+        }
+        Ok(found)
+    }
+
+    /// To whom a session sent presence alone.
+    pub(crate) fn directed_by(&self, who: &Here) -> &[Jid]
+        ensures { result.now ≡ directed_by (seen self.now) who.now }
+    {
+        match self.table.session(who.session) {
+            Some(session) => session.directed.slice(),
+            None => &[],
+        }
+    }
+}
