@@ -1,10 +1,10 @@
-mod ByteLemmas
+pub mod ByteLemmas
 mod OrderLemmas
 mod ArrangedLemmas
 mod ContactLemmas
 mod NameLemmas
 mod ListedLemmas
-mod PairLemmas
-mod BookLemmas
+pub mod PairLemmas
+pub mod BookLemmas
 mod EntryLemmas
 mod KeepLemmas

@@ -9,7 +9,7 @@ use stanza_tree::NoMemory;
 use std::alloc::Global;
 
 /// The name of the account that has this address.
-pub(crate) fn user_of(address: &Jid) -> &Part
+pub fn user_of(address: &Jid) -> &Part
     ensures { result.now ≡ user_of address.now }
 {
     match &address.local {
@@ -19,7 +19,7 @@ pub(crate) fn user_of(address: &Jid) -> &Part
 }
 
 /// The user of this server whose bare address it is.
-pub(crate) fn local_user<'a>(domain: &Part, address: &'a Jid) -> Option<&'a Part>
+pub fn local_user<'a>(domain: &Part, address: &'a Jid) -> Option<&'a Part>
     ensures { option_copied result ≡ local_user domain.now address.now }
 {
     if address.domain.bytes() == domain.bytes() && address.resource.is_none() {
@@ -40,7 +40,7 @@ pub(crate) fn is_user(domain: &Part, user: &Part, address: &Jid) -> bool
 }
 
 /// The bare address of a user. A name that is no local part has none, which is told as want of memory.
-pub(crate) fn bare_address(alloc: Global, domain: &Part, user: &Part) -> Result<Jid, NoMemory>
+pub fn bare_of(alloc: Global, domain: &Part, user: &Part) -> Result<Jid, NoMemory>
     ensures { IfOk result (λ j. j ≡ bare_of domain.now user.now) }
 {
     let mut text = Vec::new(alloc);

@@ -5,7 +5,7 @@ ghost use Rattle.contact_table.specs.Books.{Book, bare_of, local_user};
 ghost use Rattle.contact_table.specs.Marks.{asked_by, asking, putting, seeing, seen_by, taking_out};
 ghost use Rattle.contact_table.specs.Folders.{Edits, IsNamed, IsOwn, Keeps, asked_in, folder_at, names_in, places_in, room_in, sheet_in, subscription_in};
 
-use crate::address::{bare_address, local_user};
+use crate::address::{bare_of, local_user};
 use crate::flag::state_by;
 use crate::folder::Folder;
 use crate::order::Order;
@@ -32,7 +32,7 @@ pub(crate) fn open(
     if folders.contains_key(user.bytes()) {
         return Ok(());
     }
-    let owner = bare_address(alloc, domain, user)?;
+    let owner = bare_of(alloc, domain, user)?;
     folders.insert(user.bytes().to_vec(alloc)?, Folder::new(alloc, owner))?;
     Ok(())
 }

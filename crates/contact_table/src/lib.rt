@@ -1,7 +1,7 @@
 //! What a server keeps of its users: their rosters, who sees whose presence, and who has asked to (RFC 6121, 2 and 3).
 #![tactic(auto)]
 
-mod address;
+pub mod address;
 pub mod book;
 mod changes;
 mod contacts;
@@ -12,5 +12,6 @@ pub mod order;
 #[cfg(test)]
 mod tests;
 
+pub use address::{bare_of, local_user, user_of};
 pub use book::Book;
 pub use order::Order;

@@ -27,6 +27,7 @@ use Rattle.house_core.specs.Worlds.{seen, Did, Ends}
 use Rattle.house_core.proofs.DidLemmas.{did_then, put_same}
 use Rattle.house_core.proofs.ReadLemmas.{sessions_put}
 use Rattle.house_core.proofs.TiedLemmas.{changed_else, changed_here, tied_with, few_with}
+use Rattle.house_core.proofs.BookLemmas.{book_same}
 
 -- a session whose queue has other room is seen as before
 module _ (a : code.World) (s room : ℕ) (x : SessionRecord) (tied : IsTied a.table) (at : session_of s a.table ≡ Some x) where
@@ -47,6 +48,7 @@ module _ (a : code.World) (s room : ℕ) (x : SessionRecord) (tied : IsTied a.ta
       away = ready.away;
       known = ready.known;
       shown = ready.shown;
+      pushes = ready.pushes;
       address = ready.address;
     });
     known = λ many users. users;
@@ -54,6 +56,7 @@ module _ (a : code.World) (s room : ℕ) (x : SessionRecord) (tied : IsTied a.ta
         (let old = few.sent s x at in omega (arith, old)) (let old = few.acted s x at in omega (arith, old));
     lines = refl;
     answered = refl;
+    kept = book_same;
   }
 
   pub roomy_did : (y : SessionRecord) → y ≡ roomy → Did [] 0 a (record a { table = with_session s a.table y })

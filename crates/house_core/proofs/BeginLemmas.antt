@@ -25,6 +25,7 @@ use Rattle.house_core.specs.Wholes.{IsSession, IsFreeLine, IsTied, IsFew}
 use Rattle.house_core.specs.Worlds.{Did, seen}
 use Rattle.house_core.proofs.ReadLemmas.{lines_staged, place_set, sessions_line}
 use Rattle.house_core.proofs.TiedLemmas.{IsUnbound, line_free}
+use Rattle.house_core.proofs.BookLemmas.{book_same}
 
 -- a line that is logged in is no session's
 pub logged_unbound : (l : stage.Line) → is_logged l ≡ true → IsUnbound l
@@ -44,6 +45,7 @@ begun_ready n address w short = record {
   away = λ live none. absurd (let z : ◌≡◌ {A = Option ℕ} (Some w) None = none in cc);
   known = λ some. absurd (let z : false ≡ true = some in cc);
   shown = tt;
+  pushes = omega arith;
   address = short;
 }
 
@@ -164,4 +166,5 @@ module _ (a : code.World) (w spare : ℕ) (address : Address) (tied : IsTied a.t
     few = begun_few;
     lines = length-set t.lines w l;
     answered = refl;
+    kept = book_same;
   })

@@ -37,6 +37,7 @@ use Rattle.house_core.proofs.ActLemmas.{some_kept}
 use Rattle.house_core.proofs.AtLemmas.{at_is}
 use Rattle.house_core.proofs.ReadLemmas.{read_there}
 use Rattle.house_core.proofs.WorldLemmas.{few_later}
+use Rattle.house_core.proofs.BookLemmas.{book_same}
 
 -- its answers fit a pull
 pub bound_fits : (id jid : List ℕ) → length id ≤ 65536 → length jid ≤ 3071 → length (answer_text (answer.Bound id jid)) ≤ 524288
@@ -58,6 +59,7 @@ did_more es n m a b less did = record {
   few = λ turns few. few_later (turns + n) (turns + m) b.table (did.few turns few) (omega (arith, less));
   lines = did.lines;
   answered = did.answered;
+  kept = did.kept;
 }
 
 -- the one who logged in at a line
@@ -96,6 +98,7 @@ did_room a n tied = record {
   few = λ turns few. few_room (turns + 0) a.table n (few_later turns (turns + 0) a.table few (omega arith));
   lines = refl;
   answered = refl;
+  kept = book_same;
 }
 
 pub room_tied : (t u : TableRecord) → u ≡ record t { spare = u.spare } → IsTied t → IsTied u
@@ -122,7 +125,7 @@ room_then w address answer a b d same did =
 -- the session of an address, as the table finds it
 pub found_in : (a : code.World) (address : Address) → IsTied a.table → Rises 0 a.table.sessions a.table.made
     → session_in (seen a) address ≡ number_at address a.table.sessions
-found_in a address tied rises = at_is (some_kept (seen a) 0) address a.table a.answers.items tied rises refl
+found_in a address tied rises = at_is (some_kept (seen a) 0) address a.table a.answers.items a.book.book tied rises refl
 
 replaces_is : (k : Kept) (o : Option ℕ) → replaced_by k.world o ≡ replaces k o
 replaces_is k None = refl

@@ -60,6 +60,7 @@ module _ (a : code.World) (s : ℕ) (x : SessionRecord) (tied : IsTied a.table) 
         away = ready.away;
         known = ready.known;
         shown = ready.shown;
+        pushes = ready.pushes;
         address = ready.address;
       })
       (λ turns few. (let sent = few.sent s x at in let acted = few.acted s x at in (omega (arith, sent), omega (arith, acted)))))
@@ -79,6 +80,7 @@ module _ (a : code.World) (s : ℕ) (x : SessionRecord) (tied : IsTied a.table) 
         away = ready.away;
         known = ready.known;
         shown = ready.shown;
+        pushes = ready.pushes;
         address = ready.address;
       })
       (λ turns few. (let sent = few.sent s x at in let acted = few.acted s x at in (omega (arith, sent), omega (arith, acted)))))
@@ -107,6 +109,7 @@ module _ (a : code.World) (s : ℕ) (x : SessionRecord) (tied : IsTied a.table) 
         away = λ live none. refl;
         known = λ some. refl;
         shown = ready.shown;
+        pushes = ready.pushes;
         address = ready.address;
       })
       (λ turns few. (let sent = few.sent s x at in let acted = few.acted s x at in (omega (arith, sent), omega (arith, acted)))))

@@ -10,7 +10,6 @@ use Rattle.session_table.specs.declared.line.Line.TheVariants.{Logged, Bound}
 use Rattle.session_table.specs.Sessions.{SessionRecord}
 use Rattle.session_table.specs.Tables.{TableRecord, Rises, conn_of, line_of, session_of, without}
 use Rattle.session_table.proofs.NumberLemmas.{lookup_removed}
-use Rattle.contact_table.specs.Books.{empty_book}
 use Rattle.house_model.specs.Numbered.{put}
 use Rattle.house_model.specs.Sessions.{Held, Away, Ended, End, Part, Rest, Session, session, gone, step_if, session_step}
 use Rattle.house_model.specs.Traffic.{KeptTraffic, brief, nothing_kept}
@@ -24,6 +23,7 @@ use Rattle.house_core.specs.Worlds.{Did, KeepsLogged, seen}
 use Rattle.house_core.proofs.ReadLemmas.{away_is, held_is, seen_with}
 use Rattle.house_core.proofs.OffLemmas.{end_is}
 use Rattle.house_core.proofs.PartLemmas.{end_again, end_away, over_is}
+use Rattle.house_core.proofs.BookLemmas.{book_same}
 
 pub some_of : {A : Type 0} (o : Option A) → is_some o ≡ true → (x : A) × (o ≡ Some x)
 some_of None is = absurd (cc)
@@ -180,7 +180,7 @@ module _ (a : code.World) (s spare : ℕ) (c : Cause) (x : SessionRecord) (tied 
   part_did b is = subst (λ (k : TableRecord). Did (On s Part ∷ []) 0 a (record a { table = k })) (sym is) (record {
     world = λ i. record {
       opened = was.opened;
-      book = empty_book;
+      book = a.book.book;
       lines = sym (λ j. settled s (part_before j).hold (part_step j).hold (seen a).lines) i;
       made = was.made;
       sessions = λ n. part_at n i;
@@ -195,4 +195,5 @@ module _ (a : code.World) (s spare : ℕ) (c : Cause) (x : SessionRecord) (tied 
     };
     lines = refl;
     answered = refl;
+    kept = book_same;
   })

@@ -3,7 +3,6 @@ use Rattle.std.proofs.Common.{◌≡◌, inl, inr, ℕ, ◌+◌, List, [], ◌�
 use Rattle.session_table.specs.declared.life.Life.TheVariants.{Live}
 use Rattle.session_table.specs.Sessions.{SessionRecord}
 use Rattle.session_table.specs.Tables.{conn_of, line_of, session_of}
-use Rattle.contact_table.specs.Books.{empty_book}
 use Rattle.house_model.specs.Numbered.{put}
 use Rattle.house_model.specs.Sessions.{Held, Tell, Rest, Session, session, step_if, session_step}
 use Rattle.house_model.specs.Traffic.{KeptTraffic, brief}
@@ -17,6 +16,7 @@ use Rattle.house_core.specs.Worlds.{seen, Did}
 use Rattle.house_core.proofs.ReadLemmas.{held_is, seen_with}
 use Rattle.house_core.proofs.WorldLemmas.{few_later, moved_same}
 use Rattle.house_core.proofs.OffLemmas.{there}
+use Rattle.house_core.proofs.BookLemmas.{book_same, book_then}
 
 all_then : (world : World KeptTraffic) (es fs : List Effect) → apply_all brief world (es ++ fs) ≡ apply_all brief (apply_all brief world es) fs
 all_then world [] fs = refl
@@ -30,6 +30,7 @@ did_then es fs n m a b c one two = record {
   few = λ turns few. few_later (turns + n + m) (turns + (n + m)) c.table (two.few (turns + n) (one.few turns few)) (omega arith);
   lines = two.lines ∙ one.lines;
   answered = two.answered ∙ one.answered;
+  kept = book_then one.kept two.kept;
 }
 
 pub did_none : (a : code.World) → IsTied a.table → Did [] 0 a a
@@ -40,6 +41,7 @@ did_none a tied = record {
   few = λ turns few. few_later turns (turns + 0) a.table few (omega arith);
   lines = refl;
   answered = refl;
+  kept = book_same;
 }
 
 pub put_same : {A : Type 0} (k : ℕ) (v : A) (f : ℕ → A) → v ≡ f k → put k v f ≡ f
@@ -66,7 +68,7 @@ tell_did a w s tied held =
     record {
       world = λ i. record {
         opened = t.opened;
-        book = empty_book;
+        book = a.book.book;
         lines = sym ((λ j. settled s (is j).hold (step j).hold (lines_of t a.answers.items)) ∙ moved_same s w c (lines_of t a.answers.items)) i;
         made = t.made;
         sessions = sym (put_same s (session_step brief (sessions_of t s) Tell) (sessions_of t) (step ∙ sym is)) i;
@@ -76,4 +78,5 @@ tell_did a w s tied held =
       few = none.few;
       lines = refl;
       answered = refl;
+      kept = book_same;
     }

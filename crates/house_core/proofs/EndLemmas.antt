@@ -19,10 +19,12 @@ use Rattle.house_model.specs.Traffic.{brief}
 use Rattle.house_model.specs.States.{Line, empty_line}
 use Rattle.house_model.specs.Effects.{Effect, At, On, Open, Leave, Close, over_line, settled, apply}
 use Rattle.house_model.specs.Gate.{left_by, patience}
+use Rattle.house_core.specs.Keeping.{Keeps}
 use Rattle.house_core.specs.declared.world.World as code
 use Rattle.house_core.specs.Houses.{hold_by, traffic_of, rest_of, session_by, lines_of, world_of}
 use Rattle.house_core.specs.Wholes.{IsSession, IsHeldBy, IsFreeLine, IsTied}
 use Rattle.house_core.specs.Worlds.{seen, released_by, released, Did}
+use Rattle.house_core.proofs.BookLemmas.{book_same}
 use Rattle.house_core.proofs.TiedLemmas.{IsUnbound}
 use Rattle.house_core.proofs.OffLemmas.{there, end_is, put_twice, off_free, off_world, off_lines, off_did}
 
@@ -35,6 +37,7 @@ ended_ready cause x ready = record {
   away = λ live none. absurd (let z : life.Over cause ≡ life.Live = live in cc);
   known = ready.known;
   shown = ready.shown;
+  pushes = ready.pushes;
   address = ready.address;
 }
 
@@ -63,8 +66,8 @@ module _ (a : code.World) (w s : ℕ) (cause : Cause) (tied : IsTied a.table) (l
       (λ d n e. (cc)) (λ d n e. (cc)) (ended_ready cause x (tied.each s x who.1)) refl refl
       (ap (λ (t : TableRecord). t.lines) is) (ap (λ (t : TableRecord). t.sessions) is) (ap (λ (t : TableRecord). t.made) is)
       (subst (λ (t : TableRecord). t.opened ≤ a.table.opened + 0) (sym is) (omega arith))
-      (length-set a.answers.items w now)
-      ((λ i. world_of (is i) (set a.answers.items w (empty i)))
+      (length-set a.answers.items w now) book_same
+      ((λ i. world_of (is i) (set a.answers.items w (empty i)) a.book.book)
       ∙ (off_world a w s x (ended cause) (End cause) tied low answered who.1 who.2.0 who.2.1 refl step line
       ∙ (λ i. record (apply brief (seen a) (On s (End cause))) {
         lines = sym (off_lines a w s x (ended cause) (End cause) tied low answered who.1 who.2.0 who.2.1 refl step
@@ -96,6 +99,7 @@ released_ready (Some id) moment x counts ready = record {
   away = λ live none. counts refl;
   known = ready.known;
   shown = ready.shown;
+  pushes = ready.pushes;
   address = ready.address;
 }
 
@@ -148,7 +152,7 @@ module _ (a : code.World) (w s moment : ℕ) (tied : IsTied a.table) (low : w < 
   leave_free = off_free a w s y (released moment) op tied low answered him.1 him.2.0 him.2.1 (released_empty y.resume_id moment y) leaving
 
   left_world : (l : stage.Line)
-      → world_of (with_line w l (changed s (released moment) a.table)) (set a.answers.items w [])
+      → world_of (with_line w l (changed s (released moment) a.table)) (set a.answers.items w []) a.book.book
       ≡ record (apply brief (seen a) (On s op)) { lines = put w (record { stage = l; answers = [] }) (apply brief (seen a) (On s op)).lines }
   left_world l =
       off_world a w s y (released moment) op tied low answered him.1 him.2.0 him.2.1 (released_empty y.resume_id moment y) leaving l
@@ -162,52 +166,55 @@ module _ (a : code.World) (w s moment : ℕ) (tied : IsTied a.table) (low : w < 
 
   left_did : (l : stage.Line) (b : code.World) (e : Effect) (more : ℕ) → IsUnbound l → ((d u : ℕ) → l ≡ Logged d u → ⊥)
       → b.table.lines ≡ set a.table.lines w l → b.table.sessions ≡ (changed s (released moment) a.table).sessions → b.table.made ≡ a.table.made
-      → b.table.opened ≤ a.table.opened + more → length b.answers.items ≡ length a.answers.items
+      → b.table.opened ≤ a.table.opened + more → length b.answers.items ≡ length a.answers.items → Keeps a.book b.book
       → seen b ≡ apply brief (apply brief (seen a) (On s op)) e
       → Did (On s (left_by ((seen a).sessions s).rest.resume_id moment) ∷ e ∷ []) more a b
-  left_did l b e more unbound unlogged lines sessions made opened answers world =
+  left_did l b e more unbound unlogged lines sessions made opened answers kept world =
       subst (λ (o : Op). Did (On s o ∷ e ∷ []) more a b) (sym op_is)
       (off_did a w s y (released moment) op tied low answered him.1 him.2.0 him.2.1 (released_empty y.resume_id moment y) leaving
       l b (On s op ∷ e ∷ []) more unbound unlogged
       (released_ready y.resume_id moment y (tied.each s y him.1).known (tied.each s y him.1))
       (released_sent y.resume_id moment y) (released_acted y.resume_id moment y)
-      lines sessions made opened answers world)
+      lines sessions made opened answers kept world)
 
   pub leave_did : (b c : TableRecord) (now : List Answer) → c ≡ changed s (released moment) a.table → b ≡ with_line w Empty c → now ≡ []
-      → (r : code.World) → r.answers ≡ a.answers
-      → Did (On s (left_by ((seen a).sessions s).rest.resume_id moment) ∷ At w Leave ∷ []) 0 a (record { table = b; answers = with_item r.answers w now })
-  leave_did b c now was is empty r same =
+      → (r : code.World) → r.answers ≡ a.answers → r.book ≡ a.book
+      → Did (On s (left_by ((seen a).sessions s).rest.resume_id moment) ∷ At w Leave ∷ []) 0 a (record r { table = b; answers = with_item r.answers w now })
+  leave_did b c now was is empty r same kept =
       let all : b ≡ with_line w Empty (changed s (released moment) a.table) = is ∙ ap (with_line w Empty) was in
-      left_did Empty (record { table = b; answers = with_item r.answers w now }) (At w Leave) 0 (λ d n e. (cc)) (λ d n e. (cc))
+      subst (λ z. Did (On s (left_by ((seen a).sessions s).rest.resume_id moment) ∷ At w Leave ∷ []) 0 a (record { table = b; answers = with_item r.answers w now; book = z })) (sym kept)
+      (left_did Empty (record a { table = b; answers = with_item r.answers w now }) (At w Leave) 0 (λ d n e. (cc)) (λ d n e. (cc))
       (ap (λ (t : TableRecord). t.lines) all) (ap (λ (t : TableRecord). t.sessions) all) (ap (λ (t : TableRecord). t.made) all)
       (subst (λ (t : TableRecord). t.opened ≤ a.table.opened + 0) (sym all) (omega arith))
-      (ap (λ (xs : List (List Answer)). length (set xs w now)) (ap (λ v. v.items) same) ∙ length-set a.answers.items w now)
-      ((λ i. world_of (all i) (set (same i).items w (empty i))) ∙ left_world Empty)
+      (ap (λ (xs : List (List Answer)). length (set xs w now)) (ap (λ v. v.items) same) ∙ length-set a.answers.items w now) book_same
+      ((λ i. world_of (all i) (set (same i).items w (empty i)) a.book.book) ∙ left_world Empty))
 
   pub close_did : (b c : TableRecord) (now : List Answer) (cause : Cause) → c ≡ changed s (released moment) a.table → b ≡ line_ended w cause c → now ≡ []
-      → (r : code.World) → r.answers ≡ a.answers
-      → Did (On s (left_by ((seen a).sessions s).rest.resume_id moment) ∷ At w (Close (conn_of (line_of w a.table)) cause) ∷ []) 0 a (record { table = b; answers = with_item r.answers w now })
-  close_did b c now cause was is empty r same =
+      → (r : code.World) → r.answers ≡ a.answers → r.book ≡ a.book
+      → Did (On s (left_by ((seen a).sessions s).rest.resume_id moment) ∷ At w (Close (conn_of (line_of w a.table)) cause) ∷ []) 0 a (record r { table = b; answers = with_item r.answers w now })
+  close_did b c now cause was is empty r same kept =
       let l : stage.Line = Over (conn_of (line_of w a.table)) cause in
       let all : b ≡ with_line w l (changed s (released moment) a.table) = is ∙ ap (line_ended w cause) was in
-      left_did l (record { table = b; answers = with_item r.answers w now }) (At w (Close (conn_of (line_of w a.table)) cause)) 0
+      subst (λ z. Did (On s (left_by ((seen a).sessions s).rest.resume_id moment) ∷ At w (Close (conn_of (line_of w a.table)) cause) ∷ []) 0 a (record { table = b; answers = with_item r.answers w now; book = z })) (sym kept)
+      (left_did l (record a { table = b; answers = with_item r.answers w now }) (At w (Close (conn_of (line_of w a.table)) cause)) 0
       (λ d n e. (cc)) (λ d n e. (cc))
       (ap (λ (t : TableRecord). t.lines) all) (ap (λ (t : TableRecord). t.sessions) all) (ap (λ (t : TableRecord). t.made) all)
       (subst (λ (t : TableRecord). t.opened ≤ a.table.opened + 0) (sym all) (omega arith))
-      (ap (λ (xs : List (List Answer)). length (set xs w now)) (ap (λ v. v.items) same) ∙ length-set a.answers.items w now)
-      ((λ i. world_of (all i) (set (same i).items w (empty i))) ∙ left_world l)
+      (ap (λ (xs : List (List Answer)). length (set xs w now)) (ap (λ v. v.items) same) ∙ length-set a.answers.items w now) book_same
+      ((λ i. world_of (all i) (set (same i).items w (empty i)) a.book.book) ∙ left_world l))
 
   pub open_did : (b c : TableRecord) (n : ℕ) (now : List Answer) → c ≡ changed s (released moment) a.table → b ≡ with_conn w n c → n ≡ a.table.opened + 1
-      → now ≡ [] → (r : code.World) → r.answers ≡ a.answers
-      → Did (On s (left_by ((seen a).sessions s).rest.resume_id moment) ∷ Open w ∷ []) 1 a (record { table = b; answers = with_item r.answers w now })
-  open_did b c n now was is number empty r same =
+      → now ≡ [] → (r : code.World) → r.answers ≡ a.answers → r.book ≡ a.book
+      → Did (On s (left_by ((seen a).sessions s).rest.resume_id moment) ∷ Open w ∷ []) 1 a (record r { table = b; answers = with_item r.answers w now })
+  open_did b c n now was is number empty r same kept =
       let all : b ≡ with_conn w (a.table.opened + 1) (changed s (released moment) a.table) = is ∙ (λ i. with_conn w (number i) (was i)) in
-      left_did (Fresh (a.table.opened + 1)) (record { table = b; answers = with_item r.answers w now }) (Open w) 1 (λ d n e. (cc)) (λ d n e. (cc))
+      subst (λ z. Did (On s (left_by ((seen a).sessions s).rest.resume_id moment) ∷ Open w ∷ []) 1 a (record { table = b; answers = with_item r.answers w now; book = z })) (sym kept)
+      (left_did (Fresh (a.table.opened + 1)) (record a { table = b; answers = with_item r.answers w now }) (Open w) 1 (λ d n e. (cc)) (λ d n e. (cc))
       (ap (λ (t : TableRecord). t.lines) all) (ap (λ (t : TableRecord). t.sessions) all) (ap (λ (t : TableRecord). t.made) all)
       (subst (λ (t : TableRecord). t.opened ≤ a.table.opened + 1) (sym all) (omega arith))
-      (ap (λ (xs : List (List Answer)). length (set xs w now)) (ap (λ v. v.items) same) ∙ length-set a.answers.items w now)
-      ((λ i. world_of (all i) (set (same i).items w (empty i)))
-      ∙ (λ i. record (left_world (Fresh (a.table.opened + 1)) i) { opened = a.table.opened + 1 }))
+      (ap (λ (xs : List (List Answer)). length (set xs w now)) (ap (λ v. v.items) same) ∙ length-set a.answers.items w now) book_same
+      ((λ i. world_of (all i) (set (same i).items w (empty i)) a.book.book)
+      ∙ (λ i. record (left_world (Fresh (a.table.opened + 1)) i) { opened = a.table.opened + 1 })))
 
 -- a change that is the same for the session that is there
 same_change : (s : ℕ) (f g : SessionRecord → SessionRecord) (t : TableRecord) (x : SessionRecord) → Rises 0 t.sessions t.made

@@ -6,7 +6,6 @@ use Rattle.sm_resume.specs.declared.decision.Cause.{Cause}
 use Rattle.session_table.specs.declared.line.Line as stage
 use Rattle.session_table.specs.declared.line.Line.TheVariants.{Empty, Fresh, Logged, Over}
 use Rattle.session_table.specs.Tables.{TableRecord, conn_of, line_of, with_line, with_conn, line_ended}
-use Rattle.contact_table.specs.Books.{empty_book}
 use Rattle.house_model.specs.declared.answer.Answer.{Answer}
 use Rattle.house_model.specs.Numbered.{put}
 use Rattle.house_model.specs.Traffic.{brief}
@@ -17,14 +16,15 @@ use Rattle.house_core.specs.Wholes.{IsFreeLine, IsTied, IsFew}
 use Rattle.house_core.specs.Worlds.{seen, Did}
 use Rattle.house_core.proofs.ReadLemmas.{sessions_line, lines_put, place_set}
 use Rattle.house_core.proofs.TiedLemmas.{IsUnbound, tied_line}
+use Rattle.house_core.proofs.BookLemmas.{book_same}
 
 module _ (a : code.World) (w : ℕ) (tied : IsTied a.table) (low : w < length a.table.lines)
     (answered : length a.answers.items ≡ length a.table.lines) (free : IsFreeLine w a.table) where
-  free_world : (l : stage.Line) → world_of (with_line w l a.table) (set a.answers.items w [])
+  free_world : (l : stage.Line) → world_of (with_line w l a.table) (set a.answers.items w []) a.book.book
       ≡ record (seen a) { lines = put w (record { stage = l; answers = [] }) (lines_of a.table a.answers.items) }
   free_world l = λ i. record {
     opened = a.table.opened;
-    book = empty_book;
+    book = a.book.book;
     lines = lines_put a.table a.answers.items w l [] low (omega (arith, low, answered)) i;
     made = a.table.made;
     sessions = sessions_line a.table w l low (λ n y at live holder. absurd (free n y at holder)) i;
@@ -55,13 +55,14 @@ module _ (a : code.World) (w : ℕ) (tied : IsTied a.table) (low : w < length a.
       subst (λ (t : TableRecord). Did (e ∷ []) more a (record a { table = t; answers = with_item a.answers w now })) (sym is)
       (record {
         world =
-            (λ i. record (world_of (with_line w l a.table) (set a.answers.items w (empty i))) { opened = opened })
+            (λ i. record (world_of (with_line w l a.table) (set a.answers.items w (empty i)) a.book.book) { opened = opened })
             ∙ ((λ i. record (free_world l i) { opened = opened }) ∙ effect);
         tied = (let old = tied_line w l a.table tied low free unbound in record { bound = old.bound; holds = old.holds; each = old.each });
         known = λ many users. free_known many l unlogged users;
         few = λ turns few. free_few turns (turns + more) opened l few (omega arith) (omega (arith, number, few.opened));
         lines = length-set a.table.lines w l;
         answered = length-set a.answers.items w now;
+        kept = book_same;
       })
 
   pub left_free : (b : TableRecord) (now : List Answer) → b ≡ with_line w Empty a.table → now ≡ []

@@ -74,6 +74,7 @@ module _ (a : code.World) (s : ℕ) (x : SessionRecord) (tied : IsTied a.table) 
         away = ready.away;
         known = ready.known;
         shown = ready.shown;
+        pushes = ready.pushes;
         address = ready.address;
       })
       (λ turns few. (let sent = few.sent s x at in let acted = few.acted s x at in (omega (arith, sent, low), omega (arith, acted)))))
@@ -94,6 +95,7 @@ module _ (a : code.World) (s : ℕ) (x : SessionRecord) (tied : IsTied a.table) 
         away = ready.away;
         known = ready.known;
         shown = ready.shown;
+        pushes = ready.pushes;
         address = ready.address;
       })
       (λ turns few. (let sent = few.sent s x at in let acted = few.acted s x at in (omega (arith, sent), omega (arith, acted))))
@@ -111,6 +113,7 @@ module _ (a : code.World) (s : ℕ) (x : SessionRecord) (tied : IsTied a.table) 
         away = ready.away;
         known = ready.known;
         shown = ready.shown;
+        pushes = ready.pushes;
         address = ready.address;
       })
       (λ turns few. (let sent = few.sent s x at in let acted = few.acted s x at in (omega (arith, sent), omega (arith, acted))))
@@ -140,6 +143,7 @@ did_same a b s n op op' same did = record {
   few = did.few;
   lines = did.lines;
   answered = did.answered;
+  kept = did.kept;
 }
 
 module _ (a : code.World) (w s h : ℕ) (tied : IsTied a.table) (held : IsHeldBy w s a.table) where

@@ -18,8 +18,10 @@ pub mod DueLemmas
 pub mod PullLemmas
 pub mod LoginLemmas
 pub mod ListedLemmas
+pub mod RosterLemmas
 pub mod RoutingLemmas
 pub mod MarkLemmas
+pub mod NoteLemmas
 pub mod ReadyLemmas
 pub mod RunLemmas
 pub mod StayLemmas
@@ -33,5 +35,6 @@ pub mod AtLemmas
 pub mod SweepLemmas
 pub mod CountLemmas
 pub mod OpenLemmas
+pub mod BookLemmas
 pub mod BoundLemmas
 pub mod DepartLemmas

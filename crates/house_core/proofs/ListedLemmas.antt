@@ -1,7 +1,7 @@
 -- The sessions of a user, by number and as the table lists them.
 use Rattle.std.proofs.Common.{◌≡◌, inl, inr, ℕ, zero, suc, ◌<◌, ◌≤◌, ◌&&◌, nat_eq, not, cond, Bool, true, false, List, [], ◌∷◌, ◌++◌, Option, Some, None, if◌then◌else◌, arith, refl, sym, ap, ◌∙◌}
-use Rattle.std.specs.Prelude.{map, is_some}
-use Rattle.std.specs.List.{filter, list_any}
+use Rattle.std.specs.Prelude.{map, flat_map, is_some, bytes_eq, ◌||◌}
+use Rattle.std.specs.List.{filter, list_any, AllByRecursion}
 use Rattle.std.specs.Map.{lookup}
 use Rattle.std.proofs.lemmas.Bool.{ne_eqb}
 use Rattle.std.proofs.lemmas.Bool.Decides.{eqb_tells}
@@ -15,14 +15,16 @@ use Rattle.session_table.specs.Sessions.{SessionRecord, is_over}
 use Rattle.session_table.specs.Tables.{Rises, session_of}
 use Rattle.house_model.specs.Numbered.{all_passing}
 use Rattle.house_model.specs.Lookups.{goes_on, here, is_of, is_there, sessions_of}
-use Rattle.house_model.specs.Presences.{named, names}
+use Rattle.contact_table.specs.Arranged.{arranged, those_of}
+use Rattle.house_model.specs.Presences.{available_of, named, names}
 use Rattle.house_model.specs.Sessions.{Session}
 use Rattle.house_model.specs.Traffic.{KeptTraffic}
 use Rattle.house_core.specs.declared.world.World as code
 use Rattle.house_core.specs.Houses.{hold_by, session_by}
-use Rattle.house_core.specs.Listings.{here_from, is_named, is_users, listed, listed_by}
+use Rattle.house_core.specs.Listings.{here_from, is_among, is_named, is_seen, is_users, listed, listed_by}
 use Rattle.house_core.specs.Wholes.{IsSession, IsTied}
 use Rattle.house_core.specs.Worlds.{seen}
+use Rattle.std.proofs.lemmas.Slice.Eq.{bytes_eq-Decides}
 use Rattle.house_core.proofs.AtLemmas.{there_is}
 use Rattle.house_core.proofs.DueLemmas.{passes}
 use Rattle.house_core.proofs.CountLemmas.{none_below, rises_most}
@@ -170,6 +172,69 @@ named_is a addresses tied rises =
     ∙ filter_listed (λ h. list_any (names h) addresses) is_going (λ x. list_any (names (here_from 0 x)) addresses) a.table.sessions
     (λ n x. refl)
     )
+
+-- Sessions in the order of their users.
+available_is : (a : code.World) (user : List ℕ) → IsTied a.table → Rises 0 a.table.sessions a.table.made
+    → available_of (seen a) user ≡ listed (λ x. is_users user x && is_some x.presence) a.table.sessions
+available_is a user tied rises =
+    ap (filter (λ h. h.available)) (sym (listed_is a user tied rises))
+    ∙ filter_listed (λ h. h.available) (is_users user) (λ x. is_some x.presence) a.table.sessions (λ n x. refl)
+
+both_ways : (live shown among same : Bool) → (same ≡ true → among ≡ true)
+    → ((live && (shown && among)) && same) ≡ ((live && same) && shown)
+both_ways false shown among same is = refl
+both_ways true false among true is = refl
+both_ways true false among false is = refl
+both_ways true true true true is = refl
+both_ways true true false true is = absurd (let z : false ≡ true = is refl in cc)
+both_ways true true true false is = refl
+both_ways true true false false is = refl
+
+-- of the sessions of several users, those of one of them
+one_user : (users : List (List ℕ)) (user : List ℕ) (x : SessionRecord) → list_any (λ u. bytes_eq u user) users ≡ true
+    → (is_seen users x && same_part x.address.local (Some user)) ≡ (is_users user x && is_some x.presence)
+one_user users user x among = by (not (is_over x.state)) (is_some x.presence) x.address.local
+  where
+    by : (live shown : Bool) (local : Option (List ℕ))
+        → ((live && (shown && is_among users local)) && same_part local (Some user)) ≡ ((live && same_part local (Some user)) && shown)
+    by live shown None = both_ways live shown false false (λ e. absurd (cc))
+    by live shown (Some name) =
+        both_ways live shown (list_any (λ u. bytes_eq u name) users) (bytes_eq name user)
+        (λ e. ap (λ (n : List ℕ). list_any (λ u. bytes_eq u n) users) ((bytes_eq-Decides name user).0 e) ∙ among)
+
+or_right : (b c : Bool) → c ≡ true → (b || c) ≡ true
+or_right true c is = refl
+or_right false c is = is
+
+abbrev AreIn : List (List ℕ) → List (List ℕ) → Type 0
+AreIn users some = AllByRecursion (λ u. list_any (λ v. bytes_eq v u) users ≡ true) some
+
+are_in_more : (w : List ℕ) (users some : List (List ℕ)) → AreIn users some → AreIn (w ∷ users) some
+are_in_more w users [] all = tt
+are_in_more w users (u ∷ some) all = (or_right (bytes_eq w u) (list_any (λ v. bytes_eq v u) users) all.0, are_in_more w users some all.1)
+
+are_in : (users : List (List ℕ)) → AreIn users users
+are_in [] = tt
+are_in (u ∷ users) =
+    (ap (λ (b : Bool). b || list_any (λ v. bytes_eq v u) users) ((bytes_eq-Decides u u).1 refl), are_in_more u users users (are_in users))
+
+module _ (a : code.World) (users : List (List ℕ)) (tied : IsTied a.table) (rises : Rises 0 a.table.sessions a.table.made) where
+  abbrev found : List Here
+  found = listed (is_seen users) a.table.sessions
+
+  those_are : (user : List ℕ) → list_any (λ u. bytes_eq u user) users ≡ true → those_of found user ≡ available_of (seen a) user
+  those_are user among =
+      filter_listed (λ h. same_part h.address.local (Some user)) (is_seen users) (λ x. same_part x.address.local (Some user)) a.table.sessions
+      (λ n x. refl)
+      ∙ ((λ i. listed (λ x. one_user users user x among i) a.table.sessions)
+      ∙ sym (available_is a user tied rises))
+
+  all_are : (some : List (List ℕ)) → AreIn users some → flat_map (those_of found) some ≡ flat_map (available_of (seen a)) some
+  all_are [] all = refl
+  all_are (u ∷ some) all = λ i. those_are u all.0 i ++ all_are some all.1 i
+
+  pub seen_is : arranged users found ≡ flat_map (available_of (seen a)) users
+  seen_is = all_are users (are_in users)
 
 pub listed_end : (found : List Here) (pick : SessionRecord → Bool) (rest es : List (ℕ × SessionRecord)) → rest ≡ []
     → found ++ listed pick rest ≡ listed pick es → found ≡ listed pick es

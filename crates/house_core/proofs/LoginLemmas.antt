@@ -1,5 +1,5 @@
 -- A login, carried out.
-use Rattle.std.proofs.Common.{◌≡◌, ℕ, ◌+◌, ◌<◌, List, [], length, Option, Some, refl, sym, subst, ◌∙◌, arith}
+use Rattle.std.proofs.Common.{◌≡◌, ℕ, ◌+◌, ◌<◌, List, [], length, Option, Some, refl, sym, ap, subst, ◌∙◌, arith}
 use Rattle.std.specs.Prelude.{bytes_eq}
 use Rattle.std.proofs.lemmas.List.Quantifiers.{position-Some}
 use Rattle.jid_core.specs.Addresses.{Address}
@@ -11,10 +11,13 @@ use Rattle.house_model.specs.Effects.{At, Log, apply}
 use Rattle.house_model.specs.Gate as model
 use Rattle.house_model.specs.Gate.{Verdict, only}
 use Rattle.house_model.specs.Histories.{kept_step}
-use Rattle.house_model.specs.States.{Kept}
+use Rattle.house_model.specs.States.{Kept, World}
 use Rattle.house_model.specs.Lookups.{user_place}
 use Rattle.house_model.specs.Steps.{body, logs_in, moment_of, turn, verdict}
-use Rattle.house_model.specs.Traffic.{brief}
+use Rattle.house_model.specs.Traffic.{KeptTraffic, brief}
+use Rattle.house_model.proofs.BookKept.{event_keeps}
+use Rattle.roster_laws.specs.Keeping.{AreKept}
+use Rattle.house_core.specs.Keeping.{Keeps}
 use Rattle.house_core.specs.declared.gate.Pass.TheVariants.{Stop}
 use Rattle.house_core.specs.declared.world.World as code
 use Rattle.house_core.specs.Gates.{Passes}
@@ -24,6 +27,7 @@ use Rattle.house_core.specs.Wholes.{AreUsers, IsFew, IsTied, IsWhole}
 use Rattle.house_core.specs.Worlds.{Did, seen}
 use Rattle.house_core.proofs.CallLemmas.{house}
 use Rattle.house_core.proofs.WorldLemmas.{few_later}
+use Rattle.house_core.proofs.BookLemmas.{book_same}
 
 -- effects that keep whatever users there are
 ends_enter : (v : Verdict) (many : ℕ) (r : Reply) (a b : code.World) → r ≡ v.reply → Did v.effects 0 a b → Enters v many r a b
@@ -35,6 +39,7 @@ ends_enter v many r a b answer did = record {
   few = λ turns few. few_later (turns + 0) turns b.table (did.few turns few) (omega arith);
   lines = did.lines;
   answered = did.answered;
+  kept = did.kept;
 }
 
 pub nobody_enters : (v : Verdict) (many : ℕ) (a : code.World) → IsTied a.table → v ≡ only reply.NoUser → Enters v many reply.NoUser a a
@@ -46,15 +51,16 @@ nobody_enters v many a tied is = subst (λ (u : Verdict). Enters u many reply.No
   few = λ turns few. few;
   lines = refl;
   answered = refl;
+  kept = book_same;
 })
 
 pub log_enters : (w place : ℕ) (user : List ℕ) (users : List (List ℕ)) (a b : code.World) → Some place ≡ user_place user users
     → seen b ≡ apply brief (seen a) (At w (Log place)) → IsTied b.table
     → ((many : ℕ) → AreUsers many a.table → place < many → AreUsers many b.table)
     → ((turns : ℕ) → IsFew turns a.table → IsFew turns b.table)
-    → length b.table.lines ≡ length a.table.lines → length b.answers.items ≡ length a.answers.items
+    → length b.table.lines ≡ length a.table.lines → length b.answers.items ≡ length a.answers.items → Keeps a.book b.book
     → Enters (logs_in w (user_place user users)) (length users) reply.Done a b
-log_enters w place user users a b is world tied known few lines answered =
+log_enters w place user users a b is world tied known few lines answered kept =
     subst (λ (o : Option ℕ). Enters (logs_in w o) (length users) reply.Done a b) is (record {
       answer = refl;
       world = world;
@@ -63,6 +69,7 @@ log_enters w place user users a b is world tied known few lines answered =
       few = few;
       lines = lines;
       answered = answered;
+      kept = kept;
     })
 
 pub stop_enters : (k : Kept) (e : Event) (p : model.Pass) (many : ℕ) (r : Reply) (a b : code.World) → Passes (Stop r) p a b
@@ -80,10 +87,11 @@ waits_enters k w users user p r a b d same pass moved enters =
     (subst (λ (z : code.World). Enters (logs_in w (user_place user users)) (length users) r z d) moved enters))
 
 -- the house after it
-pub whole_enters : (users : List (List ℕ)) (turns moment : ℕ) (a b : code.World) (v : Verdict) (r : Reply)
-    → IsWhole users turns moment a.table a.answers.items → Enters v (length users) r a b
-    → IsWhole users (turns + 1) moment b.table b.answers.items
-whole_enters users turns moment a b v r whole enters = record {
+pub whole_enters : (domain : Address) (users : List (List ℕ)) (turns moment : ℕ) (a b : code.World) (e : Event) (r : Reply)
+    → IsWhole domain.domain users turns moment a.table a.answers.items a.book
+    → Enters (verdict (turn e (held (house domain users turns moment a))) e) (length users) r a b
+    → IsWhole domain.domain users (turns + 1) moment b.table b.answers.items b.book
+whole_enters domain users turns moment a b e r whole enters = record {
   prepared = whole.prepared;
   few = whole.few;
   passed = whole.passed;
@@ -91,6 +99,11 @@ whole_enters users turns moment a b v r whole enters = record {
   known = enters.known whole.known;
   tied = enters.tied;
   counted = few_later turns (turns + 1) b.table (enters.few turns whole.counted) (omega arith);
+  served = enters.kept.domain ∙ whole.served;
+  names = enters.kept.names whole.names;
+  rosters =
+      subst (AreKept domain.domain) (sym (ap (λ (x : World KeptTraffic). x.book) enters.world))
+      (event_keeps (turn e (held (house domain users turns moment a))) e whole.rosters);
 }
 
 pub state_enters : (domain : Address) (users : List (List ℕ)) (turns moment many : ℕ) (a b : code.World) (e : Event) (r : Reply)

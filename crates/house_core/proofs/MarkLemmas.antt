@@ -1,5 +1,5 @@
 -- What is kept of a session is set.
-use Rattle.std.proofs.Common.{◌≡◌, ℕ, ◌≤◌, Bool, true, false, [], ◌∷◌, length, Option, Some, None, refl, sym, ap, subst, ◌∙◌, arith}
+use Rattle.std.proofs.Common.{◌≡◌, ℕ, ◌<◌, ◌≤◌, ◌^◌, Bool, true, false, [], ◌∷◌, length, Option, Some, None, refl, sym, ap, subst, ◌∙◌, arith}
 use Rattle.std.specs.Prelude.{IfSome}
 use Rattle.std.proofs.lemmas.Option.{same_Some}
 use Rattle.stanza_model.specs.declared.effect.Change.{Change}
@@ -18,6 +18,7 @@ use Rattle.house_model.specs.Traffic.{KeptTraffic, brief}
 use Rattle.house_model.specs.Effects.{On}
 use Rattle.house_core.specs.declared.world.World as code
 use Rattle.house_core.specs.Houses.{traffic_of, rest_of}
+use Rattle.house_core.specs.Keeping.{IsShortChange}
 use Rattle.house_core.specs.Marks.{named_by, set_by}
 use Rattle.house_core.specs.Wholes.{HasSpare, IsSession, IsTied}
 use Rattle.house_core.specs.Worlds.{Did}
@@ -60,8 +61,8 @@ module _ (a : code.World) (s : ℕ) (x : SessionRecord) (tied : IsTied a.table) 
     pushes = m.pushes;
   }
 
-  manner_ready : (m : Manner) → IfSome m.presence (λ p. length p ≤ 16384) → IsSession (with_manner m)
-  manner_ready m short = record {
+  manner_ready : (m : Manner) → IfSome m.presence (λ p. length p ≤ 16384) → m.pushes < 2 ^ 64 → IsSession (with_manner m)
+  manner_ready m short counted = record {
     given = ready.given;
     asked = ready.asked;
     base_in = ready.base_in;
@@ -69,49 +70,51 @@ module _ (a : code.World) (s : ℕ) (x : SessionRecord) (tied : IsTied a.table) 
     away = ready.away;
     known = ready.known;
     shown = short;
+    pushes = counted;
     address = ready.address;
   }
 
   mark_by : (l : Life) (h : Option ℕ) (mark : Mark) → x.state ≡ l → x.holder ≡ h
-      → IfSome (marked mark r.manner).presence (λ p. length p ≤ 16384)
+      → IfSome (marked mark r.manner).presence (λ p. length p ≤ 16384) → (marked mark r.manner).pushes < 2 ^ 64
       → Did (On s (Marks mark) ∷ []) 0 a (record a { table = with_session s a.table (with_manner (marked mark r.manner)) })
-  mark_by (Over cause) h mark over held short =
+  mark_by (Over cause) h mark over held short counted =
       live_did a s x (with_manner (marked mark r.manner)) (Ended cause) (Marks mark) at (over_is x.state x.holder a.table.lines cause over)
-      refl refl (λ ls. refl) (mark_over x.counts cause k r mark) 0 tied (manner_ready (marked mark r.manner) short)
+      refl refl (λ ls. refl) (mark_over x.counts cause k r mark) 0 tied (manner_ready (marked mark r.manner) short counted)
       (λ turns few. (let sent = few.sent s x at in let acted = few.acted s x at in (omega (arith, sent), omega (arith, acted))))
-  mark_by Live None mark live none short =
+  mark_by Live None mark live none short counted =
       live_did a s x (with_manner (marked mark r.manner)) Away (Marks mark) at (away_is x.state x.holder a.table.lines live none)
-      refl refl (λ ls. refl) (mark_away x.counts k r mark (ready.away live none)) 0 tied (manner_ready (marked mark r.manner) short)
+      refl refl (λ ls. refl) (mark_away x.counts k r mark (ready.away live none)) 0 tied (manner_ready (marked mark r.manner) short counted)
       (λ turns few. (let sent = few.sent s x at in let acted = few.acted s x at in (omega (arith, sent), omega (arith, acted))))
-  mark_by Live (Some w) mark live held short =
+  mark_by Live (Some w) mark live held short counted =
       let c = conn_of (line_of w a.table) in
       live_did a s x (with_manner (marked mark r.manner)) (Held w c) (Marks mark) at (held_is x.state x.holder a.table.lines w live held)
-      refl refl (moved_same s w c) (mark_held x.counts w c k r mark) 0 tied (manner_ready (marked mark r.manner) short)
+      refl refl (moved_same s w c) (mark_held x.counts w c k r mark) 0 tied (manner_ready (marked mark r.manner) short counted)
       (λ turns few. (let sent = few.sent s x at in let acted = few.acted s x at in (omega (arith, sent), omega (arith, acted))))
 
   mark_did : (n : ℕ) (mark : Mark) → Some n ≡ Some s → IfSome (marked mark r.manner).presence (λ p. length p ≤ 16384)
+      → (marked mark r.manner).pushes < 2 ^ 64
       → Did (On n (Marks mark) ∷ []) 0 a (record a { table = with_session s a.table (with_manner (marked mark r.manner)) })
-  mark_did n mark is short =
+  mark_did n mark is short counted =
       subst (λ (i : ℕ). Did (On i (Marks mark) ∷ []) 0 a (record a { table = with_session s a.table (with_manner (marked mark r.manner)) }))
-      (sym (same_Some n s is)) (mark_by x.state x.holder mark refl refl short)
+      (sym (same_Some n s is)) (mark_by x.state x.holder mark refl refl short counted)
 
-  set_is : (c : Change) → named_by c ≡ Some s → IsSmall (Set c)
+  set_is : (c : Change) → named_by c ≡ Some s → IsSmall (Set c) → IsShortChange c
       → Did (set c ∷ []) 0 a (record a { table = with_session s a.table (set_by c x) })
-  set_is (change.WantsRoster n) is short = mark_did n WantsRoster is ready.shown
-  set_is (change.Pushed n pushes) is short = mark_did n (Pushed pushes) is ready.shown
-  set_is (change.Available n stanza priority) is short = mark_did n (Shown stanza priority) is short
-  set_is (change.Unavailable n) is short = mark_did n Hidden is tt
-  set_is (change.Directed n addresses) is short = mark_did n (Directs addresses) is ready.shown
-  set_is (change.Contact user address name groups) is short = absurd (cc)
-  set_is (change.NoContact user address) is short = absurd (cc)
-  set_is (change.Sees one other now) is short = absurd (cc)
-  set_is (change.Asked one other now) is short = absurd (cc)
+  set_is (change.WantsRoster n) is short few = mark_did n WantsRoster is ready.shown ready.pushes
+  set_is (change.Pushed n pushes) is short few = mark_did n (Pushed pushes) is ready.shown few
+  set_is (change.Available n stanza priority) is short few = mark_did n (Shown stanza priority) is short ready.pushes
+  set_is (change.Unavailable n) is short few = mark_did n Hidden is tt ready.pushes
+  set_is (change.Directed n addresses) is short few = mark_did n (Directs addresses) is ready.shown ready.pushes
+  set_is (change.Contact user address name groups) is short few = absurd (cc)
+  set_is (change.NoContact user address) is short few = absurd (cc)
+  set_is (change.Sees one other now) is short few = absurd (cc)
+  set_is (change.Asked one other now) is short few = absurd (cc)
 
   -- a change of a session that is there
-  pub set_did : (y : SessionRecord) (c : Change) → named_by c ≡ Some s → IsSmall (Set c) → y ≡ set_by c x
+  pub set_did : (y : SessionRecord) (c : Change) → named_by c ≡ Some s → IsSmall (Set c) → IsShortChange c → y ≡ set_by c x
       → Did (set c ∷ []) 0 a (record a { table = with_session s a.table y })
-  set_did y c named short is =
-      subst (λ (z : SessionRecord). Did (set c ∷ []) 0 a (record a { table = with_session s a.table z })) (sym is) (set_is c named short)
+  set_did y c named short few is =
+      subst (λ (z : SessionRecord). Did (set c ∷ []) 0 a (record a { table = with_session s a.table z })) (sym is) (set_is c named short few)
 
 -- of one that is not there
 gone_mark : (a : code.World) (s n : ℕ) (mark : Mark) → IsTied a.table → Some n ≡ Some s → session_of s a.table ≡ None

@@ -8,12 +8,12 @@ use Rattle.session_table.specs.declared.line.Line as stage
 use Rattle.session_table.specs.declared.line.Line.TheVariants.{Empty, Logged}
 use Rattle.session_table.specs.Sessions.{SessionRecord}
 use Rattle.session_table.specs.Tables.{TableRecord, conn_of, line_of, session_of, changed, with_line}
-use Rattle.contact_table.specs.Books.{empty_book}
 use Rattle.house_model.specs.Numbered.{put}
 use Rattle.house_model.specs.Sessions.{Hold, Held, Op, End, Rest, Session, session, over, step_if, session_step}
 use Rattle.house_model.specs.Traffic.{KeptTraffic, brief}
 use Rattle.house_model.specs.States.{Line}
 use Rattle.house_model.specs.Effects.{Effect, On, settled, apply, apply_all}
+use Rattle.house_core.specs.Keeping.{Keeps}
 use Rattle.house_core.specs.declared.world.World as code
 use Rattle.house_core.specs.Houses.{hold_by, traffic_of, rest_of, session_by, sessions_of, lines_of, world_of}
 use Rattle.house_core.specs.Wholes.{IsSession, IsFreeLine, IsTied}
@@ -67,11 +67,11 @@ module _ (a : code.World) (w s : ℕ) (x : SessionRecord) (f : SessionRecord →
       ∙ ap (λ (o : Session KeptTraffic). put s o (sessions_of t)) stepped)
 
   pub off_world : (l : stage.Line)
-      → world_of (with_line w l (changed s f t)) (set a.answers.items w [])
+      → world_of (with_line w l (changed s f t)) (set a.answers.items w []) a.book.book
       ≡ record (apply brief (seen a) (On s op)) { lines = put w (record { stage = l; answers = [] }) ls }
   off_world l = λ i. record {
     opened = t.opened;
-    book = empty_book;
+    book = a.book.book;
     lines = lines_put (changed s f t) a.answers.items w l [] low (omega (arith, low, answered)) i;
     made = t.made;
     sessions = off_sessions l i;
@@ -87,10 +87,10 @@ module _ (a : code.World) (w s : ℕ) (x : SessionRecord) (f : SessionRecord →
   pub off_did : (l : stage.Line) (b : code.World) (es : List Effect) (more : ℕ) → IsUnbound l → ((d u : ℕ) → l ≡ Logged d u → ⊥) → IsSession (f x)
       → (f x).given_up + (f x).queue.given ≡ x.given_up + x.queue.given → (f x).acted ≡ x.acted
       → b.table.lines ≡ set t.lines w l → b.table.sessions ≡ (changed s f t).sessions → b.table.made ≡ t.made → b.table.opened ≤ t.opened + more
-      → length b.answers.items ≡ length a.answers.items
+      → length b.answers.items ≡ length a.answers.items → Keeps a.book b.book
       → seen b ≡ apply_all brief (seen a) es
       → Did es more a b
-  off_did l b es more unbound unlogged ready sent acted lines sessions made opened answers world = record {
+  off_did l b es more unbound unlogged ready sent acted lines sessions made opened answers kept world = record {
     world = world;
     tied = (let old = tied_off w s f l t x tied low at holder left ready unbound in record {
       bound = λ v d n at'. subst (λ (es : List (ℕ × SessionRecord)). IsSomeAnd (session_of n (record t { sessions = es })) (λ z. (z.state ≡ life.Live) × (z.holder ≡ Some v))) (sym sessions)
@@ -116,4 +116,5 @@ module _ (a : code.World) (w s : ℕ) (x : SessionRecord) (f : SessionRecord →
         };
     lines = ap length lines ∙ length-set t.lines w l;
     answered = answers;
+    kept = kept;
   }

@@ -1,12 +1,20 @@
 -- A house before its first event.
-use Rattle.std.proofs.Common.{◌≡◌, ℕ, zero, suc, List, [], replicate, get_or, refl, ◌∙◌}
+use Rattle.std.proofs.Common.{◌≡◌, ℕ, zero, suc, List, [], replicate, get_or, refl, ◌∙◌, ◌≤◌, true, Option, Some, None, subst, arith, sym, length}
 use Rattle.std.proofs.lemmas.List.{length-replicate}
 use Rattle.jid_core.specs.Addresses.{Address}
-use Rattle.session_table.specs.declared.line.Line.TheVariants.{Empty}
-use Rattle.session_table.specs.Tables.{TableRecord, new_table}
-use Rattle.contact_table.specs.Books.{empty_book}
+use Rattle.session_table.specs.declared.line.Line.TheVariants.{Empty, Logged, Bound}
+use Rattle.session_table.specs.Tables.{TableRecord, new_table, line_of}
 use Rattle.house_model.specs.declared.answer.Answer.{Answer}
 use Rattle.house_model.specs.States.{opening, keep, empty_line}
+use Rattle.contact_table.specs.Books.{empty_book, Book}
+use Rattle.contact_table.specs.Tables.{BookRecord}
+use Rattle.std.specs.List.{list_all}
+use Rattle.jid_core.specs.Preparation.{is_local}
+use Rattle.session_table.specs.Sessions.{SessionRecord}
+use Rattle.roster_laws.specs.Keeping.{AreKept}
+use Rattle.roster_laws.proofs.KeepLemmas.{none_kept}
+use Rattle.house_core.specs.Wholes.{IsWhole}
+use Rattle.house_core.specs.Keeping.{AreShortNames}
 use Rattle.house_core.specs.Houses.{HouseRecord, held, lines_of}
 
 same_all : {A : Type 0} (n i : ℕ) (v : A) → get_or (replicate n v) i v ≡ v
@@ -15,35 +23,77 @@ same_all (suc n) zero v = refl
 same_all (suc n) (suc i) v = same_all n i v
 
 -- what is seen of it
-abbrev pub new_house : Address → List (List ℕ) → (workers spare : ℕ) → HouseRecord
-new_house domain users workers spare = record {
+abbrev pub new_house : Address → List (List ℕ) → (workers spare : ℕ) → BookRecord → HouseRecord
+new_house domain users workers spare book = record {
   domain = domain;
   users = users;
   turns = 0;
   moment = 0;
   table = new_table workers spare;
   answers = replicate workers [];
+  book = book;
 }
 
 line_empty : (workers spare w : ℕ) → lines_of (new_table workers spare) (replicate workers []) w ≡ empty_line
 line_empty workers spare w = λ i. record { stage = same_all workers w Empty i; answers = same_all {A = List Answer} workers w [] i }
 
-pub new_held : (domain : Address) (users : List (List ℕ)) (workers spare : ℕ)
-    → held (new_house domain users workers spare) ≡ keep (opening domain users workers)
-new_held domain users workers spare = λ i. record {
+pub new_held : (domain : Address) (users : List (List ℕ)) (workers spare : ℕ) (book : BookRecord) → book.book ≡ empty_book
+    → held (new_house domain users workers spare book) ≡ keep (opening domain users workers)
+new_held domain users workers spare book none = λ i. record {
   head = record { domain = domain; users = users; workers = length-replicate workers Empty i; turns = 0; moment = 0 };
   world = record {
     opened = 0;
-    book = empty_book;
+    book = none i;
     lines = λ w. line_empty workers spare w i;
     made = 0;
     sessions = (keep (opening domain users workers)).world.sessions;
   };
 }
 
-pub held_new : (domain domain' : Address) (users users' : List (List ℕ)) (workers : ℕ) (t : TableRecord) (answers : List (List Answer))
-    → domain' ≡ domain → users' ≡ users → t ≡ new_table workers t.spare → answers ≡ replicate workers []
-    → held (record { domain = domain'; users = users'; turns = 0; moment = 0; table = t; answers = answers }) ≡ keep (opening domain users workers)
-held_new domain domain' users users' workers t answers named known lines none =
-    (λ i. held (record { domain = named i; users = known i; turns = 0; moment = 0; table = lines i; answers = none i }))
-    ∙ new_held domain users workers t.spare
+pub held_new : (domain domain' : Address) (users users' : List (List ℕ)) (workers : ℕ) (t : TableRecord) (answers : List (List Answer)) (book : BookRecord)
+    → domain' ≡ domain → users' ≡ users → t ≡ new_table workers t.spare → answers ≡ replicate workers [] → book.book ≡ empty_book
+    → held (record { domain = domain'; users = users'; turns = 0; moment = 0; table = t; answers = answers; book = book })
+    ≡ keep (opening domain users workers)
+held_new domain domain' users users' workers t answers book named known lines none empty =
+    (λ i. held (record { domain = named i; users = known i; turns = 0; moment = 0; table = lines i; answers = none i; book = book }))
+    ∙ new_held domain users workers t.spare book empty
+
+-- all that is true of a house is true of it
+new_lines : (workers spare w : ℕ) → line_of w (new_table workers spare) ≡ Empty
+new_lines workers spare w = same_all workers w Empty
+
+no_session : {P : Type 0} (x : SessionRecord) → ◌≡◌ {A = Option SessionRecord} None (Some x) → P
+no_session x is = absurd (cc)
+
+fresh_whole : (domain : List ℕ) (users : List (List ℕ)) (workers spare : ℕ) (book : BookRecord) → list_all is_local users ≡ true
+    → length users ≤ 4096 → book.domain ≡ domain → book.book ≡ empty_book
+    → IsWhole domain users 0 0 (new_table workers spare) (replicate workers []) book
+fresh_whole domain users workers spare book prepared few served empty = record {
+  prepared = prepared;
+  few = few;
+  passed = omega arith;
+  answered = length-replicate workers [] ∙ sym (length-replicate workers Empty);
+  known = λ w c u is. absurd (let z : Empty ≡ Logged c u = sym (new_lines workers spare w) ∙ is in cc);
+  tied = record {
+    bound = λ w c s is. absurd (let z : Empty ≡ Bound c s = sym (new_lines workers spare w) ∙ is in cc);
+    holds = λ s w x is holder. no_session x is;
+    each = λ s x is. no_session x is;
+  };
+  counted = record {
+    opened = omega arith;
+    made = omega arith;
+    sent = λ s x is. no_session x is;
+    acted = λ s x is. no_session x is;
+  };
+  served = served;
+  names = subst (λ (k : Book). AreShortNames k.asked) (sym empty) tt;
+  rosters = subst (AreKept domain) (sym empty) (none_kept domain);
+}
+
+pub new_whole : (domain : List ℕ) (users : List (List ℕ)) (workers : ℕ) (t : TableRecord) (answers : List (List Answer)) (book : BookRecord)
+    → list_all is_local users ≡ true → length users ≤ 4096 → t ≡ new_table workers t.spare → answers ≡ replicate workers []
+    → book.domain ≡ domain → book.book ≡ empty_book → IsWhole domain users 0 0 t answers book
+new_whole domain users workers t answers book prepared few lines none served empty =
+    subst (λ (u : TableRecord). IsWhole domain users 0 0 u answers book) (sym lines)
+    (subst (λ (xs : List (List Answer)). IsWhole domain users 0 0 (new_table workers t.spare) xs book) (sym none)
+    (fresh_whole domain users workers t.spare book prepared few served empty))

@@ -12,7 +12,6 @@ use Rattle.session_table.specs.declared.life.Life.TheVariants.{Live, Over}
 use Rattle.session_table.specs.declared.line.Line as stage
 use Rattle.session_table.specs.Sessions.{SessionRecord, ended}
 use Rattle.session_table.specs.Tables.{TableRecord, changed, conn_of, line_of, session_of, with_session}
-use Rattle.contact_table.specs.Books.{empty_book}
 use Rattle.house_model.specs.Numbered.{put}
 use Rattle.house_model.specs.Sessions.{Hold, Held, Away, Ended, Op, Push, End, Rest, Session, session, gone, over, pushed, step_if, session_step}
 use Rattle.house_model.specs.Traffic.{KeptTraffic, brief, nothing_kept, kept_queue}
@@ -28,6 +27,7 @@ use Rattle.house_core.proofs.LeavingLemmas.{tied_away}
 use Rattle.house_core.proofs.EndLemmas.{ended_ready}
 use Rattle.house_core.proofs.WorldLemmas.{moved_same}
 use Rattle.house_core.proofs.DidLemmas.{did_none, put_same}
+use Rattle.house_core.proofs.BookLemmas.{book_same}
 
 -- an operation that changes nothing
 pub same_did : (a : code.World) (s : ℕ) (x : SessionRecord) (m : Hold) (op : Op) → IsTied a.table → session_of s a.table ≡ Some x
@@ -44,7 +44,7 @@ same_did a s x m op tied at hold stays is =
     record {
       world = λ i. record {
         opened = t.opened;
-        book = empty_book;
+        book = a.book.book;
         lines = sym ((λ j. settled s (before j).hold (step j).hold ls) ∙ stays ls) i;
         made = t.made;
         sessions = sym (put_same s (session_step brief (sessions_of t s) op) (sessions_of t) (step ∙ sym before)) i;
@@ -54,6 +54,7 @@ same_did a s x m op tied at hold stays is =
       few = none.few;
       lines = refl;
       answered = refl;
+      kept = book_same;
     }
 
 -- a session that is not there
@@ -68,7 +69,7 @@ gone_same a s op tied none is =
     record {
       world = λ i. record {
         opened = t.opened;
-        book = empty_book;
+        book = a.book.book;
         lines = sym (λ j. settled s (before j).hold (step j).hold ls) i;
         made = t.made;
         sessions = sym (put_same s (session_step brief (sessions_of t s) op) (sessions_of t) (step ∙ sym before)) i;
@@ -78,6 +79,7 @@ gone_same a s op tied none is =
       few = same.few;
       lines = refl;
       answered = refl;
+      kept = book_same;
     }
 
 pub gone_did : (a : code.World) (s : ℕ) (entry : Entry) → IsTied a.table → session_of s a.table ≡ None → Did (On s (Push entry) ∷ []) 0 a a
@@ -113,12 +115,13 @@ module _ (a : code.World) (s : ℕ) (x y : SessionRecord) (m : Hold) (op : Op) (
       → ((turns : ℕ) → IsFew turns a.table → (y.given_up + y.queue.given ≤ turns + more) × (y.acted ≤ turns + more))
       → Did (On s op ∷ []) more a (record a { table = with_session s a.table y })
   live_did more tied ready numbers = record {
-    world = λ i. record { opened = t.opened; book = empty_book; lines = sym live_lines i; made = t.made; sessions = live_session i };
+    world = λ i. record { opened = t.opened; book = a.book.book; lines = sym live_lines i; made = t.made; sessions = live_session i };
     tied = tied_with s t x y tied at state' holder' ready;
     known = λ many users. users;
     few = λ turns few. (let now = numbers turns few in few_with s turns (turns + more) t x y few at (omega arith) now.0 now.1);
     lines = refl;
     answered = refl;
+    kept = book_same;
   }
 
 -- an entry is queued
@@ -191,6 +194,7 @@ module _ (a : code.World) (s : ℕ) (x : SessionRecord) (tied : IsTied a.table) 
     away = ready.away;
     known = ready.known;
     shown = ready.shown;
+    pushes = ready.pushes;
     address = ready.address;
   }
 
@@ -247,7 +251,7 @@ module _ (a : code.World) (s : ℕ) (x : SessionRecord) (tied : IsTied a.table) 
       record {
         world = λ i. record {
           opened = t.opened;
-          book = empty_book;
+          book = a.book.book;
           lines = sym (λ j. settled s (before j).hold (step j).hold ls) i;
           made = t.made;
           sessions = (sessions_put t (ended cause) s x at ∙ ap (λ (o : Session KeptTraffic). put s o (sessions_of t)) (sym step)) i;
@@ -258,4 +262,5 @@ module _ (a : code.World) (s : ℕ) (x : SessionRecord) (tied : IsTied a.table) 
             few_changed s turns (turns + 0) (ended cause) t x few at (omega arith) (omega (arith, sent)) (omega (arith, acted)));
         lines = refl;
         answered = refl;
+        kept = book_same;
       })

@@ -36,6 +36,7 @@ use Rattle.house_core.proofs.DueLemmas.{due_is, due_is_none, there_at}
 use Rattle.house_core.proofs.OffLemmas.{there}
 use Rattle.house_core.proofs.ReadLemmas.{world_said}
 use Rattle.house_core.proofs.WorldLemmas.{few_later}
+use Rattle.house_core.proofs.BookLemmas.{book_same}
 
 -- effects that counted nothing counted at most one
 pub did_more : (es : List Effect) (a b : code.World) → Did es 0 a b → Did es 1 a b
@@ -46,6 +47,7 @@ did_more es a b did = record {
   few = λ turns few. few_later (turns + 0) (turns + 1) b.table (did.few turns few) (omega arith);
   lines = did.lines;
   answered = did.answered;
+  kept = did.kept;
 }
 
 -- the oldest answer of a line was given
@@ -53,24 +55,26 @@ given_did : (w : ℕ) (a : code.World) (now : List Answer) → IsTied a.table �
     → now ≡ drop 1 (get_or a.answers.items w [])
     → Did (At w Said ∷ []) 0 a (record a { answers = with_item a.answers w now })
 given_did w a now tied low is = record {
-  world = world_said a.table a.answers.items w now (drop 1 (get_or a.answers.items w [])) low is;
+  world = world_said a.table a.answers.items a.book.book w now (drop 1 (get_or a.answers.items w [])) low is;
   tied = tied;
   known = λ many users. users;
   few = λ turns few. few_later turns (turns + 0) a.table few (omega arith);
   lines = refl;
   answered = length-set a.answers.items w now;
+  kept = book_same;
 }
 
 -- nothing was given
 same_did : (w : ℕ) (a : code.World) (now : List Answer) → IsTied a.table → now ≡ get_or a.answers.items w []
     → Did [] 0 a (record a { answers = with_item a.answers w now })
 same_did w a now tied is = record {
-  world = ap (world_of a.table) (ap (set a.answers.items w) is ∙ set-get_or a.answers.items w []);
+  world = ap (λ (xs : List (List Answer)). world_of a.table xs a.book.book) (ap (set a.answers.items w) is ∙ set-get_or a.answers.items w []);
   tied = tied;
   known = λ many users. users;
   few = λ turns few. few_later turns (turns + 0) a.table few (omega arith);
   lines = refl;
   answered = length-set a.answers.items w now;
+  kept = book_same;
 }
 
 pub gave_at : (w : ℕ) (a : code.World) (xs now : List Answer) (given : Bool) (before after : List ℕ) → IsTied a.table

@@ -1,7 +1,7 @@
 -- The room in queues, and what effects need of it.
-use Rattle.std.proofs.Common.{◌≡◌, ◌⊎◌, inl, inr, ℕ, zero, suc, ◌+◌, ◌-◌, ◌<◌, ◌≤◌, ◌==◌, Bool, false, List, [], ◌∷◌, drop, get_or, length, map, Option, Some, None, refl, sym, ap, subst, ◌∙◌, arith}
-use Rattle.std.specs.Prelude.{OnOk, IfSome, Result, if◌then◌else◌}
-use Rattle.std.specs.List.{AllByRecursion}
+use Rattle.std.proofs.Common.{◌≡◌, ◌⊎◌, inl, inr, ℕ, zero, suc, ◌+◌, ◌-◌, ◌<◌, ◌≤◌, ◌^◌, ◌==◌, Bool, true, false, List, [], ◌∷◌, ◌++◌, drop, get_or, length, map, Option, Some, None, refl, sym, ap, subst, ◌∙◌, arith}
+use Rattle.std.specs.Prelude.{OnOk, IfSome, Result, bytes_eq, if◌then◌else◌}
+use Rattle.std.specs.List.{filter, AllByRecursion}
 use Rattle.std.specs.Option.{option_map}
 use Rattle.std.proofs.lemmas.Bool.{eq-eqb}
 use Rattle.std.proofs.lemmas.Bool.Decides.{eqb_tells}
@@ -20,20 +20,15 @@ use Rattle.sm_resume.specs.declared.decision.Cause.{Cause}
 use Rattle.session_table.specs.declared.life.Life.TheVariants.{Live}
 use Rattle.session_table.specs.Sessions.{SessionRecord, ended}
 use Rattle.session_table.specs.Tables.{TableRecord, changed, line_ended, session_of, with_session}
-use Rattle.jid_core.specs.Addresses.{Address}
-use Rattle.presence_core.specs.Broadcasts.{asked_by}
-use Rattle.house_model.specs.Fitting.{IsShortAddress, IsShortScene}
-use Rattle.house_model.specs.Lookups.{here}
-use Rattle.house_model.specs.Presences.{asking}
-use Rattle.house_model.specs.Routing.{Scene, departure, effects_in}
-use Rattle.house_model.specs.States.{World}
-use Rattle.house_model.specs.Traffic.{KeptTraffic}
+use Rattle.jid_core.specs.Addresses.{local_text, resource_text}
+use Rattle.contact_table.specs.Books.{Pair, bare_of, firsts_of}
+use Rattle.house_model.specs.Fitting.{AreShortAddresses, IsShortAddress, IsShortScene}
 use Rattle.house_model.specs.Steps.{effect_of}
-use Rattle.house_model.proofs.EffectCases.{effects_all}
-use Rattle.house_model.proofs.PresenceCases.{departure_all}
 use Rattle.house_core.specs.declared.world.World as code
-use Rattle.house_core.specs.Readiness.{AreOfSessions, AreReady, IsOfSessions, needed, needed_by}
+use Rattle.house_core.specs.Readiness.{AreReady, needed, needed_by}
 use Rattle.house_core.specs.Houses.{session_by}
+use Rattle.roster_laws.specs.Keeping.{AreKept}
+use Rattle.house_core.specs.Keeping.{AreShortNames}
 use Rattle.house_core.specs.Wholes.{HasSpare, IsHeldBy, IsTied}
 use Rattle.house_core.specs.Worlds.{Did, seen}
 use Rattle.house_core.proofs.ActLemmas.{on_ok}
@@ -41,42 +36,51 @@ use Rattle.house_core.proofs.DidLemmas.{did_then}
 use Rattle.house_core.proofs.OffLemmas.{there}
 use Rattle.house_core.proofs.TiedLemmas.{changed_here, changed_is}
 
--- what comes of a stanza, and of a departure, is of sessions
-pub stanza_of_sessions : (o : Scene) (s : ℕ) (st : Stanza) → AreOfSessions (effects_in o s st)
-stanza_of_sessions o s st =
-    effects_all o s st IsOfSessions (record {
-      refusal = λ condition. tt;
-      result = tt;
-      found = λ place. tt;
-      copy = λ e h is found. tt;
-      presence = λ e h short found. tt;
-      show = λ h found. tt;
-      asked = λ own. asks (asking o.domain o.world own);
-      shows = λ e priority short. refl;
-      hides = refl;
-      directs = λ addresses. refl;
-    })
-  where
-    asks : (xs : List Address) → AllByRecursion (λ x. IsOfSessions (asked_by (here o.world s) x)) xs
-    asks [] = tt
-    asks (x ∷ more) = (tt, asks more)
-
-pub departure_of_sessions : (world : World KeptTraffic) (s : ℕ) → AreOfSessions (departure world s)
-departure_of_sessions world s = departure_all world s IsOfSessions (λ h found. tt) refl (λ addresses. refl)
-
 -- all that is kept is short
-pub scene_short : (a : code.World) (domain : List ℕ) (users : List (List ℕ)) → IsTied a.table
-    → IsShortScene (record { domain = domain; users = users; world = seen a })
-scene_short a domain users tied = record {
-  addresses = λ s. address_by (session_of s a.table) (λ x at. (tied.each s x at).address);
-  asking = λ own. tt;
+pub addresses_short : (a : code.World) → IsTied a.table → AreShortAddresses (seen a)
+addresses_short a tied s = by (session_of s a.table) (λ x at. (tied.each s x at).address)
+  where
+    by : (o : Option SessionRecord) → ((x : SessionRecord) → o ≡ Some x → IsShortAddress x.address)
+        → IsShortAddress (session_by a.table.lines o).rest.address
+    by None each = omega arith
+    by (Some x) each = each x refl
+
+bare_short : (domain name : List ℕ) → length domain ≤ 1023 → length name ≤ 1023 → IsShortAddress (bare_of domain name)
+bare_short domain name small short =
+    omega (
+      arith,
+      small,
+      short,
+      length-append (local_text (Some name) ++ domain) (resource_text None),
+      length-append (local_text (Some name)) domain,
+      length-append name (64 ∷ []),
+    )
+
+asking_short : (domain own : List ℕ) (ps : List Pair) → length domain ≤ 1023 → AreShortNames ps
+    → AllByRecursion IsShortAddress (map (bare_of domain) (firsts_of own ps))
+asking_short domain own [] small short = tt
+asking_short domain own (p ∷ ps) small short = by (bytes_eq p.b own) (asking_short domain own ps small short.1)
+  where
+    by : (b : Bool) → AllByRecursion IsShortAddress (map (bare_of domain) (firsts_of own ps))
+        → AllByRecursion IsShortAddress (map (bare_of domain) (map (λ q. q.a) (if b then p ∷ filter (λ q. bytes_eq q.b own) ps else filter (λ q. bytes_eq q.b own) ps)))
+    by true rest = (bare_short domain p.a small short.0, rest)
+    by false rest = rest
+
+pub scene_short : (a : code.World) (domain : List ℕ) (users : List (List ℕ)) → IsTied a.table → length domain ≤ 1023
+    → AreShortNames a.book.book.asked → AreKept domain a.book.book → IsShortScene (record { domain = domain; users = users; world = seen a })
+scene_short a domain users tied small names kept = record {
+  domain = small;
+  addresses = addresses_short a tied;
+  asking = λ own. asking_short domain own a.book.book.asked small names;
   presences = λ s. presence_by (session_of s a.table) (λ x at. (tied.each s x at).shown);
+  rosters = λ own. (kept own).small;
+  pushes = λ s. pushes_by (session_of s a.table) (λ x at. (tied.each s x at).pushes);
 }
   where
-    address_by : (o : Option SessionRecord) → ((x : SessionRecord) → o ≡ Some x → IsShortAddress x.address)
-        → IsShortAddress (session_by a.table.lines o).rest.address
-    address_by None each = omega arith
-    address_by (Some x) each = each x refl
+    pushes_by : (o : Option SessionRecord) → ((x : SessionRecord) → o ≡ Some x → x.pushes < 2 ^ 64)
+        → (session_by a.table.lines o).rest.manner.pushes < 2 ^ 64
+    pushes_by None each = omega arith
+    pushes_by (Some x) each = each x refl
 
     presence_by : (o : Option SessionRecord) → ((x : SessionRecord) → o ≡ Some x → IfSome x.presence (λ p. length p ≤ 16384))
         → IfSome (session_by a.table.lines o).rest.manner.presence (λ p. length p ≤ 16384)

@@ -18,7 +18,6 @@ use Rattle.session_table.specs.Tables.{IsLive, TableRecord, Rises, attached, cha
 use Rattle.session_table.specs.Tables as tables
 use Rattle.session_table.proofs.ListLemmas.{rises_changed}
 use Rattle.session_table.proofs.NumberLemmas.{lookup_changed}
-use Rattle.contact_table.specs.Books.{empty_book}
 use Rattle.house_model.specs.declared.answer.Answer.{Answer}
 use Rattle.house_model.specs.Numbered.{put}
 use Rattle.house_model.specs.Sessions.{Hold, Held, Away, Resume, Rest, Session, session, resumed, step_if, session_step}
@@ -35,6 +34,7 @@ use Rattle.house_core.proofs.DeedLemmas.{all_drop}
 use Rattle.house_core.proofs.LeavingLemmas.{free_holds, two_held}
 use Rattle.house_core.proofs.ReadLemmas.{away_is, held_is, lines_put, lines_staged, seen_with}
 use Rattle.house_core.proofs.TiedLemmas.{IsUnbound, changed_else, changed_here}
+use Rattle.house_core.proofs.BookLemmas.{book_same}
 
 -- a line where a session is bound is there
 pub bound_low : (ls : List stage.Line) (v c s : ℕ) → get_or ls v Empty ≡ Bound c s → v < length ls
@@ -234,6 +234,7 @@ module _ (a : code.World) (w s h n : ℕ) (x : SessionRecord) (tied : IsTied a.t
     away = λ on none. absurd (let e : ◌≡◌ {A = Option ℕ} (Some w) None = none in cc);
     known = old.known;
     shown = old.shown;
+    pushes = old.pushes;
     address = old.address;
   })
 
@@ -270,7 +271,7 @@ module _ (a : code.World) (w s h n : ℕ) (x : SessionRecord) (tied : IsTied a.t
       record {
         world = λ i. record {
           opened = t.opened;
-          book = empty_book;
+          book = a.book.book;
           lines = (lines_staged t a.answers.items w (Bound c s) low ∙ sym (λ j. settled s (before j).hold (step j).hold ls)) i;
           made = t.made;
           sessions = λ m. moved_at a d w s c x z tied at logged t2_own t2_else live refl t2_here left same
@@ -282,13 +283,15 @@ module _ (a : code.World) (w s h n : ℕ) (x : SessionRecord) (tied : IsTied a.t
             moved_few a d w s c x z tied at logged t2_own t2_else live refl t2_here left same turns refl refl few numbers.0 numbers.1);
         lines = length-set t.lines w (Bound c s);
         answered = refl;
+        kept = book_same;
       })
 
-  pub resume_away_did : (b : TableRecord) (conn : ℕ) → b ≡ t2 → conn ≡ c → x.holder ≡ None → (q : code.World) → q.answers ≡ a.answers
-      → Did (On s (Resume w conn h) ∷ []) 0 a (record { table = b; answers = q.answers })
-  resume_away_did b conn is conn' none q same =
-      subst (λ vs. Did (On s (Resume w conn h) ∷ []) 0 a (record { table = b; answers = vs })) (sym same)
-      (subst (λ (m : ℕ). Did (On s (Resume w m h) ∷ []) 0 a (record { table = b; answers = a.answers })) (sym conn') (away_did b is none))
+  pub resume_away_did : (b : TableRecord) (conn : ℕ) → b ≡ t2 → conn ≡ c → x.holder ≡ None → (q : code.World) → q.answers ≡ a.answers → q.book ≡ a.book
+      → Did (On s (Resume w conn h) ∷ []) 0 a (record q { table = b })
+  resume_away_did b conn is conn' none q same kept =
+      subst (λ z. Did (On s (Resume w conn h) ∷ []) 0 a (record { table = b; answers = q.answers; book = z })) (sym kept)
+      (subst (λ vs. Did (On s (Resume w conn h) ∷ []) 0 a (record a { table = b; answers = vs })) (sym same)
+      (subst (λ (m : ℕ). Did (On s (Resume w m h) ∷ []) 0 a (record a { table = b })) (sym conn') (away_did b is none)))
 
   -- another line held it
   module _ (v : ℕ) (holds : x.holder ≡ Some v) where
@@ -357,7 +360,7 @@ module _ (a : code.World) (w s h n : ℕ) (x : SessionRecord) (tied : IsTied a.t
         record {
           world = λ i. record {
             opened = t.opened;
-            book = empty_book;
+            book = a.book.book;
             lines = ((λ j. lines_of t3 (set a.answers.items v (empty j)))
                 ∙ (lines_put t2 a.answers.items v o [] low2 (omega (arith, low2, answered, length-set t.lines w (Bound c s)))
                 ∙ (ap (put v (over_line d (Moved c))) (lines_staged t a.answers.items w (Bound c s) low)
@@ -373,15 +376,17 @@ module _ (a : code.World) (w s h n : ℕ) (x : SessionRecord) (tied : IsTied a.t
               moved_few a f w s c x z tied at logged t2_own t2_else live refl here left same turns refl refl few numbers.0 numbers.1);
           lines = length-set t2.lines v o ∙ length-set t.lines w (Bound c s);
           answered = length-set a.answers.items v now;
+          kept = book_same;
         })
 
     pub resume_moved_did : (b e : TableRecord) (now : List Answer) (conn : ℕ) → e ≡ t2 → conn ≡ c → b ≡ line_ended v (Moved conn) e → now ≡ []
-        → (q : code.World) → q.answers ≡ a.answers
-        → Did (On s (Resume w conn h) ∷ []) 0 a (record { table = b; answers = with_item q.answers v now })
-    resume_moved_did b e now conn was' conn' is empty q same' =
-        subst (λ vs. Did (On s (Resume w conn h) ∷ []) 0 a (record { table = b; answers = with_item vs v now })) (sym same')
+        → (q : code.World) → q.answers ≡ a.answers → q.book ≡ a.book
+        → Did (On s (Resume w conn h) ∷ []) 0 a (record q { table = b; answers = with_item q.answers v now })
+    resume_moved_did b e now conn was' conn' is empty q same' kept =
+        subst (λ z. Did (On s (Resume w conn h) ∷ []) 0 a (record { table = b; answers = with_item q.answers v now; book = z })) (sym kept)
+        (subst (λ vs. Did (On s (Resume w conn h) ∷ []) 0 a (record a { table = b; answers = with_item vs v now })) (sym same')
         (subst (λ (m : ℕ). Did (On s (Resume w m h) ∷ []) 0 a (record a { table = b; answers = with_item a.answers v now })) (sym conn')
-        (moved_did b e now conn was' conn' is empty))
+        (moved_did b e now conn was' conn' is empty)))
 
 pub live_now : (s : ℕ) (t : TableRecord) (x : SessionRecord) → session_of s t ≡ Some x → IsLive s t → x.state ≡ life.Live
 live_now s t x at live = (let is : IsSomeAnd (Some x) (λ y. y.state ≡ life.Live) = subst (λ (o : Option SessionRecord). IsSomeAnd o (λ y. y.state ≡ life.Live)) at live in is)

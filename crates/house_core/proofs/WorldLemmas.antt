@@ -6,7 +6,6 @@ use Rattle.std.specs.Vec.{with_item}
 use Rattle.session_table.specs.declared.life.Life.TheVariants.{Live}
 use Rattle.session_table.specs.Sessions.{SessionRecord}
 use Rattle.session_table.specs.Tables.{TableRecord, conn_of, line_of, session_of, with_session}
-use Rattle.contact_table.specs.Books.{empty_book}
 use Rattle.house_model.specs.declared.answer.Answer.{Answer}
 use Rattle.house_model.specs.Numbered.{put}
 use Rattle.house_model.specs.Sessions.{Hold, Held, Op, Session, session, step_if, session_step}
@@ -19,6 +18,7 @@ use Rattle.house_core.specs.Wholes.{IsSession, IsTied, IsFew}
 use Rattle.house_core.specs.Worlds.{seen, Did}
 use Rattle.house_core.proofs.ReadLemmas.{held_is, seen_with, sessions_put, world_said}
 use Rattle.house_core.proofs.TiedLemmas.{tied_with, few_with}
+use Rattle.house_core.proofs.BookLemmas.{book_same}
 
 pub few_later : (n m : ℕ) (t : TableRecord) → IsFew n t → n ≤ m → IsFew m t
 few_later n m t few less = record {
@@ -33,12 +33,13 @@ pub said_did : (w : ℕ) (answer : Answer) (a : code.World) (now : List Answer) 
     → now ≡ get_or a.answers.items w [] ++ answer ∷ []
     → Did (At w (Say answer) ∷ []) 0 a (record a { answers = with_item a.answers w now })
 said_did w answer a now tied low is = record {
-  world = world_said a.table a.answers.items w now (get_or a.answers.items w [] ++ answer ∷ []) low is;
+  world = world_said a.table a.answers.items a.book.book w now (get_or a.answers.items w [] ++ answer ∷ []) low is;
   tied = tied;
   known = λ many users. users;
   few = λ turns few. few_later turns (turns + 0) a.table few (omega arith);
   lines = refl;
   answered = length-set a.answers.items w now;
+  kept = book_same;
 }
 
 -- a session that is held as before leaves the lines as they are
@@ -80,8 +81,8 @@ module _ (a : code.World) (s w : ℕ) (x y : SessionRecord) (op : Op) (at : sess
   one_session : sessions_of (with_session s t y) ≡ put s (session_step brief (sessions_of t s) op) (sessions_of t)
   one_session = sessions_put t (λ _. y) s x at ∙ ap (λ (o : Session KeptTraffic). put s o (sessions_of t)) (after ∙ sym stepped)
 
-  held_world : world_of (with_session s t y) a.answers.items ≡ apply brief (seen a) (On s op)
-  held_world = λ i. record { opened = t.opened; book = empty_book; lines = sym same_lines i; made = t.made; sessions = one_session i }
+  held_world : world_of (with_session s t y) a.answers.items a.book.book ≡ apply brief (seen a) (On s op)
+  held_world = λ i. record { opened = t.opened; book = a.book.book; lines = sym same_lines i; made = t.made; sessions = one_session i }
 
   pub held_did : (more : ℕ) → IsTied a.table → IsSession y
       → ((turns : ℕ) → IsFew turns a.table → (y.given_up + y.queue.given ≤ turns + more) × (y.acted ≤ turns + more))
@@ -93,4 +94,5 @@ module _ (a : code.World) (s w : ℕ) (x y : SessionRecord) (op : Op) (at : sess
     few = λ turns few. (let now = numbers turns few in few_with s turns (turns + more) t x y few at (omega arith) now.0 now.1);
     lines = refl;
     answered = refl;
+    kept = book_same;
   }

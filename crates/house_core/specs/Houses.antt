@@ -8,7 +8,8 @@ use Rattle.session_table.specs.declared.line.Line.TheVariants.{Empty}
 use Rattle.session_table.specs.Sessions.{SessionRecord}
 use Rattle.session_table.specs.Tables.{TableRecord, conn_of, line_of, session_of}
 use Rattle.house_model.specs.declared.answer.Answer.{Answer}
-use Rattle.contact_table.specs.Books.{empty_book}
+use Rattle.contact_table.specs.Books.{Book}
+use Rattle.contact_table.specs.Tables.{BookRecord}
 use Rattle.house_model.specs.Sessions.{Hold, Held, Away, Ended, Rest, Session, session, gone}
 use Rattle.house_model.specs.Traffic.{KeptTraffic, nothing_kept}
 use Rattle.house_model.specs.States.{Line, World, Kept}
@@ -20,6 +21,7 @@ pub record HouseRecord : Type 0 where
   pub moment : ℕ
   pub table : TableRecord
   pub answers : List (List Answer)  -- those that wait at each line, the oldest first
+  pub book : BookRecord  -- what is kept of users
 
 -- who holds a session: the connection that is at its line
 abbrev pub hold_by : Life → Option ℕ → List stage.Line → Hold
@@ -57,12 +59,12 @@ sessions_of t s = session_by t.lines (session_of s t)
 abbrev pub lines_of : TableRecord → List (List Answer) → ℕ → Line
 lines_of t answers w = record { stage = line_of w t; answers = slice_index_or answers w [] }
 
-abbrev pub world_of : TableRecord → List (List Answer) → World KeptTraffic
-world_of t answers = record { opened = t.opened; lines = lines_of t answers; made = t.made; sessions = sessions_of t; book = empty_book }
+abbrev pub world_of : TableRecord → List (List Answer) → Book → World KeptTraffic
+world_of t answers k = record { opened = t.opened; lines = lines_of t answers; made = t.made; sessions = sessions_of t; book = k }
 
--- what the definitions see of a house; nothing is kept of its users yet
+-- what the definitions see of a house
 abbrev pub held : HouseRecord → Kept
 held h = record {
   head = record { domain = h.domain; users = h.users; workers = length h.table.lines; turns = h.turns; moment = h.moment };
-  world = world_of h.table h.answers;
+  world = world_of h.table h.answers h.book.book;
 }

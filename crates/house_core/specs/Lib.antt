@@ -2,6 +2,7 @@ pub mod Houses
 pub mod Wholes
 pub mod Worlds
 pub mod Gates
+pub mod Keeping
 pub mod Listings
 pub mod Marks
 pub mod Readiness

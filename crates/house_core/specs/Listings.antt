@@ -1,5 +1,5 @@
 -- The sessions of a user that go on, as the table has them, and what goes to one session.
-use Rattle.std.specs.Prelude.{ℕ, not, List, [], ◌∷◌, Bool, true, false, ◌&&◌, Some, is_some}
+use Rattle.std.specs.Prelude.{ℕ, not, List, [], ◌∷◌, Bool, true, false, ◌&&◌, Option, Some, None, is_some, bytes_eq}
 use Rattle.std.specs.List.{list_any}
 use Rattle.jid_core.specs.Addresses.{Address, same_part}
 use Rattle.stanza_model.specs.declared.effect.Effect.{Effect}
@@ -39,3 +39,11 @@ listed pick (e ∷ more) = listed_by (pick e.1) e (listed pick more)
 abbrev pub message_copied : Here → Stanza → (session : ℕ) → List Effect
 message_copied who (Message to form e) session = copied_to who to e session ∷ []
 message_copied who st session = []
+
+-- an available session of one of these users
+abbrev pub is_among : List (List ℕ) → Option (List ℕ) → Bool
+is_among users None = false
+is_among users (Some user) = list_any (λ x. bytes_eq x user) users
+
+abbrev pub is_seen : List (List ℕ) → SessionRecord → Bool
+is_seen users x = not (is_over x.state) && (is_some x.presence && is_among users x.address.local)

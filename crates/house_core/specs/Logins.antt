@@ -4,6 +4,7 @@ use Rattle.house_model.specs.declared.reply.Reply.{Reply}
 use Rattle.house_model.specs.Effects.{apply_all}
 use Rattle.house_model.specs.Gate.{Verdict}
 use Rattle.house_model.specs.Traffic.{brief}
+use Rattle.house_core.specs.Keeping.{Keeps}
 use Rattle.house_core.specs.declared.world.World.{World}
 use Rattle.house_core.specs.Wholes.{AreUsers, IsFew, IsTied}
 use Rattle.house_core.specs.Worlds.{seen}
@@ -17,3 +18,4 @@ pub record Enters (v : Verdict) (many : ℕ) (reply : Reply) (old new : World) :
   pub few : (turns : ℕ) → IsFew turns old.table → IsFew turns new.table
   pub lines : length new.table.lines ≡ length old.table.lines
   pub answered : length new.answers.items ≡ length old.answers.items
+  pub kept : Keeps old.book new.book

@@ -1,8 +1,8 @@
 -- Whether there is room for what effects queue.
-use Rattle.std.specs.Prelude.{ℕ, ◌+◌, ◌==◌, List, [], ◌∷◌, count_by, IsSome, ⊤, if◌then◌else◌}
-use Rattle.std.specs.List.{AllByRecursion}
+use Rattle.std.specs.Prelude.{ℕ, ◌+◌, ◌≤◌, ◌==◌, List, [], ◌∷◌, count_by, is_some, if◌then◌else◌}
 use Rattle.stanza_model.specs.declared.effect.Effect.{Effect}
 use Rattle.stanza_model.specs.declared.effect.Effect.TheVariants.{Queue, Set}
+use Rattle.contact_table.specs.Tables as book
 use Rattle.session_table.specs.Tables.{TableRecord}
 use Rattle.house_core.specs.Marks.{named_by}
 use Rattle.house_core.specs.Wholes.{HasSpare}
@@ -30,10 +30,22 @@ times s numbers = count_by (λ r. s == r) numbers
 abbrev pub AreReady : List Effect → TableRecord → Type 0
 AreReady effects t = (s : ℕ) → HasSpare (needed s effects) s t
 
--- an effect that queues a stanza or sets what is kept of a session
-abbrev pub IsOfSessions : Effect → Type 0
-IsOfSessions (Queue s to rest origin) = ⊤
-IsOfSessions (Set change) = IsSome (named_by change)
+-- how many changes of a user are noted
 
-abbrev pub AreOfSessions : List Effect → Type 0
-AreOfSessions effects = AllByRecursion IsOfSessions effects
+abbrev pub notes_by : (user : List ℕ) → Effect → ℕ
+notes_by user (Queue s to rest origin) = 0
+notes_by user (Set change) = book.needed user change
+
+abbrev pub notes : (user : List ℕ) → List Effect → ℕ
+notes user [] = 0
+notes user (e ∷ more) = notes_by user e + notes user more
+
+-- how many changes are noted, whoever's
+abbrev pub changes_in : List Effect → ℕ
+changes_in [] = 0
+changes_in (Queue s to rest origin ∷ more) = changes_in more
+changes_in (Set change ∷ more) = (if is_some (named_by change) then 0 else 1) + changes_in more
+
+-- there is room for all of them
+abbrev pub AreNotable : List Effect → book.BookRecord → Type 0
+AreNotable effects k = (user : List ℕ) → notes user effects ≤ book.spare user k

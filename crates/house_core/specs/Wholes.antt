@@ -1,5 +1,5 @@
 -- What is true of every house in memory.
-use Rattle.std.specs.Prelude.{◌≡◌, ℕ, ◌+◌, ◌<◌, ◌≤◌, List, true, length, Some, None, IfSome, IsSome, IsSomeAnd}
+use Rattle.std.specs.Prelude.{◌≡◌, ℕ, ◌+◌, ◌<◌, ◌≤◌, ◌^◌, List, true, length, Some, None, IfSome, IsSome, IsSomeAnd}
 use Rattle.std.specs.List.{list_all, AllByRecursion}
 use Rattle.stanza_tree.specs.declared.frame.Entry.{Entry}
 use Rattle.stanza_tree.specs.Entries.{frame}
@@ -9,10 +9,13 @@ use Rattle.session_table.specs.declared.life.Life.TheVariants.{Live}
 use Rattle.session_table.specs.declared.line.Line.TheVariants.{Logged, Bound}
 use Rattle.session_table.specs.Sessions.{SessionRecord}
 use Rattle.session_table.specs.Tables.{TableRecord, line_of, session_of}
+use Rattle.contact_table.specs.Tables.{BookRecord}
+use Rattle.roster_laws.specs.Keeping.{AreKept}
 use Rattle.house_model.specs.declared.answer.Answer.{Answer}
 use Rattle.house_model.specs.Answers.{answer_text}
 use Rattle.house_model.specs.Fitting.{IsShortAddress}
 use Rattle.house_model.specs.Steps.{last_moment}
+use Rattle.house_core.specs.Keeping.{AreShortNames}
 
 -- how many bytes a frame may have
 abbrev pub most_of_frame : ℕ
@@ -27,7 +30,7 @@ abbrev pub AreShort : List Entry → Type 0
 AreShort entries = AllByRecursion (λ e. length (frame e) ≤ most_of_frame) entries
 
 -- what is true of each session that is there: the places of its traffic are in order, each frame fits a pull, one that no line holds, or
--- that has an id, counts, a presence that is kept has at most so many bytes, and so has its address
+-- that has an id, counts, a presence that is kept has at most so many bytes, and so has its address, and its pushes are counted
 pub record IsSession (x : SessionRecord) : Type 0 where
   pub given : x.queue.given ≤ length x.queue.waiting
   pub asked : x.asked_at ≤ x.given_up + x.queue.given
@@ -36,6 +39,7 @@ pub record IsSession (x : SessionRecord) : Type 0 where
   pub away : x.state ≡ Live → x.holder ≡ None → x.counts ≡ true
   pub known : IsSome x.resume_id → x.counts ≡ true
   pub shown : IfSome x.presence (λ p. length p ≤ 16384)
+  pub pushes : x.pushes < 2 ^ 64
   pub address : IsShortAddress x.address
 
 -- session s is there, goes on, and line w holds it
@@ -68,7 +72,7 @@ pub record IsFew (turns : ℕ) (t : TableRecord) : Type 0 where
 abbrev pub AreUsers : ℕ → TableRecord → Type 0
 AreUsers many t = (w c u : ℕ) → line_of w t ≡ Logged c u → u < many
 
-pub record IsWhole (users : List (List ℕ)) (turns moment : ℕ) (t : TableRecord) (answers : List (List Answer)) : Type 0 where
+pub record IsWhole (domain : List ℕ) (users : List (List ℕ)) (turns moment : ℕ) (t : TableRecord) (answers : List (List Answer)) (book : BookRecord) : Type 0 where
   pub prepared : list_all is_local users ≡ true
   pub few : length users ≤ 4096
   pub passed : moment ≤ last_moment
@@ -76,3 +80,6 @@ pub record IsWhole (users : List (List ℕ)) (turns moment : ℕ) (t : TableReco
   pub known : AreUsers (length users) t
   pub tied : IsTied t
   pub counted : IsFew turns t
+  pub served : book.domain ≡ domain
+  pub names : AreShortNames book.book.asked
+  pub rosters : AreKept domain book.book

@@ -15,11 +15,12 @@ use Rattle.house_model.specs.Traffic.{KeptTraffic, brief}
 use Rattle.house_model.specs.States.{World}
 use Rattle.house_model.specs.Effects.{Effect, On, apply_all}
 use Rattle.house_core.specs.Houses.{world_of}
+use Rattle.house_core.specs.Keeping.{Keeps}
 use Rattle.house_core.specs.Wholes.{IsHeldBy, IsTied, IsFew, AreUsers}
 use Rattle.session_table.specs.Tables.{TableRecord, is_there, line_of, session_of}
 
 abbrev pub seen : code.World → World KeptTraffic
-seen x = world_of x.table x.answers.items
+seen x = world_of x.table x.answers.items x.book.book
 
 -- session s is held at some line
 abbrev pub IsHeld : ℕ → TableRecord → Type 0
@@ -49,6 +50,7 @@ pub record Did (effects : List Effect) (more : ℕ) (old new : code.World) : Typ
   pub few : (turns : ℕ) → IsFew turns old.table → IsFew (turns + more) new.table
   pub lines : length new.table.lines ≡ length old.table.lines
   pub answered : length new.answers.items ≡ length old.answers.items
+  pub kept : Keeps old.book new.book
 
 -- what becomes of the session at a line that is left
 abbrev pub left_at : World KeptTraffic → ℕ → stage.Line → List Effect

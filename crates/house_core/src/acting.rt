@@ -4,7 +4,9 @@ ghost use Rattle.house_model.specs.declared.event.Event.{Event};
 ghost use Rattle.house_model.specs.States.{Kept, State};
 ghost use Rattle.house_model.specs.Steps.{last_moment, verdict};
 ghost use Rattle.house_model.specs.Histories.{StandsFor, StanzaFits, Turn, ended, kept_step, passed};
+ghost use Rattle.roster_laws.specs.Keeping.{AreKept};
 ghost use Rattle.house_core.specs.Houses.{held};
+ghost use Rattle.house_core.specs.Keeping.{AreShortNames};
 ghost use Rattle.house_core.specs.Wholes.{IsFew, IsTied};
 ghost use Rattle.house_core.specs.Worlds.{Did, Ends, seen};
 
@@ -39,6 +41,9 @@ impl World {
         requires moment { moment ≤ last_moment }
         requires tied { IsTied self.old.table }
         requires small { IsFew (2 ^ 64 - 5002) self.old.table }
+        requires domain { self.old.book.domain ≡ domain.now.domain }
+        requires names { AreShortNames self.old.book.book.asked }
+        requires rosters { AreKept domain.now.domain self.old.book.book }
         requires fits { StanzaFits stanza.now }
         ensures done { IfOk result (λ reply. (k : Kept) → k.world ≡ seen self.old → k.head.moment ≡ moment
             → k.head.domain ≡ domain.now → k.head.users ≡ users.now → (t : ℕ)

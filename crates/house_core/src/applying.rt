@@ -1,11 +1,12 @@
 //! The effects of a stanza are applied one after another, without taking any memory.
-ghost use Rattle.std.specs.Prelude.{◌≡◌, ◌-◌, ◌^◌, ◌∷◌, [], ℕ, length, map};
+ghost use Rattle.std.specs.Prelude.{◌≡◌, ◌≤◌, ◌+◌, ◌-◌, ◌^◌, ◌∷◌, [], ℕ, List, length, map};
+ghost use Rattle.contact_table.specs.Tables.{spare};
 ghost use Rattle.stanza_model.specs.declared.stanza.Stanza.{Stanza};
 ghost use Rattle.house_model.specs.Effects.{On};
 ghost use Rattle.house_model.specs.Fitting.{AreSmall, IsSmall};
 ghost use Rattle.house_model.specs.Sessions.{Act};
 ghost use Rattle.house_model.specs.Steps.{effect_of};
-ghost use Rattle.house_core.specs.Readiness.{AreOfSessions, AreReady, IsOfSessions, needed_by};
+ghost use Rattle.house_core.specs.Readiness.{AreNotable, AreReady, needed_by, notes_by};
 ghost use Rattle.house_core.specs.Wholes.{HasSpare, IsFew, IsTied};
 ghost use Rattle.house_core.specs.Worlds.{Did, IsHeld, Stays};
 
@@ -21,10 +22,11 @@ impl World {
         requires small { IsFew (2 ^ 64 - 5001) self.old.table }
         requires ready { (s : ℕ) → HasSpare (needed_by s effect) s self.old.table }
         requires short { IsSmall effect }
-        requires sessions { IsOfSessions effect }
+        requires places { (user : List ℕ) → notes_by user effect ≤ spare user self.old.book }
         ensures did { Did (effect_of effect ∷ []) 0 self.old self.new }
         ensures stays { Stays self.old self.new }
         ensures room { (n s : ℕ) → HasSpare n s self.old.table → HasSpare (n - needed_by s effect) s self.new.table }
+        ensures places { (user : List ℕ) → spare user self.old.book ≤ spare user self.new.book + notes_by user effect }
     {
         match effect {
             Effect::Queue {
@@ -44,7 +46,7 @@ impl World {
         requires small { IsFew (2 ^ 64 - 5001) self.old.table }
         requires ready { AreReady effects.items self.old.table }
         requires short { AreSmall effects.items }
-        requires sessions { AreOfSessions effects.items }
+        requires places { AreNotable effects.items self.old.book }
         ensures did { Did (map effect_of effects.items) 0 self.old self.new }
         ensures stays { Stays self.old self.new }
     {
@@ -61,7 +63,7 @@ impl World {
         requires small { IsFew (2 ^ 64 - 5002) self.old.table }
         requires ready { AreReady effects.items self.old.table }
         requires short { AreSmall effects.items }
-        requires sessions { AreOfSessions effects.items }
+        requires places { AreNotable effects.items self.old.book }
         ensures { (stanza : Stanza) → Did (On s (Act stanza) ∷ map effect_of effects.items) 1 self.old self.new }
     {
         self.act(s);

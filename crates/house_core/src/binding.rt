@@ -12,7 +12,7 @@ ghost use Rattle.house_model.specs.Steps.{binds, has_place};
 ghost use Rattle.house_model.specs.declared.event.Event.{Event};
 ghost use Rattle.house_core.specs.Bindings.{begun_in, replaced_in, told_in};
 ghost use Rattle.house_core.specs.Houses.{held};
-ghost use Rattle.house_core.specs.Readiness.{AreOfSessions, AreReady};
+ghost use Rattle.house_core.specs.Readiness.{AreNotable, AreReady};
 ghost use Rattle.house_core.specs.Wholes.{IsFew, IsTied};
 ghost use Rattle.house_core.specs.Worlds.{Did, Ends, KeepsLogged, seen};
 
@@ -67,7 +67,6 @@ impl World {
         requires tied { IsTied self.now.table }
         ensures told { IfOk result (λ told. told.items ≡ told_in (seen self.now) address.now) }
         ensures short { IfOk result (λ told. AreSmall told.items) }
-        ensures sessions { IfOk result (λ told. AreOfSessions told.items) }
     {
         let _ = self.table.session(0);
         match self.table.at(address) {
@@ -84,7 +83,7 @@ impl World {
         requires told { told.items ≡ told_in (seen self.old) address.now }
         requires ready { AreReady told.items self.old.table }
         requires short { AreSmall told.items }
-        requires sessions { AreOfSessions told.items }
+        requires places { AreNotable told.items self.old.book }
         ensures did { Did (replaced_in (seen self.old) address.now) 0 self.old self.new }
         ensures others { KeepsLogged self.old self.new }
         ensures room { self.old.table.spare ≤ self.new.table.spare }
@@ -109,7 +108,7 @@ impl World {
         requires told { told.items ≡ told_in (seen self.old) address }
         requires ready { AreReady told.items self.old.table }
         requires short { AreSmall told.items }
-        requires sessions { AreOfSessions told.items }
+        requires places { AreNotable told.items self.old.book }
         ensures { Did (begun_in (seen self.old) w (conn_of (line_of w self.old.table)) address answer) 1 self.old self.new }
     {
         self.replace(&address, told);
@@ -122,6 +121,7 @@ impl World {
         requires tied { IsTied self.old.table }
         ensures room { OnOk result (0 < self.new.table.spare) }
         ensures ready { OnOk result (AreReady told.now self.new.table) }
+        ensures places { OnOk result (AreNotable told.now self.new.book) }
         ensures same { Did [] 0 self.old self.new }
     {
         self.prepare(told)?;

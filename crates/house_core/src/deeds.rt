@@ -92,6 +92,7 @@ impl World {
         requires tied { IsTied self.old.table }
         requires small { IsFew (2 ^ 64 - 2) self.old.table }
         ensures did { (stanza : Stanza) → Did (On s (Act stanza) ∷ []) 1 self.old self.new }
+        ensures book { self.new.book ≡ self.old.book }
         ensures room { (n r : ℕ) → HasSpare n r self.old.table → HasSpare n r self.new.table }
     {
         if let Some(session) = self.table.session_mut(s) {

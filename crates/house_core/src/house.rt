@@ -9,6 +9,7 @@ ghost use Rattle.house_core.specs.Houses.{held};
 
 use crate::answers::Answers;
 use crate::world::World;
+use contact_table::Book;
 use jid_core::{Jid, Part};
 use session_table::Table;
 use stanza_tree::NoMemory;
@@ -34,9 +35,9 @@ impl Model for House {
 
     ghost Value = { HouseRecord };
 
-    ghost view = { λ h. record { domain = h.domain; users = h.users.items; turns = h.turns; moment = h.moment; table = h.world.table; answers = h.world.answers.items } };
+    ghost view = { λ h. record { domain = h.domain; users = h.users.items; turns = h.turns; moment = h.moment; table = h.world.table; answers = h.world.answers.items; book = h.world.book } };
 
-    ghost invariant = { λ h. IsWhole h.users.items h.turns h.moment h.world.table h.world.answers.items };
+    ghost invariant = { λ h. IsWhole h.domain.domain h.users.items h.turns h.moment h.world.table h.world.answers.items h.world.book };
 }
 
 impl House {
@@ -47,6 +48,7 @@ impl House {
         ensures held { IfOk result (λ h. held h ≡ keep (opening domain.now users.now workers)) }
         ensures history { IfOk result (λ h. StandsFor (opening domain.now users.now workers) [] (held h)) }
     {
+        let book = Book::new(alloc, domain.domain.copy(alloc)?);
         Ok(House {
             domain: domain.copy(alloc)?,
             users: copies_of(alloc, users)?,
@@ -55,6 +57,7 @@ impl House {
             world: World {
                 table: Table::new(alloc, workers)?,
                 answers: no_answers(alloc, workers)?,
+                book,
             },
         })
     }

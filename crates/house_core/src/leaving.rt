@@ -25,6 +25,7 @@ impl World {
         requires held { IsHeldBy w s self.old.table }
         ensures did { Did (On s (End cause) ∷ []) 0 self.old self.new }
         ensures free { IsFreeLine w self.new.table }
+        ensures book { self.new.book ≡ self.old.book }
         ensures room { self.new.table.spare ≡ self.old.table.spare }
         ensures queues { (n r : ℕ) → HasSpare n r self.old.table → HasSpare n r self.new.table }
     {
@@ -40,6 +41,7 @@ impl World {
         requires there { is_there s self.old.table ≡ true }
         ensures table { self.new.table ≡ changed s (released moment) self.old.table }
         ensures answers { self.new.answers ≡ self.old.answers }
+        ensures book { self.new.book ≡ self.old.book }
     {
         let Some(session) = self.table.session(s) else {
             return;

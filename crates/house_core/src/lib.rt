@@ -25,6 +25,7 @@ mod pulling;
 mod requests;
 mod reserving;
 mod resuming;
+mod rosters;
 mod routing;
 mod submit;
 mod world;

@@ -1,17 +1,19 @@
 //! The sessions that the rules on stanzas see, and how they see them.
-ghost use Rattle.std.specs.Prelude.{◌≡◌, not, true, IfOk, IfSome, Some};
+ghost use Rattle.std.specs.Prelude.{◌≡◌, flat_map, not, true, IfOk, IfSome, Some};
 ghost use Rattle.std.specs.List.{list_any};
 ghost use Rattle.std.specs.Option.{option_copied};
 ghost use Rattle.house_model.specs.Lookups.{goes_on, here, live_at, sessions_of};
-ghost use Rattle.house_model.specs.Presences.{directed_by, named, names};
+ghost use Rattle.contact_table.specs.Tables.{users_in};
+ghost use Rattle.house_model.specs.Presences.{available_of, directed_by, named, names};
 ghost use Rattle.house_model.specs.Routing.{live_for};
 ghost use Rattle.session_table.specs.Sessions.{is_over};
 ghost use Rattle.session_table.specs.Tables.{is_there};
-ghost use Rattle.house_core.specs.Listings.{here_from, is_named, is_users};
+ghost use Rattle.house_core.specs.Listings.{here_from, is_among, is_named, is_seen, is_users, listed};
 ghost use Rattle.house_core.specs.Wholes.{IsTied};
 ghost use Rattle.house_core.specs.Worlds.{seen};
 
 use crate::world::World;
+use contact_table::Order;
 use jid_core::{Jid, Part};
 use session_table::{Life, Session};
 use stanza_model::Here;
@@ -75,6 +77,22 @@ fn is_named(addresses: &[Jid], session: &Session) -> bool
     ensures { result ≡ is_named addresses.now session.now }
 {
     is_going(session) && is_named_among(addresses, session)
+}
+
+fn is_among(users: &Order, session: &Session) -> bool
+    ensures { result ≡ is_among users.now.users session.now.address.local }
+{
+    match &session.address().local {
+        Some(user) => users.has(user),
+        None => false,
+    }
+}
+
+/// Whether a session goes on, is available, and is of one of these users.
+fn is_seen(users: &Order, session: &Session) -> bool
+    ensures { result ≡ is_seen users.now.users session.now }
+{
+    is_going(session) && session.presence.is_some() && is_among(users, session)
 }
 
 impl World {
@@ -153,6 +171,36 @@ impl World {
             }
         }
         Ok(found)
+    }
+
+    // The available sessions of these users, by number.
+    fn seen_among(&self, alloc: Global, users: &Order) -> Result<Vec<Here>, NoMemory>
+        requires { IsTied self.now.table }
+        ensures { IfOk result (λ found. found.items ≡ listed (is_seen users.now.users) self.now.table.sessions) }
+    {
+        let mut found = Vec::new(alloc);
+        for (number, session) in self.table.sessions() {
+            if is_seen(users, session) {
+                found.push(here_of(alloc, *number, session)?)?;
+            }
+        }
+        Ok(found)
+    }
+
+    /// The available sessions of users, user by user. Costs a look at each session, and a sort of those that are found.
+    pub(crate) fn available_of(
+        &self,
+        alloc: Global,
+        users: Option<&Order>,
+    ) -> Result<Vec<Here>, NoMemory>
+        requires { IsTied self.now.table }
+        ensures { IfOk result (λ found. found.items ≡ flat_map (available_of (seen self.now)) (users_in (option_copied users.entry))) }
+    {
+        let _ = self.table.session(0);
+        match users {
+            Some(users) => users.arrange(self.seen_among(alloc, users)?),
+            None => Ok(Vec::new(alloc)),
+        }
     }
 
     /// To whom a session sent presence alone.

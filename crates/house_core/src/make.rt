@@ -93,6 +93,13 @@ pub(crate) fn know_short(address: &Jid)
     let _ = &address.domain;
 }
 
+/// A part of an address has at most 1,023 bytes.
+pub(crate) fn know_part(part: &Part)
+    ensures { length part.now ≤ 1023 }
+{
+    let _ = part.bytes();
+}
+
 /// The address of a stanza, where it has one, likewise.
 pub(crate) fn know_to(stanza: &Stanza)
     ensures { IfSome (to_in stanza.now) (λ a. length (address_text a) ≤ 3071) }

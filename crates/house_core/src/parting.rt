@@ -10,7 +10,7 @@ ghost use Rattle.house_model.specs.Routing.{departure};
 ghost use Rattle.house_model.specs.Sessions.{End, Part, Push, Resume};
 ghost use Rattle.house_model.specs.Steps.{departs};
 ghost use Rattle.house_model.specs.Traffic.{kept_inward};
-ghost use Rattle.house_core.specs.Readiness.{AreOfSessions, AreReady};
+ghost use Rattle.house_core.specs.Readiness.{AreNotable, AreReady};
 ghost use Rattle.house_core.specs.Wholes.{HasSpare, IsFew, IsTied};
 ghost use Rattle.house_core.specs.Worlds.{Counts, Did, Handles, IsOver, KeepsLogged, Stays, rewound_to, seen};
 
@@ -57,6 +57,7 @@ impl World {
         requires there { is_there s self.old.table ≡ true }
         ensures did { Did (On s (End cause) ∷ []) 0 self.old self.new }
         ensures stays { Stays self.old self.new }
+        ensures book { self.new.book ≡ self.old.book }
         ensures queues { (n r : ℕ) → HasSpare n r self.old.table → HasSpare n r self.new.table }
     {
         let Some(session) = self.table.session(s) else {
@@ -80,7 +81,7 @@ impl World {
         requires told { told.items ≡ departure (seen self.old) s }
         requires ready { AreReady told.items self.old.table }
         requires short { AreSmall told.items }
-        requires sessions { AreOfSessions told.items }
+        requires places { AreNotable told.items self.old.book }
         ensures did { Did (departs (seen self.old) s cause) 0 self.old self.new }
         ensures others { KeepsLogged self.old self.new }
         ensures room { self.old.table.spare ≤ self.new.table.spare }
@@ -111,6 +112,7 @@ impl World {
         requires short { length (frame entry) ≤ 524288 }
         ensures did { Did (On s (Push entry) ∷ []) 0 self.old self.new }
         ensures stays { Stays self.old self.new }
+        ensures book { self.new.book ≡ self.old.book }
         ensures queues { (n r : ℕ) → HasSpare n r self.old.table
             → HasSpare (n - (if r == s then 1 else 0)) r self.new.table }
     {
@@ -139,6 +141,7 @@ impl World {
         requires short { length (frame entry) ≤ 524288 }
         ensures did { Did (On s (Push entry) ∷ []) 0 self.old self.new }
         ensures stays { Stays self.old self.new }
+        ensures book { self.new.book ≡ self.old.book }
         ensures queues { (n r : ℕ) → HasSpare n r self.old.table
             → HasSpare (n - (if r == s then 1 else 0)) r self.new.table }
     {
@@ -183,6 +186,7 @@ impl World {
         requires handled { Handles h n s self.old.table }
         ensures table { self.new.table ≡ changed s (rewound_to n) self.old.table }
         ensures answers { self.new.answers ≡ self.old.answers }
+        ensures book { self.new.book ≡ self.old.book }
     {
         if let Some(session) = self.table.session_mut(s) {
             rewind(session, h, n);

@@ -92,7 +92,7 @@ fn to_be_in_room(
 }
 
 impl World {
-    /// Those who see the presence of a session of this user. Nothing is kept of contacts yet.
+    /// Those who see the presence of a session of this user.
     pub(crate) fn watchers(
         &self,
         alloc: Global,
@@ -102,23 +102,27 @@ impl World {
         requires { IsTied self.now.table }
         ensures { IfOk result (λ found. found.items ≡ watchers (seen self.now) own.now who.now) }
     {
+        let mut found = self.available_of(alloc, self.book.who_sees(own))?;
         let mut sessions = self.sessions_of(alloc, own)?;
         keep_told(who, &mut sessions);
-        Ok(sessions)
+        found.append(&mut sessions)?;
+        Ok(found)
     }
 
-    /// Those whose presence it sees. Nothing is kept of contacts yet.
+    /// Those whose presence it sees.
     fn in_sight(&self, alloc: Global, own: &Part, who: &Here) -> Result<Vec<Here>, NoMemory>
         requires { IsTied self.now.table }
         ensures { IfOk result (λ found. found.items ≡ in_sight (seen self.now) own.now who.now) }
     {
+        let mut found = self.available_of(alloc, self.book.whom_sees(own))?;
         let mut sessions = self.sessions_of(alloc, own)?;
         keep_others(who, &mut sessions);
-        Ok(sessions)
+        found.append(&mut sessions)?;
+        Ok(found)
     }
 
     /// The presence that is kept of a session; empty where there is none.
-    fn presence_of(&self, alloc: Global, s: u64) -> Result<Text, NoMemory>
+    pub(crate) fn presence_of(&self, alloc: Global, s: u64) -> Result<Text, NoMemory>
         ensures { IfOk result (λ t. t ≡ unwrap_or ((seen self.now).sessions s).rest.manner.presence []) }
     {
         match self.table.session(s) {
@@ -174,7 +178,8 @@ impl World {
         stanza: &Stanza,
         form: PresenceForm,
     ) -> Result<Vec<Effect>, NoMemory>
-        requires { IsTied self.now.table }
+        requires tied { IsTied self.now.table }
+        requires domain { self.now.book.domain ≡ domain.now }
         ensures { IfOk result (λ effects. effects.items
             ≡ broadcast (record { domain = domain.now; users = users.now; world = seen self.now }) own.now who.now stanza.now form) }
     {
@@ -182,13 +187,14 @@ impl World {
             PresenceForm::Available => {
                 let watchers = self.watchers(alloc, own, who)?;
                 let shown = self.shown(alloc, own, who)?;
+                let asking = self.book.asking(alloc, own)?;
                 available(
                     alloc,
                     who,
                     stanza,
                     watchers.as_slice(),
                     shown.as_slice(),
-                    &[],
+                    asking.as_slice(),
                 )
             }
             PresenceForm::Unavailable => {
@@ -286,7 +292,7 @@ impl World {
         )
     }
 
-    /// What comes of presence for a user. Subscriptions are not built yet.
+    /// What comes of presence for a user.
     fn to_user(
         &self,
         alloc: Global,
@@ -301,6 +307,7 @@ impl World {
         place: &Place,
     ) -> Result<Vec<Effect>, NoMemory>
         requires tied { IsTied self.now.table }
+        requires domain { self.now.book.domain ≡ domain.now }
         ensures { IfOk result (λ effects. effects.items
             ≡ to_user (record { domain = domain.now; users = users.now; world = seen self.now }) own.now who.now stanza.now to.now form element.now place.now) }
     {
@@ -309,7 +316,11 @@ impl World {
                 self.directed_at(alloc, domain, users, own, who, stanza, to, place)
             }
             PresenceForm::Error => self.error_to(alloc, who, to, element, place),
-            _ => Ok(Vec::new(alloc)),
+            PresenceForm::Probe => Ok(Vec::new(alloc)),
+            _ => {
+                let user = user_in(own, place);
+                self.subscribed(alloc, domain, users, own, who, stanza, form, user)
+            }
         }
     }
 
@@ -327,6 +338,7 @@ impl World {
         place: &Place,
     ) -> Result<Vec<Effect>, NoMemory>
         requires tied { IsTied self.now.table }
+        requires domain { self.now.book.domain ≡ domain.now }
         ensures { IfOk result (λ effects. effects.items
             ≡ to_address (record { domain = domain.now; users = users.now; world = seen self.now }) own.now who.now stanza.now to.now form element.now place.now) }
     {
@@ -355,6 +367,7 @@ impl World {
         place: &Place,
     ) -> Result<Vec<Effect>, NoMemory>
         requires tied { IsTied self.now.table }
+        requires domain { self.now.book.domain ≡ domain.now }
         ensures { IfOk result (λ effects. effects.items
             ≡ presence_to (record { domain = domain.now; users = users.now; world = seen self.now }) own.now who.now stanza.now (option_copied to.entry) form element.now place.now) }
     {
@@ -381,6 +394,7 @@ impl World {
         place: &Place,
     ) -> Result<Vec<Effect>, NoMemory>
         requires tied { IsTied self.now.table }
+        requires domain { self.now.book.domain ≡ domain.now }
         ensures { IfOk result (λ effects. effects.items
             ≡ presence (record { domain = domain.now; users = users.now; world = seen self.now }) own.now who.now stanza.now (option_copied to.entry) form element.now place.now) }
     {

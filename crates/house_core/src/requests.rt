@@ -1,5 +1,5 @@
 //! Requests and their answers (RFC 6120, 8.2.3): what the server, the service of rooms and its rooms answer, and what goes to a session.
-ghost use Rattle.std.specs.Prelude.{◌≡◌, [], ◌∷◌, IfOk, true};
+ghost use Rattle.std.specs.Prelude.{◌≡◌, ℕ, List, [], ◌∷◌, IfOk, true};
 ghost use Rattle.std.specs.Option.{option_copied};
 ghost use Rattle.stanza_model.specs.Replies.{may_be_answered};
 ghost use Rattle.house_model.specs.Requests.{asks_a_room, begins_session, binds_resource, discovers, gets, has_child, pings, queries, sets};
@@ -9,14 +9,14 @@ ghost use Rattle.house_core.specs.Worlds.{seen};
 
 use crate::world::World;
 use house_model::Stanza;
-use jid_core::Jid;
+use jid_core::{Jid, Part};
 use stanza_model::{Condition, Effect, Here, IqForm, refuse, result_of, say_to};
 use stanza_router::{Place, copy_to, discover};
 use stanza_tree::{Element, NoMemory};
 use std::alloc::Global;
 
 /// Whether a request of this type has this child.
-fn gets(space: &str, local: &str, stanza: &Stanza) -> bool
+pub(crate) fn gets(space: &str, local: &str, stanza: &Stanza) -> bool
     ensures { result ≡ gets space.now local.now stanza.now }
 {
     match stanza {
@@ -29,7 +29,7 @@ fn gets(space: &str, local: &str, stanza: &Stanza) -> bool
     }
 }
 
-fn sets(space: &str, local: &str, stanza: &Stanza) -> bool
+pub(crate) fn sets(space: &str, local: &str, stanza: &Stanza) -> bool
     ensures { result ≡ sets space.now local.now stanza.now }
 {
     match stanza {
@@ -119,7 +119,7 @@ fn discovered(
 }
 
 /// A request for the sender's account or the server (RFC 6120, 10.3 and 10.5.1).
-fn to_server(
+pub(crate) fn to_server(
     alloc: Global,
     who: &Here,
     stanza: &Stanza,
@@ -200,6 +200,8 @@ impl World {
     pub(crate) fn iq(
         &self,
         alloc: Global,
+        domain: &Part,
+        own: &Part,
         who: &Here,
         stanza: &Stanza,
         to: Option<&Jid>,
@@ -207,11 +209,13 @@ impl World {
         place: &Place,
     ) -> Result<Vec<Effect>, NoMemory>
         requires tied { IsTied self.now.table }
-        ensures { IfOk result (λ effects. effects.items
-            ≡ iq (seen self.now) who.now stanza.now (option_copied to.entry) element.now place.now) }
+        requires domain { self.now.book.domain ≡ domain.now }
+        ensures { (users : List (List ℕ)) → IfOk result (λ effects. effects.items
+            ≡ iq (record { domain = domain.now; users = users; world = seen self.now }) own.now who.now stanza.now (option_copied to.entry) element.now place.now) }
     {
         match place {
-            Place::Account | Place::Server => to_server(alloc, who, stanza, place),
+            Place::Account => self.to_account(alloc, domain, own, who, stanza),
+            Place::Server => to_server(alloc, who, stanza, place),
             Place::UserAt(_, _) => {
                 let live = self.live_for(place, to);
                 self.to_session(alloc, who, stanza, to, element, live)

@@ -1,14 +1,18 @@
 //! All the memory that the effects of a stanza need is taken before the first is applied.
-ghost use Rattle.std.specs.Prelude.{◌≡◌, ◌<◌, ◌≤◌, [], ℕ, if◌then◌else◌, IfOk, OnOk};
+ghost use Rattle.std.specs.Prelude.{◌≡◌, ◌<◌, ◌≤◌, [], ℕ, List, if◌then◌else◌, IfOk, OnOk};
 ghost use Rattle.std.specs.List.Sorted.{IsNonDecreasing};
+ghost use Rattle.contact_table.specs.Tables as book;
 ghost use Rattle.sm_queue.specs.Queues.{spare};
-ghost use Rattle.house_core.specs.Readiness.{AreReady, needed, needed_by, queued_for, times};
+ghost use Rattle.house_core.specs.Readiness.{AreNotable, AreReady, changes_in, needed, needed_by, queued_for, times};
 ghost use Rattle.house_core.specs.Wholes.{HasSpare, IsHeldBy, IsTied};
 ghost use Rattle.house_core.specs.Worlds.{Did};
 
+use crate::marking::named_by;
 use crate::world::World;
+use contact_table::user_of;
+use jid_core::Part;
 use session_table::Session;
-use stanza_model::Effect;
+use stanza_model::{Change, Effect};
 use stanza_tree::NoMemory;
 use std::alloc::Global;
 
@@ -59,6 +63,21 @@ fn queued_for(alloc: Global, effects: &[Effect]) -> Result<Vec<u64>, NoMemory>
         }
     }
     Ok(numbers)
+}
+
+/// How many changes effects note.
+fn changes_in(effects: &[Effect]) -> usize
+    ensures { result ≡ changes_in effects.now }
+{
+    let mut count = 0;
+    for effect in effects {
+        if let Effect::Set(change) = effect {
+            if named_by(change).is_none() {
+                count += 1;
+            }
+        }
+    }
+    count
 }
 
 impl World {
@@ -137,8 +156,8 @@ impl World {
         self.take_runs(numbers.as_slice())
     }
 
-    /// Takes all the memory that effects need. Of n effects it costs n log n.
-    pub(crate) fn prepare(&mut self, effects: &[Effect]) -> Result<(), NoMemory>
+    /// Takes all the room that effects need in queues. Of n effects it costs n log n.
+    fn take_rooms(&mut self, effects: &[Effect]) -> Result<(), NoMemory>
         requires tied { IsTied self.old.table }
         ensures ready { OnOk result (AreReady effects.now self.new.table) }
         ensures same { Did [] 0 self.old self.new }
@@ -149,5 +168,64 @@ impl World {
         } else {
             self.take_many(effects)
         }
+    }
+
+    /// Takes places for so many changes of a user.
+    fn take_place_of(&mut self, user: &Part, many: usize) -> Result<(), NoMemory>
+        requires tied { IsTied self.old.table }
+        ensures places { OnOk result (many ≤ book.spare user.now self.new.book) }
+        ensures keeps { (u : List ℕ) → book.spare u self.old.book ≤ book.spare u self.new.book }
+        ensures same { Did [] 0 self.old self.new }
+        ensures table { self.new.table ≡ self.old.table }
+    {
+        self.book.reserve(*self.answers.allocator(), user, many)
+    }
+
+    /// Takes places for so many changes of each user that one of them names.
+    fn take_place(&mut self, change: &Change, many: usize) -> Result<(), NoMemory>
+        requires tied { IsTied self.old.table }
+        ensures places { OnOk result ((u : List ℕ) → 0 < book.needed u change.now → many ≤ book.spare u self.new.book) }
+        ensures keeps { (u : List ℕ) → book.spare u self.old.book ≤ book.spare u self.new.book }
+        ensures same { Did [] 0 self.old self.new }
+        ensures table { self.new.table ≡ self.old.table }
+    {
+        match change {
+            Change::Contact { user, .. } | Change::NoContact { user, .. } => {
+                self.take_place_of(user, many)
+            }
+            Change::Sees { a, b, .. } | Change::Asked { a, b, .. } => {
+                self.take_place_of(user_of(a), many)?;
+                self.take_place_of(user_of(b), many)
+            }
+            _ => Ok(()),
+        }
+    }
+
+    /// Takes the places that effects need in what is kept of users.
+    fn take_places(&mut self, effects: &[Effect]) -> Result<(), NoMemory>
+        requires tied { IsTied self.old.table }
+        ensures places { OnOk result (AreNotable effects.now self.new.book) }
+        ensures same { Did [] 0 self.old self.new }
+        ensures table { self.new.table ≡ self.old.table }
+    {
+        let many = changes_in(effects);
+        for effect in effects {
+            if let Effect::Set(change) = effect {
+                self.take_place(change, many)?;
+            }
+        }
+        Ok(())
+    }
+
+    /// Takes all the memory that effects need.
+    pub(crate) fn prepare(&mut self, effects: &[Effect]) -> Result<(), NoMemory>
+        requires tied { IsTied self.old.table }
+        ensures ready { OnOk result (AreReady effects.now self.new.table) }
+        ensures places { OnOk result (AreNotable effects.now self.new.book) }
+        ensures same { Did [] 0 self.old self.new }
+        ensures held { (w r : ℕ) → IsHeldBy w r self.old.table → IsHeldBy w r self.new.table }
+    {
+        self.take_rooms(effects)?;
+        self.take_places(effects)
     }
 }

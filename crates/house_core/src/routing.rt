@@ -4,12 +4,13 @@ ghost use Rattle.std.specs.Option.{option_copied};
 ghost use Rattle.house_model.specs.Fitting.{AreSmall};
 ghost use Rattle.house_model.specs.Histories.{StanzaFits};
 ghost use Rattle.house_model.specs.Routing.{departure, departure_by, effects_at, effects_in};
+ghost use Rattle.roster_laws.specs.Keeping.{AreKept};
 ghost use Rattle.session_table.specs.Tables.{is_there};
-ghost use Rattle.house_core.specs.Readiness.{AreOfSessions};
+ghost use Rattle.house_core.specs.Keeping.{AreShortNames};
 ghost use Rattle.house_core.specs.Wholes.{IsTied};
 ghost use Rattle.house_core.specs.Worlds.{IsHeld, seen};
 
-use crate::make::know_to;
+use crate::make::{know_part, know_to};
 use crate::world::World;
 use house_model::Stanza;
 use jid_core::Part;
@@ -32,6 +33,7 @@ impl World {
         place: &Place,
     ) -> Result<Vec<Effect>, NoMemory>
         requires tied { IsTied self.now.table }
+        requires domain { self.now.book.domain ≡ domain.now }
         ensures { IfOk result (λ effects. effects.items
             ≡ effects_at (record { domain = domain.now; users = users.now; world = seen self.now }) own.now who.now stanza.now place.now) }
     {
@@ -54,7 +56,7 @@ impl World {
                 )
             }
             Stanza::Iq { to, element, .. } => {
-                self.iq(alloc, who, stanza, to.as_ref(), element, place)
+                self.iq(alloc, domain, own, who, stanza, to.as_ref(), element, place)
             }
             Stanza::Faulty { condition, .. } => refuse(alloc, who, stanza, *condition),
         }
@@ -70,6 +72,7 @@ impl World {
     ) -> Result<Vec<Effect>, NoMemory>
         requires tied { IsTied self.now.table }
         requires held { IsHeld s self.now.table }
+        requires domain { self.now.book.domain ≡ domain.now }
         ensures { IfOk result (λ effects. effects.items ≡ effects_in (record { domain = domain.now; users = users.now; world = seen self.now }) s stanza.now) }
     {
         let Some(who) = self.here(alloc, s)? else {
@@ -93,11 +96,14 @@ impl World {
     ) -> Result<Vec<Effect>, NoMemory>
         requires tied { IsTied self.now.table }
         requires held { IsHeld s self.now.table }
+        requires domain { self.now.book.domain ≡ domain.now }
+        requires names { AreShortNames self.now.book.book.asked }
+        requires rosters { AreKept domain.now self.now.book.book }
         requires fits { StanzaFits stanza.now }
         ensures effects { IfOk result (λ effects. effects.items ≡ effects_in (record { domain = domain.now; users = users.now; world = seen self.now }) s stanza.now) }
         ensures short { IfOk result (λ effects. AreSmall effects.items) }
-        ensures sessions { IfOk result (λ effects. AreOfSessions effects.items) }
     {
+        know_part(domain);
         know_to(stanza);
         let effects = self.effects_in(alloc, domain, users, s, stanza)?;
         Ok(effects)
@@ -138,7 +144,6 @@ impl World {
         requires there { is_there s self.now.table ≡ true }
         ensures effects { IfOk result (λ effects. effects.items ≡ departure (seen self.now) s) }
         ensures short { IfOk result (λ effects. AreSmall effects.items) }
-        ensures sessions { IfOk result (λ effects. AreOfSessions effects.items) }
     {
         let effects = self.departure_in(alloc, s)?;
         Ok(effects)

@@ -8,6 +8,7 @@ ghost use Rattle.house_core.specs.Wholes.{AreUsers, IsFew, IsTied};
 ghost use Rattle.house_core.specs.Worlds.{Did, seen};
 
 use crate::answers::Answers;
+use contact_table::Book;
 use house_model::Answer;
 use session_table::Table;
 
@@ -16,6 +17,8 @@ use session_table::Table;
 pub(crate) struct World {
     pub(crate) table: Table,
     pub(crate) answers: Vec<Answers>,
+    /// What is kept of users.
+    pub(crate) book: Book,
 }
 
 impl World {
@@ -40,6 +43,7 @@ impl World {
         ensures users { (many : ℕ) → AreUsers many self.old.table → user < many → AreUsers many self.new.table }
         ensures few { (turns : ℕ) → IsFew turns self.old.table → IsFew turns self.new.table }
         ensures answered { self.new.answers.items ≡ self.old.answers.items }
+        ensures book { self.new.book ≡ self.old.book }
         ensures lines { length self.new.table.lines ≡ length self.old.table.lines }
     {
         self.table.login(w, user);

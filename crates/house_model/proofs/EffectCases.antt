@@ -1,8 +1,9 @@
 -- Each effect of a stanza is something that the server says to its sender, or a copy of the stanza for a session that is found.
-use Rattle.std.proofs.Common.{◌≡◌, ℕ, List, [], ◌∷◌, map, Option, Some, None, Bool, true, false, ◌||◌, refl}
+use Rattle.std.proofs.Common.{◌≡◌, ℕ, List, [], ◌∷◌, map, Option, Some, None, Bool, true, false, ◌||◌, codes, refl}
 use Rattle.std.specs.List.{AllByRecursion}
 use Rattle.stanza_tree.specs.declared.node.Element.{Element}
 use Rattle.stanza_model.specs.Replies.{refused}
+use Rattle.stanza_model.specs.Rosters.{roster_space}
 use Rattle.stanza_model.specs.Stanzas.{to_in, element_in}
 use Rattle.stanza_model.specs.declared.condition.Condition.{Condition}
 use Rattle.stanza_model.specs.declared.condition.Condition.TheVariants.{ItemNotFound, NotAllowed, RemoteServerNotFound, ServiceUnavailable}
@@ -17,8 +18,8 @@ use Rattle.stanza_router.specs.Places.{place_of}
 use Rattle.stanza_router.specs.declared.places.Place.{Place}
 use Rattle.stanza_router.specs.declared.places.Place.TheVariants.{Account, Server, User, UserAt, Service, Room, RoomAt, Foreign}
 use Rattle.house_model.specs.Lookups.{here}
-use Rattle.house_model.specs.Requests.{pings, begins_session, binds_resource, discovers, asks_a_room}
-use Rattle.house_model.specs.Routing.{Scene, live_for, user_in, receivers, has_account, to_no_room, to_users, message, to_server, to_session, to_service, to_room, iq, effects_at, effects_by, effects_in}
+use Rattle.house_model.specs.Requests.{pings, begins_session, binds_resource, discovers, asks_a_room, gets, sets}
+use Rattle.house_model.specs.Routing.{Scene, live_for, user_in, receivers, has_account, to_account, to_no_room, to_users, message, to_server, to_session, to_service, to_room, iq, effects_at, effects_by, effects_in}
 use Rattle.house_model.proofs.Founds.{AreFound, IsFound, either_all, live_for_found, receivers_found}
 use Rattle.house_model.proofs.PresenceCases.{Covers, presence_all, refusal_all}
 
@@ -88,17 +89,23 @@ module _ (o : Scene) (s : ℕ) (st : Stanza) (P : Effect → Type 0) (all : Cove
   session_all e is (Some r) found = (all.copy e (here o.world r) is (found r refl), tt)
   session_all e is None found = refused_all ServiceUnavailable
 
-  iq_all : (e : Element) → element_in st ≡ Some e → (place : Place) → AllByRecursion P (iq o.world who st (to_in st) e place)
-  iq_all e is Account = server_all Account
-  iq_all e is Server = server_all Server
-  iq_all e is (User user) = refused_all ServiceUnavailable
-  iq_all e is (UserAt user resource) =
+  account_all : (own : List ℕ) → (here o.world s).address.local ≡ Some own → AllByRecursion P (to_account o own who st)
+  account_all own mine =
+      either_all P (gets roster_space (codes "query") st) _ _ (all.lists own)
+      (either_all P (sets roster_space (codes "query") st) _ _ (all.changes own mine) (server_all Account))
+
+  iq_all : (own : List ℕ) → (here o.world s).address.local ≡ Some own → (e : Element) → element_in st ≡ Some e → (place : Place)
+      → AllByRecursion P (iq o own who st (to_in st) e place)
+  iq_all own mine e is Account = account_all own mine
+  iq_all own mine e is Server = server_all Server
+  iq_all own mine e is (User user) = refused_all ServiceUnavailable
+  iq_all own mine e is (UserAt user resource) =
       session_all e is (live_for o.world (UserAt user resource) (to_in st))
       (λ r live. live_for_found o.world (UserAt user resource) (to_in st) r live)
-  iq_all e is Service = service_all Service
-  iq_all e is (Room room) = room_all (Room room)
-  iq_all e is (RoomAt room nick) = refused_all ServiceUnavailable
-  iq_all e is Foreign = refused_all RemoteServerNotFound
+  iq_all own mine e is Service = service_all Service
+  iq_all own mine e is (Room room) = room_all (Room room)
+  iq_all own mine e is (RoomAt room nick) = refused_all ServiceUnavailable
+  iq_all own mine e is Foreign = refused_all RemoteServerNotFound
 
 deliveries_all : (o : Scene) (s : ℕ) (st : Stanza) (P : Effect → Type 0) → Covers o s st P
     → (place : Place) (known : Bool) (hs : List Here) → AreFound o.world hs
@@ -134,17 +141,18 @@ message_all o s st P all own form e Service = users_all o s st P all form Servic
 message_all o s st P all own form e Foreign = users_all o s st P all form Foreign (user_in own Foreign)
 
 at_all : (o : Scene) (s : ℕ) (st : Stanza) (P : Effect → Type 0) → Covers o s st P → (own : List ℕ) (place : Place)
+    → (here o.world s).address.local ≡ Some own → place ≡ place_of own o.domain (to_in st)
     → AllByRecursion P (effects_at o own (here o.world s) st place)
-at_all o s (Message to form e) P all own place = message_all o s (Message to form e) P all own form e place
-at_all o s (Presence to form e) P all own place = presence_all o s to form e P all own place
-at_all o s (Iq to id form e) P all own place = iq_all o s (Iq to id form e) P all e refl place
-at_all o s (Faulty kind to id answered c) P all own place = refused_all o s (Faulty kind to id answered c) P all c
+at_all o s (Message to form e) P all own place mine at = message_all o s (Message to form e) P all own form e place
+at_all o s (Presence to form e) P all own place mine at = presence_all o s to form e P all own place mine at
+at_all o s (Iq to id form e) P all own place mine at = iq_all o s (Iq to id form e) P all own mine e refl place
+at_all o s (Faulty kind to id answered c) P all own place mine at = refused_all o s (Faulty kind to id answered c) P all c
 
 by_all : (o : Scene) (s : ℕ) (st : Stanza) (P : Effect → Type 0) → Covers o s st P → (user : Option (List ℕ))
-    → AllByRecursion P (effects_by user o (here o.world s) st)
-by_all o s st P all None = tt
-by_all o s st P all (Some own) = at_all o s st P all own (place_of own o.domain (to_in st))
+    → (here o.world s).address.local ≡ user → AllByRecursion P (effects_by user o (here o.world s) st)
+by_all o s st P all None mine = tt
+by_all o s st P all (Some own) mine = at_all o s st P all own (place_of own o.domain (to_in st)) mine refl
 
 pub effects_all : (o : Scene) (s : ℕ) (st : Stanza) (P : Effect → Type 0) → Covers o s st P
     → AllByRecursion P (effects_in o s st)
-effects_all o s st P all = by_all o s st P all (here o.world s).address.local
+effects_all o s st P all = by_all o s st P all (here o.world s).address.local refl

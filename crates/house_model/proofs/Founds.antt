@@ -67,7 +67,7 @@ here_found : (world : World KeptTraffic) (ns : List ℕ) → AllByRecursion (IsF
 here_found world [] all = tt
 here_found world (n ∷ ns) all = (record { found = all.0; seen = refl }, here_found world ns all.1)
 
-numbers_found : (world : World KeptTraffic) (user : List ℕ) → AreFound world (sessions_of world user)
+pub numbers_found : (world : World KeptTraffic) (user : List ℕ) → AreFound world (sessions_of world user)
 numbers_found world user =
     here_found world (numbers_of world user)
     (passing_found world world.made (λ s. is_of user (world.sessions s))

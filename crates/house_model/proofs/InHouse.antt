@@ -1,12 +1,15 @@
 -- What the effects of a stanza name is in the house, each in the state in which its turn comes.
-use Rattle.std.proofs.Common.{◌≡◌, ℕ, ◌+◌, inl, inr, List, [], ◌∷◌, Bool, true, refl, sym, ap, ◌∙◌, subst, arith}
+use Rattle.std.proofs.Common.{◌≡◌, ℕ, ◌+◌, inl, inr, List, [], ◌∷◌, Bool, true, Option, Some, None, refl, sym, ap, ◌∙◌, subst, arith}
+use Rattle.std.specs.Prelude.{⊤}
 use Rattle.std.proofs.lemmas.Bool.{cases_lt}
 use Rattle.std.specs.List.{AllByRecursion}
 use Rattle.stanza_model.specs.declared.effect.Effect as stanza
 use Rattle.stanza_model.specs.declared.effect.Effect.TheVariants.{Queue, Set}
 use Rattle.stanza_model.specs.declared.effect.Change.TheVariants as change
+use Rattle.stanza_model.specs.declared.here.Here.{Here}
 use Rattle.stanza_model.specs.declared.stanza.Stanza.{Stanza}
 use Rattle.jid_core.specs.Addresses.{Address}
+use Rattle.contact_table.specs.Books.{bare_of}
 use Rattle.presence_core.specs.Broadcasts.{asked_by}
 use Rattle.sm_resume.specs.declared.decision.Cause.{Cause}
 use Rattle.session_table.specs.declared.line.Line.TheVariants.{Bound}
@@ -18,13 +21,14 @@ use Rattle.house_model.specs.States.{World, State, keep, keep_by, keep_world}
 use Rattle.house_model.specs.Effects.{Effect, Open, At, Begin, On, Note, apply, apply_all}
 use Rattle.house_model.specs.Fitting.{IsInHouse, EffectFits, AllFit}
 use Rattle.house_model.specs.Histories.{Outcome, Made, Short, Turn, next_by, next, after, IsOpening}
-use Rattle.house_model.specs.Lookups.{here, is_there}
-use Rattle.house_model.specs.Presences.{asking}
-use Rattle.house_model.specs.Routing.{Scene, scene_of, departure, effects}
+use Rattle.house_model.specs.Lookups.{here, is_there, sessions_of}
+use Rattle.house_model.specs.Presences.{asking, party}
+use Rattle.house_model.specs.Routing.{Scene, scene_of, departure, effects, own_contacts, parted, user_removed}
 use Rattle.house_model.specs.Sound.{Sound}
 use Rattle.house_model.specs.Steps.{effect_of, verdict, turn}
 use Rattle.house_model.proofs.EffectCases.{effects_all}
-use Rattle.house_model.proofs.Founds.{IsFound}
+use Rattle.house_model.proofs.Founds.{IsFound, append_all, numbers_found}
+use Rattle.house_model.proofs.RosterCases.{IsAt, IsSeen, Reaches, all_told_at, found_at, parted_all, party_seen, set_all, tells}
 use Rattle.house_model.proofs.PresenceCases.{Covers, departure_all}
 use Rattle.house_model.proofs.Partings.{IsNoPart, step_gone}
 use Rattle.house_model.proofs.PutLemmas.{put_is, put_else}
@@ -146,6 +150,12 @@ all_fit : (world : World Traffic) (es : List stanza.Effect) → AllByRecursion (
 all_fit world [] all = tt
 all_fit world (e ∷ es) all = (all.0, all_fit (apply whole world (effect_of e)) es (later_fit world e es all.1))
 
+abbrev Any : {X : Type 0} → X → Type 0
+Any x = ⊤
+
+abbrev FitsAfter : World Traffic → ℕ → Stanza → stanza.Effect → Type 0
+FitsAfter world s x e = EffectFits (apply whole world (On s (Act x))) e
+
 covered : (world : World Traffic) (o : Scene) (s : ℕ) (x : Stanza) → o.world ≡ keep_world world → IsInHouse s world
     → Covers o s x (EffectFits (apply whole world (On s (Act x))))
 covered world o s x same is = record {
@@ -167,8 +177,41 @@ covered world o s x same is = record {
   shows = λ e priority small. stays_in_house world s s (Act x) tt is;
   hides = stays_in_house world s s (Act x) tt is;
   directs = λ addresses. stays_in_house world s s (Act x) tt is;
+  pairs = λ own place user mine at named. tells o.world (FitsAfter world s x) Any Any Any each (party o.domain o.world own) (party o.domain o.world user) (seen own) (seen user);
+  lists = λ own. (stays_in_house world s s (Act x) tt is, ((stays_in_house world s s (Act x) tt is, refl), tt));
+  changes = λ own mine.
+      append_all (FitsAfter world s x) (parted o own (user_removed o own x)) _ (parts own (user_removed o own x))
+      (set_all o.world (FitsAfter world s x) Any Any Any each (bare_of o.domain own) (own_contacts o own) (here o.world s) (sessions_of o.world own) x
+      (found_at o.world (sessions_of o.world own) (numbers_found o.world own))
+      (λ c. (stays_in_house world s s (Act x) tt is, refl)) (stays_in_house world s s (Act x) tt is, refl) (λ w wants whole. tt));
 }
   where
+    reached : (h : Here) → IsAt o.world h → IsInHouse h.session (apply whole world (On s (Act x)))
+    reached h at = stays_in_house world h.session s (Act x) tt
+        (found_in_house world h.session (subst (λ k. IsFound k h.session) same at.found))
+
+    each : Reaches o.world (FitsAfter world s x) Any Any Any
+    each = record {
+      sees = λ a b on. tt;
+      asked = λ a b on. tt;
+      contact = λ user address name groups. tt;
+      no_contact = λ user address. tt;
+      count = λ h at n. reached h at;
+      item = λ h at e short. (reached h at, refl);
+      presence = λ h at a form short. (reached h at, refl);
+      sent = λ h at t short. (reached h at, refl);
+      gone = λ h at. tt;
+    }
+
+    seen : (user : List ℕ) → IsSeen o.world Any Any Any (party o.domain o.world user)
+    seen user = party_seen o.domain o.world user Any Any Any tt (λ a side short. tt) (λ h. tt)
+
+    parts : (own : List ℕ) (user : Option (List ℕ)) → AllByRecursion (FitsAfter world s x) (parted o own user)
+    parts own None = tt
+    parts own (Some user) =
+        parted_all o.world (FitsAfter world s x) Any Any Any each (party o.domain o.world own) (party o.domain o.world user) (seen own) (seen user)
+        (all_told_at o.world (sessions_of o.world user) (numbers_found o.world user))
+
     asks : (xs : List Address) → AllByRecursion (λ a. EffectFits (apply whole world (On s (Act x))) (asked_by (here o.world s) a)) xs
     asks [] = tt
     asks (a ∷ more) = ((stays_in_house world s s (Act x) tt is, refl), asks more)

@@ -3,6 +3,7 @@ pub mod AccountLines
 pub mod AccountTurns
 pub mod Apart
 pub mod BackLemmas
+pub mod BookKept
 pub mod Cores
 pub mod DiscoverySizes
 pub mod Ears
@@ -21,15 +22,21 @@ pub mod KeepLemmas
 pub mod Labelling
 pub mod LineLaws
 pub mod Muted
+pub mod NameSizes
 pub mod OrderLemmas
 pub mod Partings
 pub mod Prefixes
+pub mod PairCases
 pub mod PresenceCases
 pub mod PutLemmas
 pub mod Quiet
 pub mod ReplySizes
 pub mod ResumeCases
 pub mod Resumes
+pub mod RosterCases
+pub mod RosterKept
+pub mod RosterSizes
+pub mod RosterSmall
 pub mod SafeLaws
 pub mod Shorts
 pub mod SmallLemmas
@@ -42,3 +49,4 @@ pub mod TrafficLemmas
 pub mod TurnLaws
 pub mod Turns
 pub mod VerdictLemmas
+pub mod WantedSizes

@@ -1,5 +1,5 @@
 -- Each effect of a presence is a copy of it for a session that is found, what the server says to its sender, or what is kept of its sender.
-use Rattle.std.proofs.Common.{◌≡◌, ℕ, ℤ, ◌≤◌, inl, inr, List, [], ◌∷◌, ◌++◌, map, length, Option, Some, None, Bool, true, false, not, ◌&&◌, if◌then◌else◌, refl, sym, subst, arith}
+use Rattle.std.proofs.Common.{◌≡◌, ℕ, ℤ, ◌≤◌, inl, inr, List, [], ◌∷◌, ◌++◌, map, length, Option, Some, None, Bool, true, false, not, ◌&&◌, if◌then◌else◌, refl, sym, subst, arith, IfSome}
 use Rattle.std.proofs.lemmas.Bool.{cases_lt, lt-ltb, le-ltb}
 use Rattle.std.specs.List.{AllByRecursion}
 use Rattle.jid_core.specs.Addresses.{Address, address_text}
@@ -21,18 +21,21 @@ use Rattle.stanza_model.specs.declared.stanza.Stanza.{Stanza}
 use Rattle.stanza_model.specs.declared.stanza.Stanza.TheVariants.{Presence}
 use Rattle.stanza_router.specs.Discovery.{discovery}
 use Rattle.stanza_router.specs.Messages.{copied}
+use Rattle.stanza_router.specs.Places.{place_of}
 use Rattle.stanza_router.specs.declared.places.Place.{Place}
 use Rattle.stanza_router.specs.declared.places.Place.TheVariants.{Account, Server, User, UserAt, Service, Room, RoomAt, Foreign}
+use Rattle.roster_book.specs.Requests.{roster_get}
 use Rattle.presence_core.specs.Broadcasts as broadcasts
 use Rattle.presence_core.specs.Broadcasts.{announced, asked_by, available, is_among, is_sent, leaves, others, seen_by, set_unavailable, shown_to, told_others, told_watchers, unavailable, welcome, with_priority}
 use Rattle.presence_core.specs.Copies.{copies, copy_to, presence_text}
 use Rattle.presence_core.specs.DirectedPresence.{delivered, directed, has_room, with_address, without_address}
 use Rattle.presence_core.specs.Priorities.{priority_in}
-use Rattle.house_model.specs.Lookups.{here}
-use Rattle.house_model.specs.Presences.{asking, directed_by, in_sight, length_sent, most_of_presence, named, shown, shown_of, watchers}
-use Rattle.house_model.specs.Routing.{Scene, broadcast, departure, departure_by, directed_if, error_to, has_account, live_for, presence, presence_to, to_address, to_be_in_room, to_user, user_in}
+use Rattle.house_model.specs.Lookups.{has_user, here}
+use Rattle.house_model.specs.Presences.{asking, directed_by, in_sight, length_sent, most_of_presence, named, party, shown, shown_of, watchers}
+use Rattle.house_model.specs.Routing.{Scene, between, broadcast, departure, departure_by, directed_if, error_to, has_account, live_for, own_contacts, presence, presence_to, roster_changed, subscribed, to_address, to_be_in_room, to_user, unless_full, user_in}
 use Rattle.house_model.specs.States.{World}
 use Rattle.house_model.specs.Traffic.{KeptTraffic}
+use Rattle.house_model.proofs.PairCases.{Tells, subscription_all}
 use Rattle.house_model.proofs.Founds.{AreFound, IsFound, IsHere, append_all, either_all, filter_all, in_sight_found, live_for_found, named_found, watchers_found}
 
 -- What holds of all that the server says to a stanza's sender, of the stanza's copies for sessions that are found, and of what is kept of
@@ -51,6 +54,11 @@ pub record Covers (o : Scene) (s : ℕ) (st : Stanza) (P : Effect → Type 0) : 
       → P (Set (change.Available s (presence_text (here o.world s) e) priority))
   pub hides : P (Set (change.Unavailable s))
   pub directs : (addresses : List Address) → P (Set (change.Directed s addresses))
+  pub pairs : (own : List ℕ) (place : Place) (user : List ℕ) → (here o.world s).address.local ≡ Some own
+      → place ≡ place_of own o.domain (to_in st) → user_in own place ≡ Some user
+      → Tells P (party o.domain o.world own) (party o.domain o.world user)
+  pub lists : (own : List ℕ) → AllByRecursion P (roster_get (own_contacts o own) (here o.world s) st)
+  pub changes : (own : List ℕ) → (here o.world s).address.local ≡ Some own → AllByRecursion P (roster_changed o own (here o.world s) st)
 
 -- Copies of a text.
 pub copies_all : (world : World KeptTraffic) (P : Effect → Type 0) (rest : List ℕ) → ((h : Here) → IsHere world h → P (copy_to rest h))
@@ -186,34 +194,56 @@ error_all : (o : Scene) (s : ℕ) (to : Address) (e : Element) (P : Effect → T
 error_all o s to e P all None found = tt
 error_all o s to e P all (Some r) found = (all.copy e (here o.world r) refl (found r refl), tt)
 
+-- between two users
+full_all : (o : Scene) (s : ℕ) (st : Stanza) (P : Effect → Type 0) → Covers o s st P
+    → (found : Option (List Effect)) → IfSome found (λ es. AllByRecursion P es) → AllByRecursion P (unless_full (here o.world s) st found)
+full_all o s st P all None is = refusal_all o s st P all ResourceConstraint
+full_all o s st P all (Some es) is = is
+
+subscribed_all : (o : Scene) (s : ℕ) (st : Stanza) (P : Effect → Type 0) → Covers o s st P
+    → (own : List ℕ) (form : PresenceForm) (user : Option (List ℕ))
+    → ((x : List ℕ) → user ≡ Some x → Tells P (party o.domain o.world own) (party o.domain o.world x))
+    → AllByRecursion P (subscribed o own (here o.world s) st form user)
+subscribed_all o s st P all own form None tells = tt
+subscribed_all o s st P all own form (Some user) tells =
+    either_all P (has_user o.users user) _ []
+    (full_all o s st P all (between o own user form)
+    (subscription_all P (party o.domain o.world own) (party o.domain o.world user) (tells user refl) form)) tt
+
 user_all : (o : Scene) (s : ℕ) (to : Address) (form : PresenceForm) (e : Element) (P : Effect → Type 0)
-    → Covers o s (Presence (Some to) form e) P → (own : List ℕ) → length (presence_text (here o.world s) e) ≤ 16384 → (place : Place)
+    → Covers o s (Presence (Some to) form e) P → (own : List ℕ) → (here o.world s).address.local ≡ Some own
+    → length (presence_text (here o.world s) e) ≤ 16384 → (place : Place) → place ≡ place_of own o.domain (Some to)
     → AllByRecursion P (to_user o own (here o.world s) (Presence (Some to) form e) to form e place)
-user_all o s to Available e P all own short place =
+user_all o s to Available e P all own mine short place at =
     directed_to_all o s to Available e P all short (has_account o.users (user_in own place) (named o.world (to ∷ []))) (named o.world (to ∷ []))
     (named_found o.world (to ∷ []))
-user_all o s to Unavailable e P all own short place =
+user_all o s to Unavailable e P all own mine short place at =
     directed_to_all o s to Unavailable e P all short (has_account o.users (user_in own place) (named o.world (to ∷ []))) (named o.world (to ∷ []))
     (named_found o.world (to ∷ []))
-user_all o s to Error e P all own short place =
+user_all o s to Error e P all own mine short place at =
     error_all o s to e P all (live_for o.world place (Some to)) (λ r live. live_for_found o.world place (Some to) r live)
-user_all o s to Subscribe e P all own short place = tt
-user_all o s to Subscribed e P all own short place = tt
-user_all o s to Unsubscribe e P all own short place = tt
-user_all o s to Unsubscribed e P all own short place = tt
-user_all o s to Probe e P all own short place = tt
+user_all o s to Subscribe e P all own mine short place at =
+    subscribed_all o s _ P all own Subscribe (user_in own place) (λ x is. all.pairs own place x mine at is)
+user_all o s to Subscribed e P all own mine short place at =
+    subscribed_all o s _ P all own Subscribed (user_in own place) (λ x is. all.pairs own place x mine at is)
+user_all o s to Unsubscribe e P all own mine short place at =
+    subscribed_all o s _ P all own Unsubscribe (user_in own place) (λ x is. all.pairs own place x mine at is)
+user_all o s to Unsubscribed e P all own mine short place at =
+    subscribed_all o s _ P all own Unsubscribed (user_in own place) (λ x is. all.pairs own place x mine at is)
+user_all o s to Probe e P all own mine short place at = tt
 
 address_all : (o : Scene) (s : ℕ) (to : Address) (form : PresenceForm) (e : Element) (P : Effect → Type 0)
-    → Covers o s (Presence (Some to) form e) P → (own : List ℕ) → length (presence_text (here o.world s) e) ≤ 16384 → (place : Place)
+    → Covers o s (Presence (Some to) form e) P → (own : List ℕ) → (here o.world s).address.local ≡ Some own
+    → length (presence_text (here o.world s) e) ≤ 16384 → (place : Place) → place ≡ place_of own o.domain (Some to)
     → AllByRecursion P (to_address o own (here o.world s) (Presence (Some to) form e) to form e place)
-address_all o s to form e P all own short Account = user_all o s to form e P all own short Account
-address_all o s to form e P all own short (User user) = user_all o s to form e P all own short (User user)
-address_all o s to form e P all own short (UserAt user resource) = user_all o s to form e P all own short (UserAt user resource)
-address_all o s to form e P all own short (Room room) = in_room_all o s (Presence (Some to) form e) P all form
-address_all o s to form e P all own short (RoomAt room nick) = in_room_all o s (Presence (Some to) form e) P all form
-address_all o s to form e P all own short Server = tt
-address_all o s to form e P all own short Service = tt
-address_all o s to form e P all own short Foreign = tt
+address_all o s to form e P all own mine short Account at = user_all o s to form e P all own mine short Account at
+address_all o s to form e P all own mine short (User user) at = user_all o s to form e P all own mine short (User user) at
+address_all o s to form e P all own mine short (UserAt user resource) at = user_all o s to form e P all own mine short (UserAt user resource) at
+address_all o s to form e P all own mine short (Room room) at = in_room_all o s (Presence (Some to) form e) P all form
+address_all o s to form e P all own mine short (RoomAt room nick) at = in_room_all o s (Presence (Some to) form e) P all form
+address_all o s to form e P all own mine short Server at = tt
+address_all o s to form e P all own mine short Service at = tt
+address_all o s to form e P all own mine short Foreign at = tt
 
 -- the text without an address is no longer than with it
 text_short : (who : Here) (to : Option Address) (e : Element) → length_sent who to e ≤ 16384 → length (presence_text who e) ≤ 16384
@@ -222,19 +252,21 @@ text_short who (Some to) e short =
     omega (arith, short, length-frame (record { to = address_text to; rest = presence_text who e; origin = Direct }))
 
 short_all : (o : Scene) (s : ℕ) (to : Option Address) (form : PresenceForm) (e : Element) (P : Effect → Type 0)
-    → Covers o s (Presence to form e) P → (own : List ℕ) (place : Place) → length (presence_text (here o.world s) e) ≤ 16384
+    → Covers o s (Presence to form e) P → (own : List ℕ) (place : Place) → (here o.world s).address.local ≡ Some own
+    → place ≡ place_of own o.domain to → length (presence_text (here o.world s) e) ≤ 16384
     → AllByRecursion P (presence_to o own (here o.world s) (Presence to form e) to form e place)
-short_all o s None form e P all own place short = broadcast_all o s form e P all own short
-short_all o s (Some to) form e P all own place short = address_all o s to form e P all own short place
+short_all o s None form e P all own place mine at short = broadcast_all o s form e P all own short
+short_all o s (Some to) form e P all own place mine at short = address_all o s to form e P all own mine short place at
 
 pub presence_all : (o : Scene) (s : ℕ) (to : Option Address) (form : PresenceForm) (e : Element) (P : Effect → Type 0)
-    → Covers o s (Presence to form e) P → (own : List ℕ) (place : Place)
+    → Covers o s (Presence to form e) P → (own : List ℕ) (place : Place) → (here o.world s).address.local ≡ Some own
+    → place ≡ place_of own o.domain to
     → AllByRecursion P (presence o own (here o.world s) (Presence to form e) to form e place)
-presence_all o s to form e P all own place = elim (cases_lt most_of_presence (length_sent (here o.world s) to e)) [
+presence_all o s to form e P all own place mine at = elim (cases_lt most_of_presence (length_sent (here o.world s) to e)) [
   | inl long ↦ is_by (sym (lt-ltb most_of_presence (length_sent (here o.world s) to e) long))
       (refusal_all o s (Presence to form e) P all NotAcceptable)
   | inr short ↦ is_by (sym (le-ltb most_of_presence (length_sent (here o.world s) to e) short))
-      (short_all o s to form e P all own place (text_short (here o.world s) to e short))
+      (short_all o s to form e P all own place mine at (text_short (here o.world s) to e short))
 ]
   where
     is_by : {a b : Bool} → a ≡ b

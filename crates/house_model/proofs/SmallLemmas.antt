@@ -15,6 +15,7 @@ use Rattle.stanza_tree.proofs.Bounds.{length-frame, length-text-sent-le, length-
 use Rattle.jid_core.specs.Addresses.{Address, bare, local_text, resource_text, address_text}
 use Rattle.stanza_model.specs.Errors.{plain_attr}
 use Rattle.stanza_model.specs.Kinds.{message_form, presence_form, iq_form}
+use Rattle.stanza_model.specs.Replies.{one_child, result_of}
 use Rattle.stanza_model.specs.Stanzas.{kind_of, type_of, id_of, address_in, is_unreadable, has_wrong_content, faulty, unless_unreadable, presence_by, iq_by, stanza_as, to_in, id_in, element_in}
 use Rattle.stanza_model.specs.declared.condition.Condition.TheVariants.{BadRequest, JidMalformed}
 use Rattle.stanza_model.specs.declared.effect.Effect.{Effect}
@@ -27,16 +28,26 @@ use Rattle.stanza_model.specs.declared.stanza.Stanza.{Stanza}
 use Rattle.stanza_model.specs.declared.stanza.Stanza.TheVariants.{Message, Presence, Iq, Faulty}
 use Rattle.stanza_model.proofs.StanzaLemmas.{stanza_of-element}
 use Rattle.stanza_router.specs.Messages.{addressed, copied}
+use Rattle.stanza_router.specs.declared.places.Place.{Place}
+use Rattle.contact_table.specs.Books.{bare_of}
+use Rattle.roster_book.specs.Requests.{listing}
 use Rattle.presence_core.specs.Broadcasts as broadcasts
 use Rattle.presence_core.specs.Broadcasts.{asked_by, presence_from, request_from}
 use Rattle.presence_core.specs.Copies.{presence_text}
-use Rattle.house_model.specs.Fitting.{IsSmall, AreSmall, IsShortAddress, IsShortScene}
+use Rattle.house_model.specs.Fitting.{IsSmall, AreSmall, AreShortAddresses, IsShortAddress, IsShortScene}
+use Rattle.house_model.specs.States.{World}
+use Rattle.house_model.specs.Traffic.{KeptTraffic}
 use Rattle.house_model.specs.Histories.{IsSent, IsShortId, IsShortFault, StanzaFits}
-use Rattle.house_model.specs.Lookups.{here}
-use Rattle.house_model.specs.Presences.{asking}
-use Rattle.house_model.specs.Routing.{Scene, departure, effects_in}
+use Rattle.house_model.specs.Lookups.{here, sessions_of}
+use Rattle.house_model.specs.Presences.{asking, party}
+use Rattle.house_model.specs.Routing.{Scene, departure, effects_in, own_contacts, parted, user_in, user_removed}
 use Rattle.house_model.proofs.EffectCases.{effects_all}
-use Rattle.house_model.proofs.Founds.{IsHere}
+use Rattle.house_model.proofs.Founds.{IsHere, append_all, numbers_found}
+use Rattle.house_model.proofs.NameSizes.{local-le, user-short}
+use Rattle.house_model.proofs.RosterCases.{all_told_at, found_at, parted_all, set_all, tells}
+use Rattle.house_model.proofs.RosterSizes.{listing-le}
+use Rattle.house_model.proofs.RosterSmall.{IsShortItem, IsShortName, IsShortText, small-reaches, small-seen}
+use Rattle.house_model.proofs.WantedSizes.{changed-le, user-removed-short, wanted-short}
 use Rattle.house_model.proofs.PresenceCases.{departure_all}
 use Rattle.house_model.proofs.ReplySizes.{spelt_length, under-le, under-parts, plain-attributes, plain-declared, error-reply-le, empty-reply-le}
 use Rattle.house_model.proofs.DiscoverySizes.{discovery-le}
@@ -189,10 +200,10 @@ kept-small : (p : Option (List ℕ)) → IfSome p (λ t. length t ≤ 16384) →
 kept-small None short = omega arith
 kept-small (Some p) short = omega (arith, short)
 
-here-short : (o : Scene) (h : Here) → IsShortScene o → IsHere o.world h → IsShortAddress h.address
-here-short o h short is = subst (λ (x : Here). IsShortAddress x.address) (sym is.seen) (short.addresses h.session)
+here-short : (world : World KeptTraffic) (h : Here) → AreShortAddresses world → IsHere world h → IsShortAddress h.address
+here-short world h short is = subst (λ (x : Here). IsShortAddress x.address) (sym is.seen) (short h.session)
 
-presence-le : (x : Address) (form : List ℕ) → IsShortAddress x → length form ≤ 11 → length (text (presence_from x form)) ≤ 30000
+presence-le : (x : Address) (form : List ℕ) → length (address_text x) ≤ 4200 → length form ≤ 12 → length (text (presence_from x form)) ≤ 30000
 presence-le x form short few =
     omega (
       arith,
@@ -209,12 +220,15 @@ presence-le x form short few =
     )
 
 request-le : (x : Address) → IsShortAddress x → length (text (request_from x)) ≤ 500000
-request-le x short = (let few = presence-le x (codes "subscribe") short (omega arith) in omega (arith, few))
+request-le x short = (let few = presence-le x (codes "subscribe") (omega (arith, short)) (omega arith) in omega (arith, few))
 
 asked-small : (who : Here) (xs : List Address) → IsShortAddress who.address → AllByRecursion IsShortAddress xs
     → AllByRecursion (λ x. IsSmall (asked_by who x)) xs
 asked-small who [] own all = tt
 asked-small who (x ∷ xs) own all = (said-small who (request_from x) (request-le x all.0) own, asked-small who xs own all.1)
+
+own-le : (a : Address) (user : List ℕ) → IsShortAddress a → a.local ≡ Some user → length user ≤ 3071
+own-le a user short is = omega (arith, short, local-le a user is)
 
 pub stanza_small : (o : Scene) (s : ℕ) (st : Stanza) → StanzaFits st → IsShortScene o → IfSome (to_in st) IsShortAddress
     → AreSmall (effects_in o s st)
@@ -226,7 +240,7 @@ stanza_small o s st fits short to =
       result = said-small (here o.world s) _ (empty-reply-le st to id) own;
       found = λ place. said-small (here o.world s) _ (discovery-le place st to id) own;
       copy = λ e h is found. copy-small (here o.world s) h (to_in st) e (element-small st e fits is) own to;
-      presence = λ e h small is. shown-small (address_text h.address) (presence_text (here o.world s) e) (here-short o h short is) (omega (arith, small));
+      presence = λ e h small is. shown-small (address_text h.address) (presence_text (here o.world s) e) (here-short o.world h short.addresses is) (omega (arith, small));
       show = λ h is.
           shown-small (address_text (here o.world s).address) _ own
           (kept-small (o.world.sessions h.session).rest.manner.presence (short.presences h.session));
@@ -234,12 +248,41 @@ stanza_small o s st fits short to =
       shows = λ e priority small. small;
       hides = tt;
       directs = λ addresses. tt;
+      pairs = λ named place user mine at is.
+          tells o.world IsSmall IsShortItem IsShortName IsShortText (small-reaches o short) (party o.domain o.world named) (party o.domain o.world user)
+          (small-seen o short named (own-le (here o.world s).address named own mine))
+          (small-seen o short user
+          (user-short named o.domain (to_in st) user (own-le (here o.world s).address named own mine) to
+          (subst (λ (x : Place). user_in named x ≡ Some user) at is)));
+      lists = λ named. (
+        tt,
+        (
+          said-small (here o.world s) (result_of st (one_child (listing (own_contacts o named))))
+              (listing-le st (own_contacts o named) to id (short.rosters named)) own,
+          tt,
+        ),
+      );
+      changes = λ named mine.
+          append_all IsSmall (parted o named (user_removed o named st)) _
+          (parts named (own-le (here o.world s).address named own mine) (user_removed o named st) refl)
+          (set_all o.world IsSmall IsShortItem IsShortName IsShortText (small-reaches o short) (bare_of o.domain named) (own_contacts o named)
+          (here o.world s) (sessions_of o.world named) st (found_at o.world (sessions_of o.world named) (numbers_found o.world named))
+          (λ c. said-small (here o.world s) _ (error-reply-le st c to id) own) (said-small (here o.world s) _ (empty-reply-le st to id) own)
+          (λ w wants whole. changed-le (own_contacts o named) w whole (wanted-short (bare_of o.domain named) st w wants)));
     }))
+  where
+    parts : (named : List ℕ) → length named ≤ 3071 → (user : Option (List ℕ)) → user_removed o named st ≡ user → AllByRecursion IsSmall (parted o named user)
+    parts named few None at = tt
+    parts named few (Some user) at =
+        parted_all o.world IsSmall IsShortItem IsShortName IsShortText (small-reaches o short) (party o.domain o.world named) (party o.domain o.world user)
+        (small-seen o short named few)
+        (small-seen o short user (user-removed-short o.domain (bare_of o.domain named) (own_contacts o named) st user at))
+        (all_told_at o.world (sessions_of o.world user) (numbers_found o.world user))
 
 -- Departure.
-pub departure_small : (o : Scene) (s : ℕ) → IsShortScene o → AreSmall (departure o.world s)
-departure_small o s short =
-    all-small (departure o.world s) (departure_all o.world s IsSmall
-    (λ h is. shown-small (address_text h.address) (text (broadcasts.departure (here o.world s))) (here-short o h short is)
-    (presence-le (here o.world s).address (codes "unavailable") (short.addresses s) (omega arith)))
+pub departure_small : (world : World KeptTraffic) (s : ℕ) → AreShortAddresses world → AreSmall (departure world s)
+departure_small world s short =
+    all-small (departure world s) (departure_all world s IsSmall
+    (λ h is. shown-small (address_text h.address) (text (broadcasts.departure (here world s))) (here-short world h short is)
+    (let own = short s in presence-le (here world s).address (codes "unavailable") (omega (arith, own)) (omega arith)))
     tt (λ addresses. tt))

@@ -1,17 +1,18 @@
 -- What every list of effects of a stanza keeps to.
-use Rattle.std.specs.Prelude.{◌≡◌, ℕ, ◌<◌, ◌≤◌, List, [], ◌∷◌, length, IfSome, ⊤}
+use Rattle.std.specs.Prelude.{◌≡◌, ℕ, ◌<◌, ◌≤◌, ◌^◌, List, [], ◌∷◌, map, length, sum, IfSome, ⊤}
 use Rattle.std.specs.List.{AllByRecursion}
 use Rattle.jid_core.specs.Addresses.{Address, address_text}
 use Rattle.stanza_tree.specs.Entries.{frame}
 use Rattle.stanza_tree.specs.declared.frame.Origin.TheVariants.{Direct}
+use Rattle.stanza_model.specs.RosterLimits.{counted, most_text}
 use Rattle.stanza_model.specs.declared.effect.Effect.{Effect}
 use Rattle.stanza_model.specs.declared.effect.Effect.TheVariants.{Queue, Set}
 use Rattle.stanza_model.specs.declared.effect.Change.{Change}
 use Rattle.stanza_model.specs.declared.effect.Change.TheVariants.{WantsRoster, Pushed, Available, Unavailable, Directed}
 use Rattle.house_model.specs.Presences.{asking}
-use Rattle.house_model.specs.Routing.{Scene}
+use Rattle.house_model.specs.Routing.{Scene, own_contacts}
 use Rattle.house_model.specs.Sessions.{Gone}
-use Rattle.house_model.specs.Traffic.{Traffic, whole}
+use Rattle.house_model.specs.Traffic.{KeptTraffic, Traffic, whole}
 use Rattle.house_model.specs.States.{World}
 use Rattle.house_model.specs.Effects.{apply}
 use Rattle.house_model.specs.Steps.{effect_of}
@@ -54,8 +55,15 @@ AreSmall (e ∷ more) = IsSmall e × AreSmall more
 abbrev pub IsShortAddress : Address → Type 0
 IsShortAddress a = length (address_text a) ≤ 3071
 
--- what the rules on stanzas read is short: the address of each session, and of each who has asked, and each presence that is kept
+abbrev pub AreShortAddresses : World KeptTraffic → Type 0
+AreShortAddresses world = (s : ℕ) → IsShortAddress (world.sessions s).rest.address
+
+-- what the rules on stanzas read is short: the domain, the address of each session, and of each who has asked, each presence that is kept,
+-- each roster, and the count of each session's pushes
 pub record IsShortScene (o : Scene) : Type 0 where
-  pub addresses : (s : ℕ) → IsShortAddress (o.world.sessions s).rest.address
+  pub domain : length o.domain ≤ 1023
+  pub addresses : AreShortAddresses o.world
   pub asking : (own : List ℕ) → AllByRecursion IsShortAddress (asking o.domain o.world own)
   pub presences : (s : ℕ) → IfSome (o.world.sessions s).rest.manner.presence (λ p. length p ≤ 16384)
+  pub rosters : (own : List ℕ) → sum (map counted (own_contacts o own)) ≤ most_text
+  pub pushes : (s : ℕ) → (o.world.sessions s).rest.manner.pushes < 2 ^ 64

@@ -8,7 +8,8 @@ use Rattle.stanza_tree.specs.declared.node.Element.{Element}
 use Rattle.stanza_model.specs.declared.here.Here.{Here}
 use Rattle.stanza_model.specs.declared.shared.Shown.{Shown}
 use Rattle.presence_core.specs.Copies.{presence_text}
-use Rattle.contact_table.specs.Books.{bare_of, who_asked, who_sees, whom_sees}
+use Rattle.contact_table.specs.Books.{bare_of, contacts_of, who_asked, who_sees, whom_sees}
+use Rattle.subscription_pairs.specs.Users.{User}
 use Rattle.house_model.specs.Lookups.{here, numbers_going, sessions_of}
 use Rattle.house_model.specs.States.{World}
 use Rattle.house_model.specs.Traffic.{KeptTraffic}
@@ -44,12 +45,25 @@ is_another who h = h.available && not (h.session == who.session)
 abbrev pub in_sight : World KeptTraffic → (own : List ℕ) → Here → List Here
 in_sight world own who = flat_map (available_of world) (whom_sees world.book own) ++ filter (is_another who) (sessions_of world own)
 
--- the presence that is kept of a session, for another
+-- the presence that is kept of a session
+abbrev pub presence_of : World KeptTraffic → Here → List ℕ
+presence_of world h = unwrap_or (world.sessions h.session).rest.manner.presence []
+
+-- for another
 abbrev pub shown_of : World KeptTraffic → Here → Here → Shown
-shown_of world who h = record { to = address_text who.address; rest = unwrap_or (world.sessions h.session).rest.manner.presence [] }
+shown_of world who h = record { to = address_text who.address; rest = presence_of world h }
 
 abbrev pub shown : World KeptTraffic → (own : List ℕ) → Here → List Shown
 shown world own who = map (shown_of world who) (in_sight world own who)
+
+-- a user, as the rules on subscriptions see it
+abbrev pub party : (domain : List ℕ) → World KeptTraffic → (user : List ℕ) → User
+party domain world user = record {
+  bare = bare_of domain user;
+  contacts = contacts_of domain world.book user;
+  sessions = sessions_of world user;
+  presences = map (presence_of world) (available_of world user);
+}
 
 -- RFC 6121, 3.1.3: those who have asked to see its user
 abbrev pub asking : (domain : List ℕ) → World KeptTraffic → (own : List ℕ) → List Address

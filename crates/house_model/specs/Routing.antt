@@ -1,19 +1,22 @@
 -- What comes of a stanza, by its kind and the place that it is for (RFC 6120, 10; RFC 6121, 8.5). The rows of each table go from the top
 -- down, and the first that fits decides. All is read off what the code keeps.
-use Rattle.std.specs.Prelude.{ℕ, nat_lt, List, [], ◌∷◌, Bool, true, false, ◌||◌, codes, Option, Some, None, is_some, if◌then◌else◌}
+use Rattle.std.specs.Prelude.{ℕ, nat_lt, List, [], ◌∷◌, ◌++◌, Bool, true, false, ◌||◌, codes, Option, Some, None, is_some, if◌then◌else◌}
+use Rattle.std.specs.Option.{option_and_then}
 use Rattle.jid_core.specs.Addresses.{Address}
 use Rattle.stanza_tree.specs.Children.{child_of}
 use Rattle.stanza_tree.specs.declared.node.Element.{Element}
 use Rattle.stanza_model.specs.Replies.{result_of, said_to, refused}
+use Rattle.stanza_model.specs.Rosters.{roster_space}
 use Rattle.stanza_model.specs.Stanzas.{to_in}
 use Rattle.stanza_model.specs.declared.condition.Condition.{Condition}
-use Rattle.stanza_model.specs.declared.condition.Condition.TheVariants.{BadRequest, ItemNotFound, NotAcceptable, NotAllowed, RemoteServerNotFound, ServiceUnavailable}
+use Rattle.stanza_model.specs.declared.condition.Condition.TheVariants.{BadRequest, ItemNotFound, NotAcceptable, NotAllowed, RemoteServerNotFound, ResourceConstraint, ServiceUnavailable}
 use Rattle.stanza_model.specs.declared.effect.Effect.{Effect}
 use Rattle.stanza_model.specs.declared.here.Here.{Here}
 use Rattle.stanza_model.specs.declared.kinds.MessageForm.{MessageForm}
 use Rattle.stanza_model.specs.declared.kinds.MessageForm.TheVariants.{Groupchat}
 use Rattle.stanza_model.specs.declared.kinds.PresenceForm.{PresenceForm}
-use Rattle.stanza_model.specs.declared.kinds.PresenceForm.TheVariants.{Available, Unavailable, Error}
+use Rattle.stanza_model.specs.declared.kinds.PresenceForm.TheVariants.{Available, Unavailable, Probe, Error}
+use Rattle.stanza_model.specs.declared.shared.Contact.{Contact}
 use Rattle.stanza_model.specs.declared.stanza.Stanza.{Stanza}
 use Rattle.stanza_model.specs.declared.stanza.Stanza.TheVariants.{Message, Presence, Iq, Faulty}
 use Rattle.stanza_router.specs.Discovery.{discovery}
@@ -21,11 +24,14 @@ use Rattle.stanza_router.specs.Messages.{copied, deliveries, receivers_of}
 use Rattle.stanza_router.specs.Places.{place_of}
 use Rattle.stanza_router.specs.declared.places.Place.{Place}
 use Rattle.stanza_router.specs.declared.places.Place.TheVariants.{Account, Server, User, UserAt, Service, Room, RoomAt, Foreign}
+use Rattle.contact_table.specs.Books.{bare_of, contacts_of, local_user}
+use Rattle.roster_book.specs.Requests.{removed_by, roster_get, roster_set}
+use Rattle.subscription_pairs.specs.Changes.{removal, subscription}
 use Rattle.presence_core.specs.Broadcasts.{available, unavailable}
 use Rattle.presence_core.specs.DirectedPresence.{directed}
 use Rattle.house_model.specs.Lookups.{live_at, has_user, here, sessions_of}
-use Rattle.house_model.specs.Presences.{asking, directed_by, length_sent, most_of_presence, named, shown, watchers}
-use Rattle.house_model.specs.Requests.{pings, begins_session, binds_resource, discovers, asks_a_room}
+use Rattle.house_model.specs.Presences.{asking, directed_by, length_sent, most_of_presence, named, party, shown, watchers}
+use Rattle.house_model.specs.Requests.{pings, begins_session, binds_resource, discovers, asks_a_room, gets, sets}
 use Rattle.house_model.specs.States.{World, Kept}
 use Rattle.house_model.specs.Traffic.{KeptTraffic}
 
@@ -111,6 +117,34 @@ to_server who st place =
     else if binds_resource st then refused who st NotAllowed
     else refused who st ServiceUnavailable
 
+-- RFC 6121, 2.1: the contacts of the sender
+
+abbrev pub own_contacts : Scene → (own : List ℕ) → List Contact
+own_contacts o own = contacts_of o.domain o.world.book own
+
+-- RFC 6121, 2.5.2: the user of this server whom a roster set removes, if any
+abbrev pub user_removed : Scene → (own : List ℕ) → Stanza → Option (List ℕ)
+user_removed o own st =
+    option_and_then (local_user o.domain) (removed_by (bare_of o.domain own) (own_contacts o own) st)
+
+-- neither sees the other any more
+abbrev pub parted : Scene → (own : List ℕ) → Option (List ℕ) → List Effect
+parted o own None = []
+parted o own (Some user) = removal (party o.domain o.world own) (party o.domain o.world user)
+
+-- RFC 6121, 2.3 to 2.5
+abbrev pub roster_changed : Scene → (own : List ℕ) → Here → Stanza → List Effect
+roster_changed o own who st =
+    parted o own (user_removed o own st)
+    ++ roster_set (bare_of o.domain own) (own_contacts o own) who (sessions_of o.world own) st
+
+-- to the sender's account
+abbrev pub to_account : Scene → (own : List ℕ) → Here → Stanza → List Effect
+to_account o own who st =
+    if gets roster_space (codes "query") st then roster_get (own_contacts o own) who st
+    else if sets roster_space (codes "query") st then roster_changed o own who st
+    else to_server who st Account
+
 -- RFC 6121, 8.5.3: to a session of a user
 abbrev pub to_session : World KeptTraffic → Here → Stanza → Option Address → Element → Option ℕ → List Effect
 to_session world who st to e (Some s) = copied who to e (here world s) ∷ []
@@ -131,15 +165,15 @@ to_room who st place =
     else if asks_a_room st then refused who st ItemNotFound
     else refused who st ServiceUnavailable
 
-abbrev pub iq : World KeptTraffic → Here → Stanza → Option Address → Element → Place → List Effect
-iq world who st to e Account = to_server who st Account
-iq world who st to e Server = to_server who st Server
-iq world who st to e (User user) = refused who st ServiceUnavailable
-iq world who st to e (UserAt user resource) = to_session world who st to e (live_for world (UserAt user resource) to)
-iq world who st to e Service = to_service who st Service
-iq world who st to e (Room room) = to_room who st (Room room)
-iq world who st to e (RoomAt room nick) = refused who st ServiceUnavailable
-iq world who st to e Foreign = refused who st RemoteServerNotFound
+abbrev pub iq : Scene → (own : List ℕ) → Here → Stanza → Option Address → Element → Place → List Effect
+iq o own who st to e Account = to_account o own who st
+iq o own who st to e Server = to_server who st Server
+iq o own who st to e (User user) = refused who st ServiceUnavailable
+iq o own who st to e (UserAt user resource) = to_session o.world who st to e (live_for o.world (UserAt user resource) to)
+iq o own who st to e Service = to_service who st Service
+iq o own who st to e (Room room) = to_room who st (Room room)
+iq o own who st to e (RoomAt room nick) = refused who st ServiceUnavailable
+iq o own who st to e Foreign = refused who st RemoteServerNotFound
 
 -- Presence.
 
@@ -162,12 +196,26 @@ abbrev pub error_to : World KeptTraffic → Here → Address → Element → Opt
 error_to world who to e (Some s) = copied who (Some to) e (here world s) ∷ []
 error_to world who to e None = []
 
--- subscriptions are not built yet
+-- RFC 6121, 3: a subscription is between users that have accounts. A contact for which the sender's roster has no room is refused.
+
+abbrev pub unless_full : Here → Stanza → Option (List Effect) → List Effect
+unless_full who st (Some effects) = effects
+unless_full who st None = refused who st ResourceConstraint
+
+abbrev pub between : Scene → (own user : List ℕ) → PresenceForm → Option (List Effect)
+between o own user form = subscription (party o.domain o.world own) (party o.domain o.world user) form
+
+abbrev pub subscribed : Scene → (own : List ℕ) → Here → Stanza → PresenceForm → Option (List ℕ) → List Effect
+subscribed o own who st form None = []
+subscribed o own who st form (Some user) = if has_user o.users user then unless_full who st (between o own user form) else []
+
+-- RFC 6121, 4.3: the server alone probes
 abbrev pub to_user : Scene → (own : List ℕ) → Here → Stanza → Address → PresenceForm → Element → Place → List Effect
 to_user o own who st to Available e place = directed_to o own who st place (named o.world (to ∷ []))
 to_user o own who st to Unavailable e place = directed_to o own who st place (named o.world (to ∷ []))
 to_user o own who st to Error e place = error_to o.world who to e (live_for o.world place (Some to))
-to_user o own who st to form e place = []
+to_user o own who st to Probe e place = []
+to_user o own who st to form e place = subscribed o own who st form (user_in own place)
 
 -- XEP-0045, 7.2: there are no rooms yet, and none can be made
 abbrev pub to_be_in_room : Here → Stanza → PresenceForm → List Effect
@@ -195,7 +243,7 @@ presence o own who st to form e place =
 abbrev pub effects_at : Scene → (own : List ℕ) → Here → Stanza → Place → List Effect
 effects_at o own who (Message to form e) place = message o.users o.world own who (Message to form e) form e place
 effects_at o own who (Presence to form e) place = presence o own who (Presence to form e) to form e place
-effects_at o own who (Iq to id form e) place = iq o.world who (Iq to id form e) to e place
+effects_at o own who (Iq to id form e) place = iq o own who (Iq to id form e) to e place
 effects_at o own who (Faulty kind to id answered condition) place = refused who (Faulty kind to id answered condition) condition
 
 -- RFC 6120, 7: the address of a session has a local part, which is its user's

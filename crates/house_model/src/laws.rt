@@ -12,14 +12,15 @@ ghost use Rattle.stanza_model.specs.declared.kinds.Kind.{Kind};
 ghost use Rattle.stanza_model.specs.declared.stanza.Stanza.{Stanza};
 ghost use Rattle.sm_resume.specs.declared.decision.Cause.{Cause};
 ghost use Rattle.session_table.specs.declared.line.Line.TheVariants.{Bound};
+ghost use Rattle.roster_laws.specs.Keeping.{AreKept};
 ghost use Rattle.house_model.specs.declared.event.Event.{Event};
 ghost use Rattle.house_model.specs.declared.event.Event.TheVariants as event;
-ghost use Rattle.house_model.specs.Traffic.{Traffic, whole, brief};
+ghost use Rattle.house_model.specs.Traffic.{KeptTraffic, Traffic, whole, brief};
 ghost use Rattle.house_model.specs.States.{World, State, Kept, keep, keep_world};
 ghost use Rattle.house_model.specs.Effects.{Effect, On, apply, apply_all};
 ghost use Rattle.house_model.specs.Sessions.{Act, End};
 ghost use Rattle.house_model.specs.Routing.{Scene, departure, effects, effects_in};
-ghost use Rattle.house_model.specs.Fitting.{AreSmall, AllFit, IsInHouse, IsShortAddress, IsShortScene};
+ghost use Rattle.house_model.specs.Fitting.{AreSmall, AllFit, AreShortAddresses, IsInHouse, IsShortAddress, IsShortScene};
 ghost use Rattle.house_model.specs.Steps.{verdict, turn};
 ghost use Rattle.house_model.specs.Histories.{Turn, step, kept_step, StanzaFits, GivesNoText, after, kept_next_by, openings, Allowed, Legal, IsOpening, StandsFor};
 ghost use Rattle.house_model.specs.Sound.{Sound, Back, Fits};
@@ -73,7 +74,7 @@ pub fn pulls_alone_give_texts()
 pub fn effects_are_small()
     ensures stanza { (o : Scene) (s : ℕ) (stanza : Stanza) → StanzaFits stanza → IsShortScene o → IfSome (to_in stanza) IsShortAddress
         → AreSmall (effects_in o s stanza) }
-    ensures departure { (o : Scene) (s : ℕ) → IsShortScene o → AreSmall (departure o.world s) }
+    ensures departure { (world : World KeptTraffic) (s : ℕ) → AreShortAddresses world → AreSmall (departure world s) }
 {}
 
 /// Each session that the effects of a stanza, or of a departure, name is in the house when their turn comes, and no stanza is queued as an
@@ -83,6 +84,11 @@ pub fn effects_fit()
         → AllFit (apply whole (after o h).world (On s (Act x))) (effects (keep (turn (event.Act w x t) (after o h))) s x) }
     ensures departure { (o : State) (h : List Turn) (s : ℕ) (cause : Cause) → IsOpening o → IsInHouse s (after o h).world
         → AllFit (apply whole (after o h).world (On s (End cause))) (departure (keep_world (after o h).world) s) }
+{}
+
+/// Each user's roster keeps to its limits, and no two of its contacts have one address.
+pub fn rosters_are_kept()
+    ensures { (o : State) (h : List Turn) → IsOpening o → AreKept (after o h).head.domain.domain (after o h).world.book }
 {}
 
 /// What a client that counts has handled, over all connections of its session, is a prefix of what was queued for it since

@@ -6,7 +6,6 @@ use Rattle.stanza_model.specs.RosterLimits.{counted, most_contacts, most_text}
 use Rattle.stanza_model.specs.declared.condition.Condition.{Condition}
 use Rattle.stanza_model.specs.declared.condition.Condition.TheVariants.{BadRequest, ItemNotFound, NotAcceptable, ResourceConstraint}
 use Rattle.stanza_model.specs.declared.shared.Contact.{Contact}
-use Rattle.stanza_model.specs.declared.shared.Roster.{Roster}
 use Rattle.roster_book.specs.declared.item.Wanted.{Wanted}
 
 -- the contact of a roster that has this address
@@ -14,8 +13,8 @@ abbrev pub contact_at : Address → List Contact → Option Contact
 contact_at address [] = None
 contact_at address (c ∷ more) = if same_address c.address address then Some c else contact_at address more
 
-abbrev pub is_listed : Address → Roster → Bool
-is_listed address book = is_some (contact_at address book.contacts.items)
+abbrev pub is_listed : Address → List Contact → Bool
+is_listed address contacts = is_some (contact_at address contacts)
 
 -- the most bytes of a name, and of a group
 abbrev pub most_bytes : ℕ
@@ -41,12 +40,12 @@ abbrev pub has_wrong_groups : List (List ℕ) → Bool
 has_wrong_groups groups = nat_lt most_groups (length groups) || has_double groups
 
 -- RFC 6121, 2.5.3: a contact to be removed is in the roster
-abbrev pub is_missing : Roster → Wanted → Bool
-is_missing book w = w.remove && not (is_listed w.contact.address book)
+abbrev pub is_missing : List Contact → Wanted → Bool
+is_missing contacts w = w.remove && not (is_listed w.contact.address contacts)
 
 -- a new contact is one too many
-abbrev pub is_one_too_many : Roster → Contact → Bool
-is_one_too_many book x = not (is_listed x.address book) && nat_le most_contacts (length book.contacts.items)
+abbrev pub is_one_too_many : List Contact → Contact → Bool
+is_one_too_many contacts x = not (is_listed x.address contacts) && nat_le most_contacts (length contacts)
 
 abbrev pub others : Address → List Contact → List Contact
 others address contacts = filter (λ c. not (same_address c.address address)) contacts
@@ -55,14 +54,14 @@ others address contacts = filter (λ c. not (same_address c.address address)) co
 abbrev pub text_after : List Contact → Contact → ℕ
 text_after contacts x = counted x + sum (map counted (others x.address contacts))
 
-abbrev pub is_too_large : Roster → Contact → Bool
-is_too_large book x = is_one_too_many book x || nat_lt most_text (text_after book.contacts.items x)
+abbrev pub is_too_large : List Contact → Contact → Bool
+is_too_large contacts x = is_one_too_many contacts x || nat_lt most_text (text_after contacts x)
 
 -- the conditions of the rows
-abbrev pub refusal : Roster → Wanted → Option Condition
-refusal book w =
+abbrev pub refusal : List Contact → Wanted → Option Condition
+refusal contacts w =
     if has_wrong_texts w.contact then Some NotAcceptable
     else if has_wrong_groups w.contact.groups then Some BadRequest
-    else if is_missing book w then Some ItemNotFound
-    else if is_too_large book w.contact then Some ResourceConstraint
+    else if is_missing contacts w then Some ItemNotFound
+    else if is_too_large contacts w.contact then Some ResourceConstraint
     else None

@@ -11,4 +11,4 @@ mod set_tests;
 #[cfg(test)]
 mod tests;
 
-pub use request::{roster_get, roster_set};
+pub use request::{removed_by, roster_get, roster_set};

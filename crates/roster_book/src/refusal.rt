@@ -7,7 +7,7 @@ ghost use Rattle.roster_book.specs.Refusals.{contact_at, has_double, has_wrong_g
 
 use crate::item::Wanted;
 use jid_core::Jid;
-use stanza_model::{Condition, Contact, MOST_CONTACTS, MOST_ROSTER_BYTES, Roster, counted};
+use stanza_model::{Condition, Contact, MOST_CONTACTS, MOST_ROSTER_BYTES, counted};
 use stanza_tree::{NoMemory, Text};
 use std::alloc::Global;
 
@@ -18,8 +18,12 @@ const MOST_BYTES: usize = 1023;
 const MOST_GROUPS: usize = 64;
 
 /// The condition by which a set is refused, if it is.
-pub fn refusal(alloc: Global, book: &Roster, wanted: &Wanted) -> Result<Option<Condition>, NoMemory>
-    ensures { IfOk result (λ c. c ≡ refusal book.now wanted.now) }
+pub fn refusal(
+    alloc: Global,
+    contacts: &[Contact],
+    wanted: &Wanted,
+) -> Result<Option<Condition>, NoMemory>
+    ensures { IfOk result (λ c. c ≡ refusal contacts.now wanted.now) }
 {
     if has_wrong_texts(&wanted.contact) {
         return Ok(Some(Condition::NotAcceptable));
@@ -27,10 +31,10 @@ pub fn refusal(alloc: Global, book: &Roster, wanted: &Wanted) -> Result<Option<C
     if has_wrong_groups(wanted.contact.groups.slice()) {
         return Ok(Some(Condition::BadRequest));
     }
-    if is_missing(book, wanted) {
+    if is_missing(contacts, wanted) {
         return Ok(Some(Condition::ItemNotFound));
     }
-    if is_too_large(alloc, book, &wanted.contact)? {
+    if is_too_large(alloc, contacts, &wanted.contact)? {
         return Ok(Some(Condition::ResourceConstraint));
     }
     Ok(None)
@@ -92,17 +96,16 @@ fn is_among(group: &Text, groups: &[Text]) -> bool
 }
 
 /// Whether a contact that is to be removed isn't there.
-fn is_missing(book: &Roster, wanted: &Wanted) -> bool
-    ensures { result ≡ is_missing book.now wanted.now }
+fn is_missing(contacts: &[Contact], wanted: &Wanted) -> bool
+    ensures { result ≡ is_missing contacts.now wanted.now }
 {
-    wanted.remove && contact_at(book.contacts.as_slice(), &wanted.contact.address).is_none()
+    wanted.remove && contact_at(contacts, &wanted.contact.address).is_none()
 }
 
 /// Whether the roster would have too many contacts or too much text.
-fn is_too_large(alloc: Global, book: &Roster, contact: &Contact) -> Result<bool, NoMemory>
-    ensures { IfOk result (λ b. b ≡ is_too_large book.now contact.now) }
+fn is_too_large(alloc: Global, contacts: &[Contact], contact: &Contact) -> Result<bool, NoMemory>
+    ensures { IfOk result (λ b. b ≡ is_too_large contacts.now contact.now) }
 {
-    let contacts = book.contacts.as_slice();
     if contact_at(contacts, &contact.address).is_none() && contacts.len() >= MOST_CONTACTS {
         return Ok(true);
     }

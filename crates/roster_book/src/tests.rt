@@ -159,7 +159,7 @@ fn sessions(alloc: Global) -> Result<Vec<Here>, Fail>
 fn effects_of_get(alloc: Global, book: &Roster) -> Result<Vec<Effect>, Fail> {
     let who = here(alloc, &SESSIONS[0])?;
     let request = request(alloc, b"get", Vec::new(alloc))?;
-    Ok(roster_get(alloc, book, &who, &request)?)
+    Ok(roster_get(alloc, book.contacts.as_slice(), &who, &request)?)
 }
 
 pub(crate) fn effects_of(
@@ -169,7 +169,14 @@ pub(crate) fn effects_of(
 ) -> Result<Vec<Effect>, Fail> {
     let who = here(alloc, &SESSIONS[0])?;
     let own = sessions(alloc)?;
-    Ok(roster_set(alloc, book, &who, own.as_slice(), request)?)
+    Ok(roster_set(
+        alloc,
+        &book.owner,
+        book.contacts.as_slice(),
+        &who,
+        own.as_slice(),
+        request,
+    )?)
 }
 
 pub(crate) fn effects_of_set(

@@ -45,7 +45,7 @@ fn unless_full(
 {
     if is_made(before, outcome) {
         let contact = new_contact(alloc, theirs.bare, outcome.mine)?;
-        if !fits(alloc, mine.roster, &contact)? {
+        if !fits(alloc, mine.contacts, &contact)? {
             return Ok(None);
         }
     }

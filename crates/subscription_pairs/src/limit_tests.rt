@@ -41,7 +41,7 @@ fn party<'a>(roster: &'a Roster) -> Party<'a>
 {
     Party {
         bare: &roster.owner,
-        roster,
+        contacts: roster.contacts.as_slice(),
         sessions: &[],
         presences: &[],
     }

@@ -6,7 +6,7 @@ ghost use Rattle.subscription_pairs.specs.Users.{asked_by, contact_by, contact_o
 
 use crate::outcome::state;
 use jid_core::{Jid, Part};
-use stanza_model::{Contact, Here, Roster, Side, Subscription, item, item_as};
+use stanza_model::{Contact, Here, Side, Subscription, item, item_as};
 use stanza_tree::{Element, NoMemory, Several, Text};
 use std::alloc::Global;
 use std::marker::Model;
@@ -16,7 +16,8 @@ use std::marker::Model;
 pub struct Party<'a> {
     /// Its bare address.
     pub bare: &'a Jid,
-    pub roster: &'a Roster,
+    /// The contacts of its roster.
+    pub contacts: &'a [Contact],
     /// Its sessions that go on.
     pub sessions: &'a [Here],
     /// The presence of each available session, without `to`, in the order of `sessions`.
@@ -28,7 +29,7 @@ impl<'a> Model for Party<'a> {
 
     ghost Value = { User };
 
-    ghost view = { λ p. record { bare = p.bare.now; contacts = p.roster.now.contacts.items; sessions = p.sessions.now; presences = p.presences.now } };
+    ghost view = { λ p. record { bare = p.bare.now; contacts = p.contacts.now; sessions = p.sessions.now; presences = p.presences.now } };
 }
 
 /// The user of an address.
@@ -42,10 +43,10 @@ pub(crate) fn user_of(address: &Jid) -> &Part
 }
 
 /// The contact of that address.
-pub(crate) fn contact_of<'a>(roster: &'a Roster, address: &Jid) -> Option<&'a Contact>
-    ensures { option_copied result ≡ contact_of roster.entry.now.contacts.items address.now }
+pub(crate) fn contact_of<'a>(contacts: &'a [Contact], address: &Jid) -> Option<&'a Contact>
+    ensures { option_copied result ≡ contact_of contacts.entry.now address.now }
 {
-    roster.contacts.iter().find(|c| c.address.is_same(address))
+    contacts.iter().find(|c| c.address.is_same(address))
 }
 
 fn sees_by(subscription: Subscription) -> bool
@@ -94,8 +95,8 @@ fn side_in(own: Option<&Contact>, other: Option<&Contact>) -> Side
 pub(crate) fn side_of(one: &Party, other: &Party) -> Side
     ensures { result ≡ side_of one.now other.now }
 {
-    let own = contact_of(one.roster, other.bare);
-    let others = contact_of(other.roster, one.bare);
+    let own = contact_of(one.contacts, other.bare);
+    let others = contact_of(other.contacts, one.bare);
     side_in(own, others)
 }
 
@@ -121,7 +122,7 @@ pub(crate) fn item_by(
 ) -> Result<Element, NoMemory>
     ensures { IfOk result (λ e. e ≡ item (contact_by address.now side (contact_of party.now.contacts address.now))) }
 {
-    match contact_of(party.roster, address) {
+    match contact_of(party.contacts, address) {
         Some(contact) => item_as(alloc, contact, state(side), side.asked),
         None => item(alloc, &new_contact(alloc, address, side)?),
     }

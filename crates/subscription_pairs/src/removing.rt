@@ -58,7 +58,7 @@ fn then_cancelled(
     let sessions = told_all(alloc, theirs.sessions)?;
     let theirs = Party {
         bare: theirs.bare,
-        roster: theirs.roster,
+        contacts: theirs.contacts,
         sessions: sessions.as_slice(),
         presences: theirs.presences,
     };

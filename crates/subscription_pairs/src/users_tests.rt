@@ -268,13 +268,13 @@ pub(crate) fn expect_rosters<R: Abort>(
     let (my_presence, their_presence) = (texts(alloc, my_presence)?, texts(alloc, their_presence)?);
     let mine = Party {
         bare: &rosters.0.owner,
-        roster: rosters.0,
+        contacts: rosters.0.contacts.as_slice(),
         sessions: mine.as_slice(),
         presences: my_presence.as_slice(),
     };
     let theirs = Party {
         bare: &rosters.1.owner,
-        roster: rosters.1,
+        contacts: rosters.1.contacts.as_slice(),
         sessions: theirs.as_slice(),
         presences: their_presence.as_slice(),
     };

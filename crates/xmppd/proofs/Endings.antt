@@ -1,13 +1,12 @@
 -- How `account` ends.
-use Rattle.std.proofs.Common.{◌≡◌, ℕ, List, Some, arith, refl, sym, ap, subst, true≢false, inl, inr, [], ◌∷◌, codes, is_some, ◌∙◌}
+use Rattle.std.proofs.Common.{◌≡◌, ℕ, List, Some, refl, sym, ap, subst, true≢false, inl, inr, [], ◌∷◌, codes, is_some, ◌∙◌}
 use Rattle.std.specs.Prelude.{◌⊎◌, Option}
-use Rattle.outside.specs.Devices.{Rose}
-use Rattle.xmppd.specs.declared.status.Status.{Status}
-use Rattle.xmppd.specs.declared.status.Status.TheVariants as status
+use Rattle.script_play.specs.declared.status.Status.{Status}
+use Rattle.script_play.specs.declared.status.Status.TheVariants as status
 use Rattle.xmppd.specs.Accounts.{Accounted, IsPasswordLine, MakesLine, Refuses}
 use Rattle.xmppd.specs.Commands.{IsRefusal, task_of}
-use Rattle.xmppd.specs.Runs.{Front, Replayed}
-use Rattle.xmppd.proofs.Plays.{first-short}
+use Rattle.script_play.specs.Runs.{Front, Replayed}
+use Rattle.script_play.proofs.Openings.{first-short}
 
 module _ {K : Type 0} (took : K → Option (List ℕ)) (name salt : List ℕ) (left left_now : Option (List ℕ)) where
   -- no password was read
@@ -26,9 +25,6 @@ module _ {K : Type 0} (took : K → Option (List ℕ)) (name salt : List ℕ) (l
       → MakesLine name salt left left_now (λ line. (taken : List ℕ) → took sink ≡ Some taken → Front taken line (took sink_now))
       → Accounted took name salt left left_now sink sink_now s
   ends_unwritten sink sink_now s is made = subst (Accounted took name salt left left_now sink sink_now) (sym is) made
-
-pub never : Rose 0 0 → ⊥
-never rose = omega (arith, rose)
 
 -- a password line, where neither the source nor the sink fails
 pub ends_done : {K : Type 0} (took : K → Option (List ℕ)) (name salt password bytes : List ℕ) (left_now : Option (List ℕ)) (sink sink_now : K) (s : Status)

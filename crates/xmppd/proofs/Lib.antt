@@ -1,10 +1,5 @@
 pub mod Conjunctions
 pub mod Endings
-pub mod Feeds
 pub mod GrammarLemmas
 pub mod Passwords
-pub mod Plays
-pub mod StreamLemmas
-pub mod Takings
 pub mod TaskLemmas
-pub mod Valid

@@ -6,9 +6,9 @@ use Rattle.std.proofs.lemmas.Bool.{cond-false, eqb-true, ltb-true}
 use Rattle.std.proofs.lemmas.List.Folds.{list_all-append}
 use Rattle.jid_core.specs.Cuts.{before, after}
 use Rattle.xmppd.specs.Accounts.{is_printable, IsPassword, IsPasswordLine, IsRead, IsNoLine, ReadsAtMost}
-use Rattle.xmppd.specs.Readings.{Begins, Ends}
+use Rattle.script_play.specs.Readings.{Begins, Ends}
 use Rattle.xmppd.proofs.Conjunctions.{two-true, true-two}
-use Rattle.xmppd.proofs.Feeds.{NoFeed}
+use Rattle.script_play.proofs.Feeds.{NoFeed}
 
 -- LF is not printable
 no-feed : (b : ℕ) → is_printable b ≡ true → (b == 10) ≡ false

@@ -6,8 +6,8 @@ use Rattle.std.proofs.lemmas.Bool.{cond-false, cond-true}
 use Rattle.std.proofs.lemmas.Slice.Eq.{bytes_eq-Decides}
 use Rattle.account_book.specs.Fields.{on, salt_in}
 use Rattle.clap.specs.Words.{Row, fault_of, first_of, matches_of}
-use Rattle.xmppd.specs.declared.status.Status.{Status}
-use Rattle.xmppd.specs.declared.status.Status.TheVariants as status
+use Rattle.script_play.specs.declared.status.Status.{Status}
+use Rattle.script_play.specs.declared.status.Status.TheVariants as status
 use Rattle.xmppd.specs.Commands.{IsRefusal, Play, Make, account_task, is_positional, make_of, name_in, replay_task, task_of}
 use Rattle.xmppd.specs.Grammars.{Parses, account_grammar, bare, pair_in}
 use Rattle.xmppd.proofs.Conjunctions.{two-true, true-two}

@@ -3,10 +3,10 @@ use Rattle.std.specs.Prelude.{◌≡◌, ◌⊎◌, ℕ, ◌≤◌, nat_le, Bool
 use Rattle.std.specs.List.{list_all}
 use Rattle.account_book.specs.Entries.{line_text}
 use Rattle.account_book.specs.Keys.{entry_for}
-use Rattle.xmppd.specs.declared.status.Status.{Status}
-use Rattle.xmppd.specs.declared.status.Status.TheVariants as status
-use Rattle.xmppd.specs.Readings.{Begins, Ends}
-use Rattle.xmppd.specs.Runs.{Front}
+use Rattle.script_play.specs.declared.status.Status.{Status}
+use Rattle.script_play.specs.declared.status.Status.TheVariants as status
+use Rattle.script_play.specs.Readings.{Begins, Ends}
+use Rattle.script_play.specs.Runs.{Front}
 
 -- printable ASCII
 abbrev pub is_printable : ℕ → Bool

@@ -5,8 +5,8 @@ use Rattle.jid_core.specs.Preparation.{local_of}
 use Rattle.account_book.specs.Fields.{on, salt_in}
 use Rattle.xmppd.specs.declared.words.Command.{Command}
 use Rattle.xmppd.specs.declared.words.Command.TheVariants as command
-use Rattle.xmppd.specs.declared.status.Status.{Status}
-use Rattle.xmppd.specs.declared.status.Status.TheVariants as status
+use Rattle.script_play.specs.declared.status.Status.{Status}
+use Rattle.script_play.specs.declared.status.Status.TheVariants as status
 
 -- to play a script, or to make the account line of a name with a salt
 pub data Task : Type 0 where

@@ -2,8 +2,8 @@
 use Rattle.std.specs.Prelude.{◌≡◌, ◌≢◌, ℕ, true, List, [], ◌∷◌, Option, Some, None, Result, Ok, Err, ⊤, codes}
 use Rattle.clap.specs.Words.{App, Kinds, Rule, new_app, new_rule, with_rule}
 use Rattle.clap.specs.declared.builder.action.ArgAction.TheVariants.{Set}
-use Rattle.xmppd.specs.declared.status.Status.{Status}
-use Rattle.xmppd.specs.declared.status.Status.TheVariants as status
+use Rattle.script_play.specs.declared.status.Status.{Status}
+use Rattle.script_play.specs.declared.status.Status.TheVariants as status
 
 -- a command whose words come without its name, and that has neither help nor a version
 abbrev pub bare : List ℕ → App

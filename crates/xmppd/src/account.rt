@@ -3,11 +3,10 @@ ghost use Rattle.std.specs.Prelude.{◌≡◌, ◌≤◌, nat_lt, ◌&&◌, [], 
 ghost use Rattle.outside.specs.Devices.{Rose};
 ghost use Rattle.xmppd.specs.Accounts.{Accounted, GivesByte, IsPassword, IsRead, ReadsAtMost, Refuses, is_printable};
 
-use crate::output::write_all;
-use crate::status::Status;
 use account_book::make_line;
 use jid_core::Part;
 use outside::{Got, Sink, Source};
+use script_play::{Status, write_all};
 use std::alloc::Global;
 
 /// How many bytes a password may have.

@@ -2,10 +2,10 @@
 //! RFC 5802, section 5.
 
 use crate::run::run;
-use crate::status::Status;
 use account_book::Accounts;
 use outside::{MemSink, MemSource};
 use scram_core::{Found, Hello, Mechanism};
+use script_play::Status;
 use stanza_tree::Text;
 use std::alloc::Global;
 use std::process::Abort;

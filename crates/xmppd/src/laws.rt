@@ -1,13 +1,13 @@
 //! What follows from the contract of [`run`].
-ghost use Rattle.std.specs.Prelude.{◌≡◌, ◌⊎◌, ℕ, List, [], ◌∷◌, Option, Some, None, codes};
+ghost use Rattle.std.specs.Prelude.{◌≡◌, ◌⊎◌, ℕ, List, [], ◌∷◌, Some, None, codes};
 ghost use Rattle.xmppd.specs.Accounts.{Accounted, IsPasswordLine};
 ghost use Rattle.xmppd.specs.Commands.{Make, task_of};
-ghost use Rattle.xmppd.specs.Runs.{Replayed};
+ghost use Rattle.script_play.specs.Runs.{Replayed};
 ghost use Rattle.replay_script.specs.Valid.{IsValid};
 
 use crate::run::run;
-use crate::status::Status;
 use outside::{CleanSink, CleanSource};
+use script_play::Status;
 use stanza_tree::Text;
 use std::alloc::Global;
 
@@ -27,14 +27,6 @@ pub fn accounts_are_made<R>(
 {
     run(rt, alloc, words, source, sink)
 }
-
-/// The valid scripts are those that can be played: one whose play came to its end is valid, and one that was refused at a line is not.
-pub fn played_scripts_are_valid()
-    ensures done { (bytes : List ℕ) (left_now took took_now : Option (List ℕ))
-        → Replayed (Some bytes) left_now took took_now Status.Done → IsValid bytes }
-    ensures refused { (bytes : List ℕ) (left_now took took_now : Option (List ℕ)) (n : ℕ)
-        → Replayed (Some bytes) left_now took took_now (Status.Script n) → IsValid bytes → ⊥ }
-{}
 
 /// Over a source and a sink that never fail, `replay` plays a valid script to its end, but for want of memory.
 pub fn valid_scripts_are_played<R>(

@@ -5,29 +5,25 @@ mod account;
 #[cfg(test)]
 mod account_tests;
 mod laws;
-mod lines;
-mod output;
-mod place;
 #[cfg(test)]
 mod presence_tests;
-mod replay;
+#[cfg(test)]
+mod roster_tests;
 mod run;
 #[cfg(test)]
 mod session_tests;
 mod standard;
 #[cfg(test)]
 mod stanza_tests;
-mod status;
 #[cfg(test)]
 mod stream_tests;
-mod streams;
 #[cfg(test)]
 mod tests;
 mod words;
 
 use crate::run::run;
 use crate::standard::{ReaderSource, WriterSink};
-use crate::status::Status;
+use script_play::Status;
 use stanza_tree::Text;
 use std::process::ExitCode;
 use std::{env, io};

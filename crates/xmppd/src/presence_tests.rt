@@ -1,7 +1,7 @@
 //! Presence (RFC 6121, 4), as scripts.
 
-use crate::status::Status;
 use crate::tests::{Played, expect_play};
+use script_play::Status;
 use std::alloc::Global;
 use std::process::Abort;
 use std::test::Fail;
@@ -155,7 +155,12 @@ nothing due
     ),
 ];
 
-fn expect_story<R: Abort>(rt: &R, alloc: Global, story: &(&[u8], &[u8])) -> Result<(), Fail> {
+/// Plays a story after the sessions are bound, and expects what it prints.
+pub(crate) fn expect_story<R: Abort>(
+    rt: &R,
+    alloc: Global,
+    story: &(&[u8], &[u8]),
+) -> Result<(), Fail> {
     let mut script = Vec::from_slice(alloc, BEFORE)?;
     script.extend_from_slice(story.0)?;
     let mut printed = Vec::from_slice(alloc, PRINTED)?;

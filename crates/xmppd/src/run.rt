@@ -3,13 +3,13 @@ ghost use Rattle.std.specs.Prelude.{◌≡◌, ◌⊎◌, ℕ, List, [], ◌∷�
 ghost use Rattle.outside.specs.Devices.{Rose};
 ghost use Rattle.xmppd.specs.Accounts.{Accounted, ReadsAtMost};
 ghost use Rattle.xmppd.specs.Commands.{Make, task_of};
-ghost use Rattle.xmppd.specs.Runs.{Replayed};
+ghost use Rattle.script_play.specs.Runs.{Replayed};
 
 use crate::account::account;
-use crate::replay::replay;
-use crate::status::Status;
 use crate::words::{Command, read_words};
 use outside::{Sink, Source};
+use script_play::Status;
+use script_play::replay::replay;
 use stanza_tree::Text;
 use std::alloc::Global;
 

@@ -1,7 +1,7 @@
 //! Sessions that are resumed (XEP-0198), as scripts.
 
-use crate::status::Status;
 use crate::tests::{Played, expect_play};
+use script_play::Status;
 use std::alloc::Global;
 use std::process::Abort;
 use std::test::Fail;

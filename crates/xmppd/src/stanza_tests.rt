@@ -1,7 +1,7 @@
 //! What comes of stanzas (RFC 6120, 8 and 10; RFC 6121, 8.5), as scripts.
 
-use crate::status::Status;
 use crate::tests::{Played, expect_play};
+use script_play::Status;
 use std::alloc::Global;
 use std::process::Abort;
 use std::test::Fail;

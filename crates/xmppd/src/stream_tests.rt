@@ -1,7 +1,7 @@
 //! Bytes of a stream that lines of a script feed, and the items that are printed of them.
 
-use crate::status::Status;
 use crate::tests::{Played, expect_play};
+use script_play::Status;
 use std::alloc::Global;
 use std::process::Abort;
 use std::test::Fail;

@@ -2,8 +2,8 @@
 ghost use Rattle.std.specs.Prelude.{◌<◌};
 
 use crate::run::run;
-use crate::status::Status;
 use outside::{MemSink, MemSource};
+use script_play::Status;
 use stanza_tree::Text;
 use std::alloc::Global;
 use std::process::Abort;

@@ -6,12 +6,12 @@ ghost use Rattle.clap.specs.Words.{HasMatchesOf, app_of, fault_of, first_of, fou
 ghost use Rattle.xmppd.specs.Commands.{IsRefusal, Reads, account_task, is_positional, name_in, replay_task, task, task_of};
 ghost use Rattle.xmppd.specs.Grammars.{Parses, account_grammar, bare, pair_in, wanted};
 
-use crate::status::Status;
 use base64::DecodeAllocError;
 use base64::engine::general_purpose::STANDARD;
 use clap::error::ErrorKind;
 use clap::{Arg, ArgAction, ArgMatches};
 use jid_core::{JidFault, Part};
+use script_play::Status;
 use stanza_tree::{NoMemory, Text};
 use std::alloc::{AllocError, Global};
 

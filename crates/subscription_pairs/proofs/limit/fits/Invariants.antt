@@ -4,7 +4,7 @@ use Rattle.subscription_pairs.proofs.limit.fits.Given as goal
 
 abbrev pub invariant-loop-contact : goal.invariant-loop-contact
 invariant-loop-contact l = record {
-  few : length l.roster.contacts.items < 1000;
+  few : length l.contacts < 1000;
   left : l.left ≤ most_text;
-  counts : sum (map counted l.roster.contacts.items) + l.left ≡ most_text + sum (map counted (drop l.contact-index l.roster.contacts.items));
+  counts : sum (map counted l.contacts) + l.left ≡ most_text + sum (map counted (drop l.contact-index l.contacts));
 }

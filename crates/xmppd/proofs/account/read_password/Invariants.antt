@@ -1,7 +1,7 @@
 use Rattle.std.proofs.Common.{◌≡◌, ◌≤◌, length, true}
 use Rattle.std.specs.List.{list_all}
 use Rattle.xmppd.specs.Accounts.{is_printable}
-use Rattle.xmppd.specs.Readings.{Begins}
+use Rattle.script_play.specs.Readings.{Begins}
 use Rattle.xmppd.proofs.account.read_password.Given as goal
 
 abbrev pub invariant-loop-count : goal.invariant-loop-count

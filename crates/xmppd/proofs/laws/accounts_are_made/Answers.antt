@@ -1,6 +1,7 @@
 use Rattle.std.proofs.Common.{Some}
 use Rattle.std.specs.Prelude.{None}
-use Rattle.xmppd.proofs.Endings.{ends_done, never}
+use Rattle.script_play.proofs.Faults.{never}
+use Rattle.xmppd.proofs.Endings.{ends_done}
 use Rattle.xmppd.proofs.laws.accounts_are_made.Goals as goal
 
 pub returns-clause-ends : goal.returns-clause-ends

@@ -1,7 +1,7 @@
 use Rattle.std.proofs.Common.{Some}
 use Rattle.std.specs.Prelude.{None}
-use Rattle.xmppd.proofs.Endings.{never}
-use Rattle.xmppd.proofs.Valid.{ends_played}
+use Rattle.script_play.proofs.Faults.{never}
+use Rattle.script_play.proofs.Valid.{ends_played}
 use Rattle.xmppd.proofs.laws.valid_scripts_are_played.Goals as goal
 
 pub returns-clause-ends : goal.returns-clause-ends

@@ -1,7 +1,7 @@
 use Rattle.std.proofs.Common.{◌≡◌, ◌+◌, refl, subst, arith}
 use Rattle.house_model.specs.declared.event.Event.TheVariants.{Ask}
 use Rattle.house_model.specs.Histories.{kept_step}
-use Rattle.house_model.specs.Steps.{turn, verdict}
+use Rattle.house_model.specs.Steps.{turn}
 use Rattle.house_core.specs.Houses.{HouseRecord, held}
 use Rattle.house_core.proofs.CallLemmas.{house, state_ends, whole_ends}
 use Rattle.house_core.proofs.house.House.apply_ask.Goals as goal
@@ -10,7 +10,7 @@ pub invariant_of-self : goal.invariant_of-self
 invariant_of-self c =
     let h = c.self.inside in
     let k = turn (Ask c.args.w) (held (house h.domain h.users.items h.turns h.moment h.world)) in
-    whole_ends h.users.items h.turns h.moment h.moment 0 h.world c.ask.new.self (verdict k (Ask c.args.w)) c.ask.result
+    whole_ends h.domain h.users.items h.turns h.moment h.moment 0 h.world c.ask.new.self (Ask c.args.w) c.ask.result
     c.self.invariant (c.self.invariant.passed) (omega arith) (c.ask.ensures k refl refl)
 
 pub returns-clause-state : goal.returns-clause-state

@@ -6,7 +6,7 @@ use Rattle.house_model.specs.declared.event.Event.TheVariants.{Bind}
 use Rattle.house_model.specs.declared.reply.Reply.TheVariants.{Unready}
 use Rattle.house_model.specs.Gate.{gate}
 use Rattle.house_model.specs.Histories.{kept_step, passed}
-use Rattle.house_model.specs.Steps.{resource_or, turn, verdict}
+use Rattle.house_model.specs.Steps.{resource_or, turn}
 use Rattle.house_core.specs.declared.world.World as code
 use Rattle.house_core.specs.Houses.{HouseRecord, held}
 use Rattle.house_core.specs.Worlds.{Did, seen}
@@ -37,7 +37,7 @@ invariant_of-self-in_err-address-in-Knows c =
     let h = c.self.inside in
     let k = turn (Bind c.args.w c.args.id.now (option_copied c.args.resource) c.args.t c.args.dice) (held (house h.domain h.users.items h.turns h.moment h.world)) in
     let same = (c.in-Knows.ensures.passes k refl (sym c.later-moment.ensures)).1 in
-    whole_is h.users.items h.turns h.moment h.moment h.world c.check.new.self [] 0 c.self.invariant c.self.invariant.passed (omega arith)
+    whole_is h.users.items h.turns h.moment h.moment h.world c.check.new.self [] 0 c.self.invariant c.self.invariant.passed (omega arith) (λ world. refl)
     (same_did h.world c.check.new.self c.check.ensures.tied same)
 
 pub returns-in_err-address-in-Knows-clause-refused : goal.returns-in_err-address-in-Knows-clause-refused
@@ -63,7 +63,7 @@ invariant_of-self-in_default c =
     let k = turn e (held (house h.domain h.users.items h.turns h.moment h.world)) in
     let ends = other_ends k c.args.w c.args.t c.args.id.now (option_copied c.args.resource) c.args.dice c.check.result (gate k e) h.world c.check.new.self
     c.check.ensures.tied c.in_default.not-Stop c.in_default.not-Knows (c.check.ensures.passes k refl (sym c.later-moment.ensures)) in
-    whole_ends h.users.items h.turns h.moment now 0 h.world c.check.new.self (verdict k e) Unready c.self.invariant
+    whole_ends h.domain h.users.items h.turns h.moment now 0 h.world c.check.new.self e Unready c.self.invariant
     (later_passed h.moment c.args.t now c.self.invariant.passed c.later-moment.ensures) (omega arith) ends
 
 pub returns-in_default-clause-state : goal.returns-in_default-clause-state
@@ -93,7 +93,7 @@ invariant_of-self-in-Stop c =
     let now = c.later-moment.result in
     let k = turn e (held (house h.domain h.users.items h.turns h.moment h.world)) in
     let ends = stop_ends k e (gate k e) c.in-Stop.reply h.world c.check.new.self (c.in-Stop.ensures.passes k refl (sym c.later-moment.ensures)) in
-    whole_ends h.users.items h.turns h.moment now 0 h.world c.check.new.self (verdict k e) c.in-Stop.reply c.self.invariant
+    whole_ends h.domain h.users.items h.turns h.moment now 0 h.world c.check.new.self e c.in-Stop.reply c.self.invariant
     (later_passed h.moment c.args.t now c.self.invariant.passed c.later-moment.ensures) (omega arith) ends
 
 pub returns-in-Stop-clause-state : goal.returns-in-Stop-clause-state
@@ -120,7 +120,7 @@ invariant_of-self-in_err-reply-in-Knows c =
     let e = Bind c.args.w c.args.id.now (option_copied c.args.resource) c.args.t c.args.dice in
     let k = turn e (held (house h.domain h.users.items h.turns h.moment h.world)) in
     let same = (c.in-Knows.ensures.passes k refl (sym c.later-moment.ensures)).1 in
-    whole_is h.users.items h.turns h.moment h.moment h.world c.bind.new.self [] 0 c.self.invariant c.self.invariant.passed (omega arith)
+    whole_is h.users.items h.turns h.moment h.moment h.world c.bind.new.self [] 0 c.self.invariant c.self.invariant.passed (omega arith) (λ world. refl)
     (subst (λ (x : code.World). Did [] 0 x c.bind.new.self) same c.in_err-reply-in-Knows.ensures.refused)
 
 pub returns-in_err-reply-in-Knows-clause-refused : goal.returns-in_err-reply-in-Knows-clause-refused
@@ -150,7 +150,7 @@ invariant_of-self-in-Knows c =
     let ends = bind_ends k c.args.w c.args.t c.in-Knows.conn c.in-Knows.user c.args.id.now (option_copied c.args.resource) c.args.dice (gate k e) reply address
     h.world b d passes.0 passes.1 c.in-Knows.ensures.found.0 (c.in_ok-address-in-Knows.ensures ∙ place)
     (c.in_ok-reply-in-Knows.ensures.done k (ap seen (sym passes.1))) in
-    whole_ends h.users.items h.turns h.moment now 1 h.world d (verdict k e) reply c.self.invariant
+    whole_ends h.domain h.users.items h.turns h.moment now 1 h.world d e reply c.self.invariant
     (later_passed h.moment c.args.t now c.self.invariant.passed c.later-moment.ensures) (omega arith) ends
 
 pub returns-in_ok-reply-in-Knows-clause-state : goal.returns-in_ok-reply-in-Knows-clause-state

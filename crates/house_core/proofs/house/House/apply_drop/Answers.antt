@@ -1,8 +1,8 @@
-use Rattle.std.proofs.Common.{◌++◌, ◌∷◌, [], arith}
+use Rattle.std.proofs.Common.{◌++◌, ◌∷◌, [], refl, arith}
 use Rattle.session_table.specs.Tables.{line_of}
 use Rattle.house_model.specs.Effects.{At, Leave}
 use Rattle.house_core.specs.Worlds.{left_at, seen}
-use Rattle.house_core.proofs.CallLemmas.{whole_is, later_passed}
+use Rattle.house_core.proofs.CallLemmas.{later_passed, left_then, whole_is}
 use Rattle.house_core.proofs.house.House.apply_drop.Goals as goal
 
 pub invariant_of-self-in_default : goal.invariant_of-self-in_default
@@ -10,4 +10,5 @@ invariant_of-self-in_default c =
     let h = c.self.inside in
     let now = c.later-self-inside.result in
     whole_is h.users.items h.turns h.moment now h.world c.leave.new.self (left_at (seen h.world) now (line_of c.args.w h.world.table) ++ At c.args.w Leave ∷ []) 0
-    c.self.invariant (later_passed h.moment c.args.t now c.self.invariant.passed c.later-self-inside.ensures) (omega arith) c.leave.ensures
+    c.self.invariant (later_passed h.moment c.args.t now c.self.invariant.passed c.later-self-inside.ensures) (omega arith)
+    (left_then (seen h.world) now (line_of c.args.w h.world.table) (At c.args.w Leave) (λ world. refl)) c.leave.ensures

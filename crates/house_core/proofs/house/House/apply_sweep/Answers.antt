@@ -1,7 +1,7 @@
 use Rattle.std.proofs.Common.{◌≡◌, ◌+◌, [], refl, sym, subst, arith}
 use Rattle.house_model.specs.declared.event.Event.TheVariants.{Sweep}
 use Rattle.house_model.specs.Histories.{kept_step, passed}
-use Rattle.house_model.specs.Steps.{turn, verdict}
+use Rattle.house_model.specs.Steps.{turn}
 use Rattle.house_core.specs.Houses.{HouseRecord, held}
 use Rattle.house_core.proofs.BoundLemmas.{on_err, passed_is}
 use Rattle.house_core.proofs.CallLemmas.{house, later_passed, state_ends, whole_ends, whole_is}
@@ -10,7 +10,7 @@ use Rattle.house_core.proofs.house.House.apply_sweep.Goals as goal
 pub invariant_of-self-in_err-reply : goal.invariant_of-self-in_err-reply
 invariant_of-self-in_err-reply c =
     let h = c.self.inside in
-    whole_is h.users.items h.turns h.moment h.moment h.world c.sweep.new.self [] 0 c.self.invariant c.self.invariant.passed (omega arith)
+    whole_is h.users.items h.turns h.moment h.moment h.world c.sweep.new.self [] 0 c.self.invariant c.self.invariant.passed (omega arith) (λ world. refl)
     c.in_err-reply.ensures.refused
 
 pub returns-in_err-reply-clause-refused : goal.returns-in_err-reply-clause-refused
@@ -26,7 +26,7 @@ invariant_of-self-2 c =
     let e = Sweep c.args._w c.args.t in
     let now = c.later-moment.result in
     let k = turn e (held (house h.domain h.users.items h.turns h.moment h.world)) in
-    whole_ends h.users.items h.turns h.moment now 0 h.world c.sweep.new.self (verdict k e) c.in_ok-reply.reply
+    whole_ends h.domain h.users.items h.turns h.moment now 0 h.world c.sweep.new.self e c.in_ok-reply.reply
     c.self.invariant (later_passed h.moment c.args.t now c.self.invariant.passed c.later-moment.ensures) (omega arith)
     (c.in_ok-reply.ensures.done k c.args._w c.args.t refl (sym c.later-moment.ensures))
 

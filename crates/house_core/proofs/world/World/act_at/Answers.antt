@@ -1,15 +1,33 @@
-use Rattle.std.proofs.Common.{[], refl, sym, ap, subst, ◌∙◌}
+use Rattle.std.proofs.Common.{ℕ, List, [], refl, sym, ap, subst, ◌∙◌}
 use Rattle.jid_core.specs.Addresses.{Address}
 use Rattle.house_model.specs.declared.event.Event.TheVariants.{Act}
 use Rattle.house_model.specs.Gate.{gate}
 use Rattle.house_model.specs.Steps.{verdict}
+use Rattle.roster_laws.specs.Keeping.{AreKept}
 use Rattle.house_core.specs.declared.world.World as code
+use Rattle.house_core.specs.Keeping.{AreShortNames}
 use Rattle.house_core.specs.Worlds.{Did, seen}
 use Rattle.house_core.proofs.ActLemmas.{act_ends, scene_is, some_kept}
 use Rattle.house_core.proofs.BoundLemmas.{more_ends, on_err}
 use Rattle.house_core.proofs.DidLemmas.{did_none}
 use Rattle.house_core.proofs.EndsLemmas.{stop_ends}
 use Rattle.house_core.proofs.world.World.act_at.Goals as goal
+
+pub effects_of-requires-clause-domain : goal.effects_of-requires-clause-domain
+effects_of-requires-clause-domain c =
+    let same = (c.in-Holds.ensures.passes (some_kept (seen c.args.self.now) c.args.moment) refl refl).1 in
+    ap (λ (x : code.World). x.book.domain) same ∙ (c.requires.domain ∙ ap (λ (x : Address). x.domain) (sym c.domain.view_is))
+
+pub effects_of-requires-clause-names : goal.effects_of-requires-clause-names
+effects_of-requires-clause-names c =
+    let same = (c.in-Holds.ensures.passes (some_kept (seen c.args.self.now) c.args.moment) refl refl).1 in
+    subst (λ (x : code.World). AreShortNames x.book.book.asked) (sym same) c.requires.names
+
+pub effects_of-requires-clause-rosters : goal.effects_of-requires-clause-rosters
+effects_of-requires-clause-rosters c =
+    let same = (c.in-Holds.ensures.passes (some_kept (seen c.args.self.now) c.args.moment) refl refl).1 in
+    subst (λ (d : List ℕ). AreKept d c.check.new.self.book.book) (ap (λ (x : Address). x.domain) (sym c.domain.view_is))
+    (subst (λ (x : code.World). AreKept c.args.domain.now.domain x.book.book) (sym same) c.requires.rosters)
 
 pub returns-in_err-effects-in-Holds-clause-refused : goal.returns-in_err-effects-in-Holds-clause-refused
 returns-in_err-effects-in-Holds-clause-refused c =

@@ -3,7 +3,7 @@ use Rattle.std.proofs.lemmas.List.{nil_from_length}
 use Rattle.stanza_model.specs.declared.effect.Effect.{Effect}
 use Rattle.house_model.specs.Fitting.{AreSmall}
 use Rattle.house_model.specs.Steps.{effect_of}
-use Rattle.house_core.specs.Readiness.{AreOfSessions, AreReady}
+use Rattle.house_core.specs.Readiness.{AreNotable, AreReady}
 use Rattle.house_core.specs.Worlds.{Did}
 use Rattle.house_core.proofs.DidLemmas.{did_none}
 use Rattle.house_core.proofs.ReadyLemmas.{applied_first, ready_first, ready_rest}
@@ -16,6 +16,11 @@ apply-requires-clause-ready c =
     let t = c.loop-effect.self.table in
     ready_first c.in-Some.effect c.next.new.self.rest.items t
     (subst (λ (es : List Effect). AreReady es t) c.in-Some.ensures.steps.0 c.loop-effect.invariant.ready)
+
+pub apply-requires-clause-places : goal.apply-requires-clause-places
+apply-requires-clause-places c = λ user.
+    let all = subst (λ (es : List Effect). AreNotable es c.loop-effect.self.book) c.in-Some.ensures.steps.0 c.loop-effect.invariant.places user in
+    omega (arith, all)
 
 pub loop-effect-preserved : goal.loop-effect-preserved
 loop-effect-preserved c =
@@ -35,7 +40,10 @@ loop-effect-preserved c =
       ready = ready_rest e more before.table after.table
           (subst (λ (es : List Effect). AreReady es before.table) first was.ready) c.apply.ensures.room;
       short = (subst AreSmall first was.short).1;
-      sessions = (subst AreOfSessions first was.sessions).1;
+      places = λ user.
+          let all = subst (λ (es : List Effect). AreNotable es before.book) first was.places user in
+          let left = c.apply.ensures.places user in
+          omega (arith, all, left);
       stays = stays_then c.args.self.now before after was.stays c.apply.ensures.stays;
       all = λ b rest. was.all b
           (applied_first e more c.loop-effect.effect-iterator.rest.items before after b first did rest);

@@ -2,7 +2,7 @@ use Rattle.std.proofs.Common.{◌≡◌, ◌-◌, ◌^◌, length, map}
 use Rattle.house_model.specs.Fitting.{AreSmall}
 use Rattle.house_model.specs.Steps.{effect_of}
 use Rattle.house_core.specs.declared.world.World as code
-use Rattle.house_core.specs.Readiness.{AreOfSessions, AreReady}
+use Rattle.house_core.specs.Readiness.{AreNotable, AreReady}
 use Rattle.house_core.specs.Wholes.{IsFew, IsTied}
 use Rattle.house_core.specs.Worlds.{Did, Stays}
 use Rattle.house_core.proofs.world.World.apply_all.Given as goal
@@ -16,7 +16,7 @@ invariant-loop-effect l = record {
   small : IsFew (2 ^ 64 - 5001) l.self.table;
   ready : AreReady l.effect-iterator.rest.items l.self.table;
   short : AreSmall l.effect-iterator.rest.items;
-  sessions : AreOfSessions l.effect-iterator.rest.items;
+  places : AreNotable l.effect-iterator.rest.items l.self.book;
   stays : Stays l.fn.self l.self;
   all : (b : code.World) → Did (map effect_of l.effect-iterator.rest.items) 0 l.self b
       → Did (map effect_of l.fn.effects.items) 0 l.fn.self b;

@@ -2,8 +2,7 @@ use Rattle.std.proofs.Common.{List, sym, subst}
 use Rattle.stanza_model.specs.declared.effect.Effect.{Effect}
 use Rattle.house_model.specs.Fitting.{AreSmall}
 use Rattle.house_model.proofs.SmallLemmas.{stanza_small}
-use Rattle.house_core.proofs.ReadyLemmas.{scene_short, stanza_of_sessions}
-use Rattle.house_core.specs.Readiness.{AreOfSessions}
+use Rattle.house_core.proofs.ReadyLemmas.{scene_short}
 use Rattle.house_core.specs.Worlds.{seen}
 use Rattle.house_core.proofs.world.World.effects_of.Goals as goal
 
@@ -11,9 +10,4 @@ pub returns-clause-short : goal.returns-clause-short
 returns-clause-short c =
     subst (λ (es : List Effect). AreSmall es) (sym c.in_ok-effects.ensures)
     (stanza_small (record { domain = c.args.domain.now; users = c.args.users.now; world = seen c.args.self.now }) c.args.s c.args.stanza.now
-    c.requires.fits (scene_short c.args.self.now c.args.domain.now c.args.users.now c.requires.tied) c.know_to.ensures)
-
-pub returns-clause-sessions : goal.returns-clause-sessions
-returns-clause-sessions c =
-    subst (λ (es : List Effect). AreOfSessions es) (sym c.in_ok-effects.ensures)
-    (stanza_of_sessions (record { domain = c.args.domain.now; users = c.args.users.now; world = seen c.args.self.now }) c.args.s c.args.stanza.now)
+    c.requires.fits (scene_short c.args.self.now c.args.domain.now c.args.users.now c.requires.tied c.know_part.ensures c.requires.names c.requires.rosters) c.know_to.ensures)

@@ -1,0 +1,7 @@
+pub mod Faults
+pub mod Feeds
+pub mod Openings
+mod Plays
+mod StreamLemmas
+mod Takings
+pub mod Valid

@@ -1,7 +1,0 @@
-use Rattle.std.proofs.Common.{ap, ◌∙◌}
-use Rattle.xmppd.specs.Streams.{framers_of}
-use Rattle.xmppd.proofs.StreamLemmas.{place_more}
-use Rattle.xmppd.proofs.streams.Streams.reach.Goals as goal
-
-pub loop-self-preserved : goal.loop-self-preserved
-loop-self-preserved c = record { kept = ap framers_of c.in_ok-push.ensures.items ∙ (place_more c.loop-self.self.places.items ∙ c.loop-self.invariant.kept) }
