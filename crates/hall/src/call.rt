@@ -6,6 +6,7 @@ ghost use Rattle.house_core.specs.Houses.{HouseRecord, held};
 ghost use Rattle.hall.specs.Turns.{text_in};
 
 use crate::entry::HouseTurn;
+use crate::stirring::Stirring;
 use ghost_log::Tells;
 use house_core::House;
 use std::snapshot::Snapshot;
@@ -33,6 +34,29 @@ pub(crate) trait Call {
         ensures text { out.new.items ≡ out.old.items ++ text_in (turn self.now w house.old result).outcome }
         ensures capacity { vec_capacity out.old ≤ vec_capacity out.new }
         ensures line { line_of (turn self.now w house.old result).event ≡ w };
+}
+
+/// Makes a call, and notes the lines that it stirred.
+pub(crate) fn make_noted<C: Call>(
+    call: &C,
+    house: &mut House,
+    w: u32,
+    out: &mut Vec<u8>,
+    stirring: &Stirring,
+) -> C::Answer
+    requires fits { C.fits call.now }
+    requires room { vec_len out.old + C.room call.now ≤ vec_capacity out.old }
+    requires line { w < length house.old.table.lines }
+    requires turns { house.old.turns < 2 ^ 63 + 2 ^ 62 }
+    ensures history { (o : State) (h : List Turn) → StandsFor o h (held house.old)
+        → StandsFor o (h ++ C.turn call.now w house.old result ∷ []) (held house.new) }
+    ensures text { out.new.items ≡ out.old.items ++ text_in (C.turn call.now w house.old result).outcome }
+    ensures capacity { vec_capacity out.old ≤ vec_capacity out.new }
+    ensures line { line_of (C.turn call.now w house.old result).event ≡ w }
+{
+    let answer = call.make(house, w, out);
+    stirring.add(&house.take_stirred());
+    answer
 }
 
 /// A call that was made, with what it was made on.

@@ -200,6 +200,10 @@ pub trait Desk {
         ensures served { Served (line pass.old) (Event.Sweep (line pass.old) t) [] result (seen pass.old) (seen pass.new) }
         ensures mark { marked pass.new ≡ marked_by result (marked pass.old) };
 
+    /// A line that may have something to pull, because of an event of another line, and of which that was not told since. Nothing is promised
+    /// of it.
+    fn next_stirred(&self) -> Option<u32>;
+
     /// The desk's house was opened.
     ghost opens: { (desk : Self) → IsOpening (opening desk) };
 

@@ -8,8 +8,9 @@ ghost use Rattle.house_core.specs.Houses.{HouseRecord, held};
 ghost use Rattle.hall.specs.Turns.{text_in};
 ghost use Rattle.hall.specs.Stories.{line, root};
 
-use crate::call::{Call, Made};
+use crate::call::{Call, Made, make_noted};
 use crate::recorded::Recorded;
+use crate::stirring::Stirring;
 use ghost_log::GhostLog;
 use house_core::House;
 use jid_core::Jid;
@@ -36,6 +37,7 @@ pub enum HallFault {
 pub struct Hall {
     pub(crate) lock: Turnstile<Recorded>,
     domain: Jid,
+    stirring: Stirring,
     pub(crate) alloc: Global,
     ghost agreed: { passes_of lock ≡ (root_of root lock).workers },
     ghost named: { domain ≡ (root_of root lock).domain },
@@ -57,6 +59,7 @@ impl Hall {
         ensures fresh { IfOk result (λ r. All (λ p. (seen p ≡ []) × (refused p ≡ false)) r.1.items) }
     {
         let domain = house.domain().copy(alloc)?;
+        let stirring = Stirring::new(alloc)?;
         let value = Recorded {
             house,
             log: GhostLog::empty(),
@@ -65,6 +68,7 @@ impl Hall {
         let hall = Hall {
             lock,
             domain,
+            stirring,
             alloc,
         };
         Ok((hall, all))
@@ -75,6 +79,12 @@ impl Hall {
         ensures { result.now ≡ (opening_state self.now).head.domain }
     {
         &self.domain
+    }
+
+    /// A line that may have something to pull, because of an event of another line, and of which that was not told since. No turn is taken,
+    /// and nothing is promised of it.
+    pub fn next_stirred(&self) -> Option<u32> {
+        self.stirring.next()
     }
 
     // One turn, in which a call is made.
@@ -102,7 +112,7 @@ impl Hall {
         let Recorded { mut house, log } = value;
         let line = pass.number();
         let before = Snapshot::of(&house);
-        let answer = call.make(&mut house, line, out);
+        let answer = make_noted(call, &mut house, line, out, &self.stirring);
         let made = Made {
             call: Snapshot::of(call),
             line,
@@ -139,6 +149,7 @@ impl Hall {
         let Hall {
             lock,
             domain: _,
+            stirring: _,
             alloc: _,
         } = self;
         let Recorded { house, log: _ } = lock.close(passes);

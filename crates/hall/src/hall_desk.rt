@@ -58,6 +58,10 @@ impl Desk for Hall {
         pass.number()
     }
 
+    fn next_stirred(&self) -> Option<u32> {
+        Hall::next_stirred(self)
+    }
+
     #[tactic(auto, using(crate::proofs::DeskLaws::served, crate::proofs::DeskLaws::begins, crate::proofs::DeskLaws::marked))]
     fn open_line<W: Wait>(&self, rt: &W, pass: &mut Pass) -> Result<Reply, DeskFault> {
         unless_spent(Hall::open_line(self, rt, pass))

@@ -9,6 +9,7 @@ mod events;
 mod hall;
 mod hall_desk;
 mod recorded;
+mod stirring;
 #[cfg(test)]
 mod tests;
 

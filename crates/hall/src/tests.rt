@@ -1,5 +1,5 @@
 //! Threads at a hall, and a message between two passes.
-ghost use Rattle.std.specs.Prelude.{◌≡◌, ◌+◌, ◌<◌, ◌≤◌, vec_len, vec_capacity, All, IfOk};
+ghost use Rattle.std.specs.Prelude.{◌≡◌, ◌+◌, ◌<◌, ◌≤◌, vec_len, vec_capacity, All, IfOk, IfSome};
 ghost use Rattle.turn_lock.specs.Histories.{StartsWith};
 ghost use Rattle.turn_lock.specs.Passes.{seen};
 ghost use Rattle.house_model.specs.Histories.{IdFits, StanzaFits};
@@ -10,6 +10,7 @@ use super::*;
 use house_core::House;
 use house_model::{MessageForm, Reply, Stanza};
 use jid_core::{Jid, Part};
+use sm_resume::ResumeId;
 use stanza_tree::{Attr, Element, Name, Several, Text, length};
 use std::alloc::Global;
 use std::process::Abort;
@@ -267,5 +268,103 @@ fn what_one_pass_sends_another_takes(rt: HostRuntime) -> Result<(), Fail> {
     assert!(rt; sent);
     assert!(rt; out.as_slice() == MESSAGE);
     assert_eq!(rt; house.turns(), 9);
+    Ok(())
+}
+
+// The last two passes, which are taken out.
+fn last_two(hall: &Hall, passes: &mut Vec<Pass>) -> Option<(Pass, Pass)>
+    requires { All (CameFrom hall.now) passes.old.items }
+    ensures first { IfSome result (λ r. CameFrom hall.now r.0) }
+    ensures second { IfSome result (λ r. CameFrom hall.now r.1) }
+    ensures rest { All (CameFrom hall.now) passes.new.items }
+{
+    match (passes.pop(), passes.pop()) {
+        (Some(last), Some(before)) => Some((before, last)),
+        _ => None,
+    }
+}
+
+// A hall of four lines, and the passes of the first and of the last two.
+fn three_passes(alloc: Global) -> Result<(Hall, Pass, Pass, Pass), Fail>
+    ensures first { IfOk result (λ r. CameFrom r.0 r.1) }
+    ensures third { IfOk result (λ r. CameFrom r.0 r.2) }
+    ensures fourth { IfOk result (λ r. CameFrom r.0 r.3) }
+{
+    let (hall, mut passes) = hall_of(alloc, 4)?;
+    let Some((third, fourth)) = last_two(&hall, &mut passes) else {
+        return Err(Fail::new("the last passes"));
+    };
+    let Some((first, _second)) = last_two(&hall, &mut passes) else {
+        return Err(Fail::new("the first passes"));
+    };
+    Ok((hall, first, third, fourth))
+}
+
+// The lines that were stirred since this was last asked, at most two of them.
+fn stirred(hall: &Hall) -> (Option<u32>, Option<u32>) {
+    (hall.next_stirred(), hall.next_stirred())
+}
+
+// So many stanzas are sent. Whether each was acted on.
+fn send<W: Wait>(rt: &W, hall: &Hall, pass: &mut Pass, stanza: &Stanza, times: u32) -> bool
+    requires pass { CameFrom hall.now pass.old }
+    requires fits { StanzaFits stanza.now }
+    ensures { CameFrom hall.now pass.new }
+{
+    let mut done = true;
+    for _number in 0..times {
+        done = done && hall.act(rt, pass, stanza, 0) == Ok(Reply::Done);
+    }
+    done
+}
+
+// The client of a user asks for a session at another line. Whether it goes on there.
+fn go_on<W: Wait>(rt: &W, hall: &Hall, pass: &mut Pass, user: &Part, id: &ResumeId) -> bool
+    requires pass { CameFrom hall.now pass.old }
+    ensures { CameFrom hall.now pass.new }
+{
+    let opened = hall.open_line(rt, pass);
+    let logged = hall.login(rt, pass, user);
+    let resumed = hall.resume(rt, pass, Some(id), 0, 0);
+    opened.is_ok() && logged == Ok(Reply::Done) && resumed == Ok(Reply::Resumed)
+}
+
+// Alice at line 0 sends Bob at line 3 something; Bob goes on at line 2, which is over once more waits for him than may.
+fn stir<W: Wait>(
+    rt: &W,
+    alloc: Global,
+    hall: &Hall,
+    alice: &mut Pass,
+    third: &mut Pass,
+    bob: &mut Pass,
+) -> Result<bool, Fail>
+    requires alice { CameFrom hall.now alice.old }
+    requires third { CameFrom hall.now third.old }
+    requires bob { CameFrom hall.now bob.old }
+{
+    let desk = guest_of(alloc, b"alice", b"desk")?;
+    let home = guest_of(alloc, b"bob", b"home")?;
+    let id = id_of(alloc)?;
+    let stanza = stanza_of(alloc)?;
+    let came = come(rt, hall, alice, &desk.user, Some(&desk.resource), &id)
+        && come(rt, hall, bob, &home.user, Some(&home.resource), &id);
+    let counted = hall.enable(rt, bob, true, [7; 16]) == Ok(Reply::Done);
+    let first = stirred(hall) == (None, None);
+    let sent = send(rt, hall, alice, &stanza, 1) && stirred(hall) == (Some(3), None);
+    let session = ResumeId {
+        session: 2,
+        digits: [7; 16],
+    };
+    let moved = go_on(rt, hall, third, &home.user, &session) && stirred(hall) == (Some(3), None);
+    let full = send(rt, hall, alice, &stanza, 4999) && stirred(hall) == (Some(2), None);
+    let over = send(rt, hall, alice, &stanza, 1) && stirred(hall) == (Some(2), None);
+    Ok(came && counted && first && sent && moved && full && over)
+}
+
+#[test]
+fn a_turn_stirs_the_line_that_it_gives_something(rt: HostRuntime) -> Result<(), Fail> {
+    let alloc = rt.alloc();
+    let (hall, mut alice, mut third, mut bob) = three_passes(alloc)?;
+    assert!(rt; stir(&rt, alloc, &hall, &mut alice, &mut third, &mut bob)?);
     Ok(())
 }

@@ -12,7 +12,8 @@ use Rattle.house_model.proofs.PutLemmas.{put_is}
 use Rattle.house_core.specs.declared.world.World as code
 use Rattle.house_core.specs.Houses.{traffic_of, rest_of, session_by, sessions_of, lines_of}
 use Rattle.house_core.specs.Wholes.{IsHeldBy, IsTied}
-use Rattle.house_core.specs.Worlds.{seen, Did}
+use Rattle.house_core.specs.declared.stirring.Stirred.{Stirred}
+use Rattle.house_core.specs.Worlds.{seen, Did, Stays}
 use Rattle.house_core.proofs.ReadLemmas.{held_is, seen_with}
 use Rattle.house_core.proofs.WorldLemmas.{few_later, moved_same}
 use Rattle.house_core.proofs.OffLemmas.{there}
@@ -80,3 +81,19 @@ tell_did a w s tied held =
       answered = refl;
       kept = book_same;
     }
+
+-- Which lines may have something to pull is seen by nothing.
+
+pub did_beside : (es : List Effect) (n : ℕ) (a b : code.World) (x : Stirred) → Did es n a b → Did es n a (record b { stirred = x })
+did_beside es n a b x did = record {
+  world = did.world;
+  tied = did.tied;
+  known = did.known;
+  few = did.few;
+  lines = did.lines;
+  answered = did.answered;
+  kept = did.kept;
+}
+
+pub stays_beside : (a b : code.World) (x : Stirred) → Stays a b → Stays a (record b { stirred = x })
+stays_beside a b x stays = record { logged = stays.logged; there = stays.there; over = stays.over; spare = stays.spare }

@@ -29,6 +29,7 @@ use Rattle.house_core.specs.declared.world.World as code
 use Rattle.house_core.specs.Houses.{hold_by, traffic_of, rest_of, session_by, sessions_of, lines_of}
 use Rattle.house_core.specs.Wholes.{IsSession, IsFreeLine, IsTied, IsFew, AreUsers}
 use Rattle.house_core.specs.Worlds.{Did, rewound_to}
+use Rattle.house_core.proofs.DidLemmas.{did_beside}
 use Rattle.house_core.proofs.BeginLemmas.{logged_free, logged_unbound}
 use Rattle.house_core.proofs.DeedLemmas.{all_drop}
 use Rattle.house_core.proofs.LeavingLemmas.{free_holds, two_held}
@@ -289,9 +290,10 @@ module _ (a : code.World) (w s h n : ℕ) (x : SessionRecord) (tied : IsTied a.t
   pub resume_away_did : (b : TableRecord) (conn : ℕ) → b ≡ t2 → conn ≡ c → x.holder ≡ None → (q : code.World) → q.answers ≡ a.answers → q.book ≡ a.book
       → Did (On s (Resume w conn h) ∷ []) 0 a (record q { table = b })
   resume_away_did b conn is conn' none q same kept =
-      subst (λ z. Did (On s (Resume w conn h) ∷ []) 0 a (record { table = b; answers = q.answers; book = z })) (sym kept)
-      (subst (λ vs. Did (On s (Resume w conn h) ∷ []) 0 a (record a { table = b; answers = vs })) (sym same)
-      (subst (λ (m : ℕ). Did (On s (Resume w m h) ∷ []) 0 a (record a { table = b })) (sym conn') (away_did b is none)))
+      subst (λ z. Did (On s (Resume w conn h) ∷ []) 0 a (record q { table = b; answers = q.answers; book = z })) (sym kept)
+      (subst (λ vs. Did (On s (Resume w conn h) ∷ []) 0 a (record a { table = b; answers = vs; stirred = q.stirred })) (sym same)
+      (did_beside (On s (Resume w conn h) ∷ []) 0 a (record a { table = b }) q.stirred
+      (subst (λ (m : ℕ). Did (On s (Resume w m h) ∷ []) 0 a (record a { table = b })) (sym conn') (away_did b is none))))
 
   -- another line held it
   module _ (v : ℕ) (holds : x.holder ≡ Some v) where
@@ -383,10 +385,11 @@ module _ (a : code.World) (w s h n : ℕ) (x : SessionRecord) (tied : IsTied a.t
         → (q : code.World) → q.answers ≡ a.answers → q.book ≡ a.book
         → Did (On s (Resume w conn h) ∷ []) 0 a (record q { table = b; answers = with_item q.answers v now })
     resume_moved_did b e now conn was' conn' is empty q same' kept =
-        subst (λ z. Did (On s (Resume w conn h) ∷ []) 0 a (record { table = b; answers = with_item q.answers v now; book = z })) (sym kept)
-        (subst (λ vs. Did (On s (Resume w conn h) ∷ []) 0 a (record a { table = b; answers = with_item vs v now })) (sym same')
+        subst (λ z. Did (On s (Resume w conn h) ∷ []) 0 a (record q { table = b; answers = with_item q.answers v now; book = z })) (sym kept)
+        (subst (λ vs. Did (On s (Resume w conn h) ∷ []) 0 a (record a { table = b; answers = with_item vs v now; stirred = q.stirred })) (sym same')
+        (did_beside (On s (Resume w conn h) ∷ []) 0 a (record a { table = b; answers = with_item a.answers v now }) q.stirred
         (subst (λ (m : ℕ). Did (On s (Resume w m h) ∷ []) 0 a (record a { table = b; answers = with_item a.answers v now })) (sym conn')
-        (moved_did b e now conn was' conn' is empty)))
+        (moved_did b e now conn was' conn' is empty))))
 
 pub live_now : (s : ℕ) (t : TableRecord) (x : SessionRecord) → session_of s t ≡ Some x → IsLive s t → x.state ≡ life.Live
 live_now s t x at live = (let is : IsSomeAnd (Some x) (λ y. y.state ≡ life.Live) = subst (λ (o : Option SessionRecord). IsSomeAnd o (λ y. y.state ≡ life.Live)) at live in is)

@@ -8,6 +8,7 @@ ghost use Rattle.house_model.specs.Histories.{StandsFor, Turn, openings};
 ghost use Rattle.house_core.specs.Houses.{held};
 
 use crate::answers::Answers;
+use crate::stirring::Stirred;
 use crate::world::World;
 use contact_table::Book;
 use jid_core::{Jid, Part};
@@ -58,6 +59,7 @@ impl House {
                 table: Table::new(alloc, workers)?,
                 answers: no_answers(alloc, workers)?,
                 book,
+                stirred: Stirred::none(),
             },
         })
     }
@@ -83,6 +85,14 @@ impl House {
         ensures { result ≡ length self.now.table.lines }
     {
         self.world.answers.len()
+    }
+
+    /// The lines that may have something to pull since this was last asked, because of an event of another line: an entry was queued for
+    /// the session there, or the connection is over. Nothing is promised of it.
+    pub fn take_stirred(&mut self) -> Stirred
+        ensures { self.new ≡ self.old }
+    {
+        self.world.stirred.take()
     }
 
     /// The domain that the house serves.

@@ -27,7 +27,9 @@ mod reserving;
 mod resuming;
 mod rosters;
 mod routing;
+mod stirring;
 mod submit;
 mod world;
 
 pub use house::House;
+pub use stirring::Stirred;

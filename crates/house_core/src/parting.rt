@@ -67,7 +67,10 @@ impl World {
             return;
         };
         match session.holder() {
-            Some(w) => self.end_held(w, s, cause),
+            Some(w) => {
+                self.end_held(w, s, cause);
+                self.stirred.note(Some(w));
+            }
             None => self.table.mark_over(s, cause),
         }
     }
@@ -123,7 +126,9 @@ impl World {
             return;
         };
         if session.queue.can_take(&entry) {
+            let line = session.holder();
             self.queue(s, entry);
+            self.stirred.note(line);
             return;
         }
         let kept = session.given_up;
@@ -175,6 +180,7 @@ impl World {
         if let Some(v) = old {
             self.table.line_over(v, Cause::Moved(conn));
             self.answers[v as usize].clear();
+            self.stirred.note(Some(v));
         }
         count
     }

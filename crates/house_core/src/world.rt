@@ -8,6 +8,7 @@ ghost use Rattle.house_core.specs.Wholes.{AreUsers, IsFew, IsTied};
 ghost use Rattle.house_core.specs.Worlds.{Did, seen};
 
 use crate::answers::Answers;
+use crate::stirring::Stirred;
 use contact_table::Book;
 use house_model::Answer;
 use session_table::Table;
@@ -19,6 +20,8 @@ pub(crate) struct World {
     pub(crate) answers: Vec<Answers>,
     /// What is kept of users.
     pub(crate) book: Book,
+    /// Lines that may have something to pull.
+    pub(crate) stirred: Stirred,
 }
 
 impl World {

@@ -10,6 +10,7 @@
 
 pub mod laws;
 mod lock;
+mod parking;
 pub mod rule;
 mod story;
 #[cfg(test)]

@@ -2,6 +2,7 @@
 ghost use Rattle.std.specs.Prelude.{◌≡◌, ◌<◌, ◌≤◌, ◌+◌, ◌^◌, ◌∷◌, ◌++◌, [], length, vec_len, map};
 ghost use Rattle.std.specs.Prelude.{IfOk, IfErr, IfSome, None, false, true, All, Contains};
 
+use crate::parking::ParkingLot;
 use crate::rule::{
     CopySeen, DealNumber, Draw, Look, OneHistory, PassOn, Peek, TakeIn, Terms, View,
 };
@@ -9,9 +10,9 @@ use crate::story::Storied;
 use crate::tokens::{NoMemory, Pass, Spent, Turn};
 use atomic_table::{Seat, Table};
 use std::alloc::{AllocError, Global};
+use std::hint::spin_loop;
 use std::snapshot::Snapshot;
 use std::sync::Wait;
-use std::thread;
 
 // The word that has the next ticket.
 const NEXT_TICKET: usize = 0;
@@ -26,11 +27,17 @@ const VALUE_SLOT: usize = 0;
 // word: the passes that looked before may still draw, and they are fewer than 2^32.
 const MOST_TURNS: u64 = 1 << 63;
 
+// A pass for which at most so many turns come first looks again at once, so many times; then it sleeps.
+const FEW_TURNS: u64 = 2;
+
+const MOST_LOOKS: u32 = 1000;
+
 /// A value under a lock that gives it out for one turn at a time.
 #[derive(Drop)]
 pub struct Turnstile<T: Storied> {
     table: Table<Option<T>, View<T::Entry, T::Root>, Terms<T>, OneHistory<T>, Global>,
     passes: u32,
+    lot: ParkingLot,
     ghost sized: { (table.shared.table_id.words ≡ 2) × (table.shared.table_id.slots ≡ 1) },
     ghost agreed: { table.shared.key.passes ≡ passes },
     ghost some: { 0 < passes },
@@ -44,8 +51,8 @@ impl<T: Storied> Turnstile<T> {
     /// Waits for a turn and takes the value out. `Spent` comes exactly where this call finds that
     /// 2^63 turns were drawn, and the pass then has the mark.
     ///
-    /// While it waits it yields. Nothing bounds the wait, and it lasts for ever where a turn before it
-    /// is never left.
+    /// A pass looks again and again while few turns come first, and else sleeps until its turn is near.
+    /// Nothing bounds the wait, and it lasts for ever where a turn before it is never left.
     pub fn enter<W: Wait>(&self, rt: &W, pass: &mut Pass<T>) -> Result<Turn<T>, Spent>
         requires idle { IsIdle T.line T.root self.now pass.old }
         ensures number { number_of pass.new ≡ number_of pass.old }
@@ -99,9 +106,11 @@ impl<T: Storied> Turnstile<T> {
             .shared
             .exchange(&mut pass.seat, VALUE_SLOT, Some(value));
         let None = slot else { unreachable!() };
-        self.table
+        let served = self
+            .table
             .shared
             .fetch_add::<PassOn<T>>(&mut pass.seat, SERVED_TURN, 1);
+        self.lot.unpark(served.saturating_add(1));
     }
 
     /// Lets `into` know what `from` has seen. No turn is taken, and what `into` has then seen is the
@@ -169,16 +178,29 @@ impl<T: Storied> Turnstile<T> {
         ensures refused { refused pass.new ≡ refused pass.old }
         ensures few { length (seen pass.new) < 2 ^ 63 + 2 ^ 32 }
     {
+        let mut looks: u32 = 0;
+        let mut wakes = None;
         for _ in rt.forever() {
-            if self
+            let served = self
                 .table
                 .shared
-                .load::<Look<T>>(&mut pass.seat, SERVED_TURN)
-                == ticket
-            {
+                .load::<Look<T>>(&mut pass.seat, SERVED_TURN);
+            if served == ticket {
+                if wakes.is_some() {
+                    self.lot.depart(ticket);
+                }
                 return;
             }
-            thread::yield_now();
+            // Each sleep follows a look that came after the pass arrived, so that no wake is missed.
+            wakes = match wakes {
+                Some(wakes) => Some(self.lot.park(rt, ticket, wakes)),
+                None if looks < MOST_LOOKS && ticket.saturating_sub(served) <= FEW_TURNS => {
+                    looks = looks.saturating_add(1);
+                    spin_loop();
+                    None
+                }
+                None => Some(self.lot.arrive(ticket)),
+            };
         }
         unreachable!()
     }
@@ -223,7 +245,8 @@ impl<T: Storied + Drop> Turnstile<T> {
             let seat = table.shared.split_seat::<DealNumber>(&mut dealer);
             all.push(Pass { seat, number })?;
         }
-        Ok((Turnstile { table, passes }, all))
+        let lot = ParkingLot::new(alloc)?;
+        Ok((Turnstile { table, passes, lot }, all))
     }
 
     /// Ends the lock, with all its passes, and gives the value back.
@@ -267,7 +290,11 @@ impl<T: Storied + Drop> Turnstile<T> {
         ensures sound { Sound T.line (T.story result) seat.me.0 }
         ensures lines { Each (λ e. times (T.line e) seat.me.0.claims ≡ 1) (T.story result) }
     {
-        let Turnstile { table, passes: _ } = self;
+        let Turnstile {
+            table,
+            passes: _,
+            lot: _,
+        } = self;
         let mut closed = table.close_with(seat);
         let value = closed.take(VALUE_SLOT);
         closed.free();

@@ -8,8 +8,8 @@ use Rattle.hall.proofs.TurnLaws.{took}
 use Rattle.hall.proofs.hall.Hall.turn.Goals as goal
 use Rattle.std.specs.Prelude.{length}
 
-pub make-answer-requires-clause-turns : goal.make-answer-requires-clause-turns
-make-answer-requires-clause-turns g c =
+pub make_noted-answer-requires-clause-turns : goal.make_noted-answer-requires-clause-turns
+make_noted-answer-requires-clause-turns g c =
     let recorded = c.in_ok-value.field-0.value in
     let turns = turns-known _ _ _ recorded.stands in
     let counted = ap (λ (h : List Turn). length h) c.in_ok-value.ensures.story in
@@ -18,8 +18,8 @@ make-answer-requires-clause-turns g c =
 pub invariant_of-value : goal.invariant_of-value
 invariant_of-value g c =
     let recorded = c.in_ok-value.field-0.value in
-    let stands = stands-on _ _ _ _ _ recorded.stands c.make-answer.ensures.history in
-    let turn = g.C.Call.turn c.args.call.now c.number-line.result recorded.house c.make-answer.result in
+    let stands = stands-on _ _ _ _ _ recorded.stands c.make_noted-answer.ensures.history in
+    let turn = g.C.Call.turn c.args.call.now c.number-line.result recorded.house c.make_noted-answer.result in
     let shown : c.with-log.result.entries ≡ recorded.log.entries ++ turn ∷ [] = c.with-log.ensures
     ∙ (λ i. recorded.log.entries ++ g.C.Call.turn (c.of.ensures i) c.number-line.result (c.of-before.ensures i) (c.of-2.ensures i) ∷ []) in
     let same = same-opening _ _ _ _ _ recorded.stands stands in
@@ -28,14 +28,14 @@ invariant_of-value g c =
 pub leave-requires-clause-root : goal.leave-requires-clause-root
 leave-requires-clause-root g c =
     let recorded = c.in_ok-value.field-0.value in
-    let stands = stands-on _ _ _ _ _ recorded.stands c.make-answer.ensures.history in
+    let stands = stands-on _ _ _ _ _ recorded.stands c.make_noted-answer.ensures.history in
     sym (same-opening _ _ _ _ _ recorded.stands stands) ∙ c.in_ok-value.ensures.root
 
 pub returns-clause-pass : goal.returns-clause-pass
 returns-clause-pass g c =
     let recorded = c.in_ok-value.field-0.value in
-    let stands = stands-on _ _ _ _ _ recorded.stands c.make-answer.ensures.history in
-    let turn = g.C.Call.turn c.args.call.now c.number-line.result recorded.house c.make-answer.result in
+    let stands = stands-on _ _ _ _ _ recorded.stands c.make_noted-answer.ensures.history in
+    let turn = g.C.Call.turn c.args.call.now c.number-line.result recorded.house c.make_noted-answer.result in
     let shown : c.with-log.result.entries ≡ recorded.log.entries ++ turn ∷ [] = c.with-log.ensures
     ∙ (λ i. recorded.log.entries ++ g.C.Call.turn (c.of.ensures i) c.number-line.result (c.of-before.ensures i) (c.of-2.ensures i) ∷ []) in
     let seen' : seen c.leave.new.pass ≡ recorded.log.entries ++ turn ∷ [] = c.leave.ensures.history ∙ shown in (
@@ -48,14 +48,14 @@ pub returns-clause-took : goal.returns-clause-took
 returns-clause-took g c =
     let recorded = c.in_ok-value.field-0.value in
     let number : c.number-line.result ≡ number_of c.args.pass.now = c.number-line.ensures ∙ c.in_ok-value.ensures.number in
-    let turn = g.C.Call.turn c.args.call.now (number_of c.args.pass.now) recorded.house c.make-answer.result in
+    let turn = g.C.Call.turn c.args.call.now (number_of c.args.pass.now) recorded.house c.make_noted-answer.result in
     let shown : c.with-log.result.entries ≡ seen c.enter.new.pass ++ turn ∷ [] = c.with-log.ensures ∙ (λ i. c.in_ok-value.ensures.story i
     ++ g.C.Call.turn (c.of.ensures i) (number i) (c.of-before.ensures i) (c.of-2.ensures i) ∷ []) in
     let seen' : seen c.leave.new.pass ≡ seen c.enter.new.pass ++ turn ∷ [] = c.leave.ensures.history ∙ shown in
     let entered = c.in_ok-value.ensures in (
       recorded.house,
-      c.make-answer.ensures.text
-          ∙ (λ i. c.args.out.now.items ++ text_in (g.C.Call.turn c.args.call.now (number i) recorded.house c.make-answer.result).outcome),
+      c.make_noted-answer.ensures.text
+          ∙ (λ i. c.args.out.now.items ++ text_in (g.C.Call.turn c.args.call.now (number i) recorded.house c.make_noted-answer.result).outcome),
       took turn c.args.pass.now c.enter.new.pass c.leave.new.pass entered.number entered.history entered.mine entered.unmarked
           entered.known entered.given c.leave.ensures.number seen' c.leave.ensures.mine c.leave.ensures.refused
           c.leave.ensures.drawn (search rules),

@@ -1,6 +1,7 @@
 use Rattle.std.proofs.Common.{sym, ap, subst, ◌∙◌}
 use Rattle.std.specs.Option.{option_copied}
 use Rattle.house_core.specs.Wholes.{HasSpare}
+use Rattle.house_core.proofs.DidLemmas.{stays_beside}
 use Rattle.house_core.proofs.PartLemmas.{end_away_did}
 use Rattle.session_table.specs.Tables.{TableRecord}
 use Rattle.house_core.proofs.ReadyLemmas.{spare_ended}
@@ -32,5 +33,6 @@ returns-in-None-clause-stays c =
 pub returns-in-Some-holder-clause-stays : goal.returns-in-Some-holder-clause-stays
 returns-in-Some-holder-clause-stays c =
     let there = sym c.session.ensures.session ∙ ap option_copied c.in-Some.is in
-    stays_ended c.args.self.now c.end_held.new.self c.args.s c.in-Some.session.now c.args.cause c.requires.tied there
-    c.end_held.ensures.did c.end_held.ensures.room
+    stays_beside c.args.self.now c.end_held.new.self c.note.new.self
+    (stays_ended c.args.self.now c.end_held.new.self c.args.s c.in-Some.session.now c.args.cause c.requires.tied there
+    c.end_held.ensures.did c.end_held.ensures.room)

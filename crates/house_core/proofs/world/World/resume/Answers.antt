@@ -1,8 +1,11 @@
-use Rattle.std.proofs.Common.{◌≡◌, length, sym, ap, subst, ◌∙◌, arith}
+use Rattle.std.proofs.Common.{◌≡◌, [], ◌∷◌, length, sym, ap, subst, ◌∙◌, arith}
 use Rattle.std.specs.Option.{option_copied}
 use Rattle.std.proofs.lemmas.List.{length-set}
 use Rattle.session_table.specs.declared.line.Line.TheVariants.{Bound}
 use Rattle.session_table.specs.Tables.{IsLive, TableRecord, attached, conn_of, line_of}
+use Rattle.house_model.specs.Effects.{On}
+use Rattle.house_model.specs.Sessions.{Resume}
+use Rattle.house_core.proofs.DidLemmas.{did_beside}
 use Rattle.house_core.proofs.ResumeLemmas.{live_now, live_then, moved_holds, moved_low, resume_away_did, resume_moved_did}
 use Rattle.house_core.proofs.world.World.resume.Goals as goal
 
@@ -55,11 +58,12 @@ returns-in-Some-old-clause-did c =
     let x = c.in-Some.session.now in
     let there = sym c.session.ensures.session ∙ ap option_copied c.in-Some.is in
     let handled = c.requires.handled x there in
-    resume_moved_did c.args.self.now c.args.w c.args.s c.args.h c.args.n x c.requires.tied c.requires.line c.requires.answered there
+    did_beside (On c.args.s (Resume c.args.w c.args.conn c.args.h) ∷ []) 0 c.args.self.now _ c.note.new.self
+    (resume_moved_did c.args.self.now c.args.w c.args.s c.args.h c.args.n x c.requires.tied c.requires.line c.requires.answered there
     (live_now c.args.s c.args.self.now.table x there c.requires.live) (c.requires.counts x there) c.requires.logged handled.0 handled.1
     c.in-Some-old.v (sym c.holder-old.ensures ∙ c.in-Some-old.is) c.line_over.new.self c.attach.new.self c.clear.new.self c.args.conn
     (c.attach.ensures ∙ ap (attached c.args.s c.args.w) c.rewind.ensures.table) c.requires.conn c.line_over.ensures c.clear.ensures
-    c.rewind.new.self c.rewind.ensures.answers c.rewind.ensures.book
+    c.rewind.new.self c.rewind.ensures.answers c.rewind.ensures.book)
 
 pub returns-in_default-old-clause-did : goal.returns-in_default-old-clause-did
 returns-in_default-old-clause-did c =

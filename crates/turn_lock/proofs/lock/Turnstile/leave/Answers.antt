@@ -6,8 +6,8 @@ use Rattle.turn_lock.proofs.Keeps.{passes_on}
 use Rattle.turn_lock.proofs.Stands.{stands_from, passed}
 use Rattle.turn_lock.proofs.lock.Turnstile.leave.Goals as goal
 
-pub fetch_add-requires : goal.fetch_add-requires
-fetch_add-requires g c =
+pub fetch_add-served-requires : goal.fetch_add-served-requires
+fetch_add-served-requires g c =
     let works = c.requires.turn.1.1 in
     let put = c.exchange-slot.ensures.3 in
     let entry = c.requires.one in
@@ -28,35 +28,35 @@ fetch_add-requires g c =
 pub returns-clause-idle : goal.returns-clause-idle
 returns-clause-idle g c =
     let told = passed _ g.T.Storied.line _ c.args.pass.now.number g.T.Storied.story _ _ _ _ _ c.requires.turn.1.1
-    c.exchange-slot.ensures.3 c.fetch_add.ensures.2 in
+    c.exchange-slot.ensures.3 c.fetch_add-served.ensures.2 in
     (search rules, stands_from _ g.T.Storied.line _ c.args.pass.now.number _ _ _ _ _ _ _ told.0 told.1)
 
 pub returns-clause-history : goal.returns-clause-history
 returns-clause-history g c =
     let told = passed _ g.T.Storied.line _ c.args.pass.now.number g.T.Storied.story _ _ _ _ _ c.requires.turn.1.1
-    c.exchange-slot.ensures.3 c.fetch_add.ensures.2 in
+    c.exchange-slot.ensures.3 c.fetch_add-served.ensures.2 in
     ap (λ m. m.0.seen) told.0
 
 pub returns-clause-told : goal.returns-clause-told
 returns-clause-told g c =
     let told = passed _ g.T.Storied.line _ c.args.pass.now.number g.T.Storied.story _ _ _ _ _ c.requires.turn.1.1
-    c.exchange-slot.ensures.3 c.fetch_add.ensures.2 in
+    c.exchange-slot.ensures.3 c.fetch_add-served.ensures.2 in
     (c.args.turn.value, sym (ap (λ m. m.0.seen) told.0), c.requires.root)
 
 pub returns-clause-mine : goal.returns-clause-mine
 returns-clause-mine g c =
     let told = passed _ g.T.Storied.line _ c.args.pass.now.number g.T.Storied.story _ _ _ _ _ c.requires.turn.1.1
-    c.exchange-slot.ensures.3 c.fetch_add.ensures.2 in
+    c.exchange-slot.ensures.3 c.fetch_add-served.ensures.2 in
     ap (λ m. places g.T.Storied.line c.args.pass.now.number 0 m.0.seen) told.0 ∙ told.1
 
 pub returns-clause-drawn : goal.returns-clause-drawn
 returns-clause-drawn g c =
     let told = passed _ g.T.Storied.line _ c.args.pass.now.number g.T.Storied.story _ _ _ _ _ c.requires.turn.1.1
-    c.exchange-slot.ensures.3 c.fetch_add.ensures.2 in
+    c.exchange-slot.ensures.3 c.fetch_add-served.ensures.2 in
     ap (λ m. m.0.drawn) told.0
 
 pub returns-clause-refused : goal.returns-clause-refused
 returns-clause-refused g c =
     let told = passed _ g.T.Storied.line _ c.args.pass.now.number g.T.Storied.story _ _ _ _ _ c.requires.turn.1.1
-    c.exchange-slot.ensures.3 c.fetch_add.ensures.2 in
+    c.exchange-slot.ensures.3 c.fetch_add-served.ensures.2 in
     ap (λ m. m.0.refused) told.0
