@@ -1,0 +1,2 @@
+mod Afters
+mod Replies

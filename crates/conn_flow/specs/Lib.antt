@@ -1,0 +1,5 @@
+pub mod Streams
+pub mod Moves
+pub mod Duties
+pub mod Following
+pub mod Flows
