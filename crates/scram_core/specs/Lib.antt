@@ -7,3 +7,4 @@ pub mod Attributes
 pub mod Parts
 pub mod Login
 pub mod Exchange
+pub mod Verifiers

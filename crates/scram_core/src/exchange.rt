@@ -1,19 +1,16 @@
 //! An exchange: the server's first text, and its answer to the client's last (RFC 5802, section 5).
 
 ghost use Rattle.std.specs.Prelude.{◌≡◌, ◌++◌, codes, IfOk, OnOk, IfErr, IsTrue, IsOkUnless};
-ghost use Rattle.scram_core.specs.Attributes.{header_of, bare_of};
-ghost use Rattle.scram_core.specs.Login.{base64_of, is_server_nonce, IsServerFirst, server_first, server_final, auth_message};
-ghost use Rattle.scram_core.specs.Exchange.{challenge_of, IsKnown, account_of, salt_of, rounds_of, ProvesTo, IsSuccess, IsLastFault, IsOfExchange};
-ghost use Rattle.sha1.specs.Sha1.{sha1};
-ghost use Rattle.sha2.specs.Sha256.{sha256};
+ghost use Rattle.scram_core.specs.Attributes.{header_of, bare_of, nonce_of_first};
+ghost use Rattle.scram_core.specs.Login.{is_server_nonce, IsServerFirst, server_first, auth_message};
+ghost use Rattle.scram_core.specs.Exchange.{challenge_of, account_of, salt_of, rounds_of, ProvesTo, IsSuccess, IsLastFault, IsOfExchange};
 
 use crate::attributes::{before_last, cut_at_comma, from_place, value_of_first};
 use crate::place::place_of;
-use crate::proof::{Account, is_proof};
 use crate::stage::Message;
+use crate::verifier::Verifier;
 use crate::{Found, Hello, Mechanism, NoMemory, ScramFault};
 use base64::engine::general_purpose::STANDARD;
-use hmac_kdf::{hmac_sha1, hmac_sha256};
 use std::alloc::{AllocError, Global};
 use std::marker::Model;
 
@@ -68,23 +65,27 @@ impl Success {
 #[derive(Drop)]
 pub struct Scram {
     hello: Hello,
-    /// The server's part of the nonce.
+    /// The server's part of the nonce, which with the salt and the rounds makes its first text.
     own: Vec<u8>,
     salt: Vec<u8>,
     rounds: u32,
-    account: Account,
+    verifier: Verifier,
+    /// The server's first text.
+    server: Vec<u8>,
 }
 
 impl Model for Scram {
-    ghost use Rattle.std.specs.Prelude.{IsTrue};
-    ghost use Rattle.scram_core.specs.Login.{is_server_nonce};
+    ghost use Rattle.std.specs.Prelude.{◌≡◌, ◌++◌, IsTrue};
+    ghost use Rattle.scram_core.specs.Attributes.{nonce_of_first};
+    ghost use Rattle.scram_core.specs.Login.{is_server_nonce, server_first};
     ghost use Rattle.scram_core.specs.Exchange.{Exchange};
 
     ghost Value = { Exchange };
 
-    ghost view = { λ s. record { first = s.hello; own = s.own.items; salt = s.salt.items; rounds = s.rounds; account = s.account } };
+    ghost view = { λ s. record { first = s.hello; own = s.own.items; salt = s.salt.items; rounds = s.rounds; account = s.verifier } };
 
-    ghost invariant = { λ s. IsTrue (is_server_nonce s.own.items) };
+    ghost invariant = { λ s. IsTrue (is_server_nonce s.own.items)
+        × (s.server.items ≡ server_first (nonce_of_first s.hello ++ s.own.items) s.salt.items s.rounds) };
 }
 
 impl Hello {
@@ -107,14 +108,20 @@ impl Hello {
         }) }
         ensures text { IfOk result (λ made. made.1 ≡ challenge_of made.0) }
     {
+        let own = server_nonce.to_vec(alloc)?;
+        let salt = salt_found(alloc, found)?;
+        let rounds = rounds_found(found);
+        let server = server_text(alloc, self.text(), own.as_slice(), salt.as_slice(), rounds)?;
+        let text = server.as_slice().to_vec(alloc)?;
+        let verifier = Verifier::of(mechanism, found);
         let scram = Scram {
             hello: self,
-            own: server_nonce.to_vec(alloc)?,
-            salt: salt_found(alloc, found)?,
-            rounds: rounds_found(found),
-            account: account_found(mechanism, found),
+            own,
+            salt,
+            rounds,
+            verifier,
+            server,
         };
-        let text = scram.challenge_text(alloc)?;
         Ok((scram, Challenge { text }))
     }
 }
@@ -132,37 +139,27 @@ impl Scram {
         ensures proven { ProvesTo self.account self.first (challenge_of self) bytes.now → IsOkUnless result ScramFault.NoMemory }
         ensures refused { IfErr result (IsLastFault self bytes.now) }
     {
-        let server = self.challenge_text(alloc)?;
-        self.check(alloc, server.as_slice(), bytes)?;
+        self.check(alloc, bytes)?;
         let without_proof = before_last(bytes);
         let value = from_place(bytes, without_proof.len() + 3);
-        let message = message_of(alloc, self.hello.text(), server.as_slice(), without_proof)?;
-        if !is_proof(alloc, &self.account, message.as_slice(), value)? {
+        let message = message_of(alloc, self.hello.text(), self.server(), without_proof)?;
+        if !self.verifier.is_proof(alloc, message.as_slice(), value)? {
             return Err(ScramFault::ProofDiffers);
         }
-        let text = final_text(alloc, &self.account, message.as_slice())?;
+        let text = self.verifier.final_text(alloc, message.as_slice())?;
         Ok(Success { text })
     }
 
     // The server-first-message.
-    fn challenge_text(&self, alloc: Global) -> Result<Vec<u8>, AllocError>
-        ensures text { IfOk result (λ text. text.items ≡ challenge_of self.now) }
-        ensures form { OnOk result (IsServerFirst self.now.first (challenge_of self.now)) }
+    fn server(&self) -> &[u8]
+        ensures text { result.now ≡ challenge_of self.now }
+        ensures form { IsServerFirst self.now.first (challenge_of self.now) }
     {
-        let (_, bare) = cut_at_comma(cut_at_comma(self.hello.text()).1);
-        let mut text = Vec::from_slice(alloc, b"r=")?;
-        text.extend_from_slice(value_of_first(cut_at_comma(bare).1))?;
-        text.extend_from_slice(self.own.as_slice())?;
-        text.extend_from_slice(b",s=")?;
-        text.extend_from_slice(STANDARD.encode(alloc, self.salt.as_slice())?.as_bytes())?;
-        text.extend_from_slice(b",i=")?;
-        text.extend_from_slice(format!(in alloc; "{}", self.rounds)?.as_bytes())?;
-        Ok(text)
+        self.server.as_slice()
     }
 
     // Whether the last text is one of the grammar, and has the binding and the nonce of the other two.
-    fn check(&self, alloc: Global, server: &[u8], last: &[u8]) -> Result<(), ScramFault>
-        requires { server.now ≡ challenge_of self.now }
+    fn check(&self, alloc: Global, last: &[u8]) -> Result<(), ScramFault>
         ensures ok { OnOk result (IsOfExchange self.now last.now) }
         ensures refused { IfErr result (IsLastFault self.now last.now) }
     {
@@ -174,7 +171,7 @@ impl Scram {
         if from_place(binding, 2) != STANDARD.encode(alloc, header.as_slice())?.as_bytes() {
             return Err(ScramFault::BindingDiffers);
         }
-        if value_of_first(rest) != value_of_first(server) {
+        if value_of_first(rest) != value_of_first(self.server()) {
             return Err(ScramFault::NonceDiffers);
         }
         Ok(())
@@ -199,20 +196,25 @@ fn rounds_found(found: Found) -> u32
     }
 }
 
-fn account_found(mechanism: Mechanism, found: Found) -> Account
-    ensures { result ≡ account_of mechanism found.entry }
+// The server-first-message that answers a first text.
+fn server_text(
+    alloc: Global,
+    first: &[u8],
+    own: &[u8],
+    salt: &[u8],
+    rounds: u32,
+) -> Result<Vec<u8>, AllocError>
+    ensures { IfOk result (λ text. text.items ≡ server_first (nonce_of_first first.now ++ own.now) salt.now rounds) }
 {
-    match (found, mechanism) {
-        (Found::Unknown(_), _) => Account::Unknown,
-        (Found::Known(keys), Mechanism::Sha1) => Account::Sha1 {
-            stored: keys.stored1,
-            server: keys.server1,
-        },
-        (Found::Known(keys), Mechanism::Sha256) => Account::Sha256 {
-            stored: keys.stored256,
-            server: keys.server256,
-        },
-    }
+    let (_, bare) = cut_at_comma(cut_at_comma(first).1);
+    let mut text = Vec::from_slice(alloc, b"r=")?;
+    text.extend_from_slice(value_of_first(cut_at_comma(bare).1))?;
+    text.extend_from_slice(own)?;
+    text.extend_from_slice(b",s=")?;
+    text.extend_from_slice(STANDARD.encode(alloc, salt)?.as_bytes())?;
+    text.extend_from_slice(b",i=")?;
+    text.extend_from_slice(format!(in alloc; "{rounds}")?.as_bytes())?;
+    Ok(text)
 }
 
 // The opening of a first text.
@@ -244,25 +246,4 @@ fn message_of(
     message.push(b',')?;
     message.extend_from_slice(without_proof)?;
     Ok(message)
-}
-
-// The server-final-message.
-fn final_text(alloc: Global, account: &Account, message: &[u8]) -> Result<Vec<u8>, AllocError>
-    requires { IsKnown account.now }
-    ensures { IfOk result (λ text. IsSuccess account.now message.now text.items) }
-{
-    match account {
-        Account::Sha1 { server, .. } => signature_text(alloc, &hmac_sha1(server, message)),
-        Account::Sha256 { server, .. } => signature_text(alloc, &hmac_sha256(server, message)),
-        Account::Unknown => unreachable!(),
-    }
-}
-
-// A signature in base64, with its `v=`.
-fn signature_text(alloc: Global, signature: &[u8]) -> Result<Vec<u8>, AllocError>
-    ensures { IfOk result (λ text. text.items ≡ codes "v=" ++ base64_of signature.now) }
-{
-    let mut text = Vec::from_slice(alloc, b"v=")?;
-    text.extend_from_slice(STANDARD.encode(alloc, signature)?.as_bytes())?;
-    Ok(text)
 }

@@ -15,6 +15,7 @@ mod stage;
 mod step;
 #[cfg(test)]
 mod tests;
+mod verifier;
 
 pub use exchange::{Challenge, Scram, Success};
 pub use hello::Hello;

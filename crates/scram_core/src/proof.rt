@@ -1,12 +1,11 @@
-//! The proof of a client and the signature of the server (RFC 5802, section 3).
+//! The proof of a client (RFC 5802, section 3).
 
-ghost use Rattle.std.specs.Prelude.{◌≡◌, ◌++◌, length, codes, IfOk, MatchOption};
+ghost use Rattle.std.specs.Prelude.{◌≡◌, length, bytes_eq, IfOk, MatchOption};
 ghost use Rattle.std.specs.Bool.{MatchBool};
 ghost use Rattle.sha1.specs.Sha1.{sha1};
 ghost use Rattle.sha2.specs.Sha256.{sha256};
 ghost use Rattle.hmac_kdf.specs.Hi.{exclusive_or};
-ghost use Rattle.scram_core.specs.Login.{base64_of, IsProof, IsProofText, IsDecoded, IsNoBase64};
-ghost use Rattle.scram_core.specs.Exchange.{ProofTextTo};
+ghost use Rattle.scram_core.specs.Login.{IsProof, IsProofText, IsDecoded, IsNoBase64};
 
 use base64::DecodeAllocError;
 use base64::engine::general_purpose::STANDARD;
@@ -15,8 +14,7 @@ use sha1::Sha1;
 use sha2::{Digest, Sha256};
 use std::alloc::{AllocError, Global};
 
-/// The keys of the account of an exchange, under its mechanism.
-#[derive(Clone, Copy)]
+/// The account of an exchange as contracts see it: its keys under the mechanism.
 pub enum Account {
     Sha1 { stored: [u8; 20], server: [u8; 20] },
     Sha256 { stored: [u8; 32], server: [u8; 32] },
@@ -24,24 +22,8 @@ pub enum Account {
     Unknown,
 }
 
-/// Whether the value of `p=` is a proof by the account.
-pub fn is_proof(
-    alloc: Global,
-    account: &Account,
-    message: &[u8],
-    value: &[u8],
-) -> Result<bool, AllocError>
-    ensures { IfOk result (λ yes. MatchBool yes (ProofTextTo account.now message.now value.now)
-        (ProofTextTo account.now message.now value.now → ⊥)) }
-{
-    match account {
-        Account::Sha1 { stored, .. } => is_proof_sha1(alloc, stored, message, value),
-        Account::Sha256 { stored, .. } => is_proof_sha256(alloc, stored, message, value),
-        Account::Unknown => Ok(false),
-    }
-}
-
-fn is_proof_sha1(
+/// Whether the value of `p=` is a proof by a key, over SHA-1.
+pub fn is_proof_sha1(
     alloc: Global,
     stored: &[u8; 20],
     message: &[u8],
@@ -56,7 +38,8 @@ fn is_proof_sha1(
     }
 }
 
-fn is_proof_sha256(
+/// The same over SHA-256.
+pub fn is_proof_sha256(
     alloc: Global,
     stored: &[u8; 32],
     message: &[u8],
@@ -80,7 +63,7 @@ fn proves_sha1(stored: &[u8; 20], message: &[u8], proof: &[u8]) -> bool
         return false;
     }
     xor_into(proof, &mut key);
-    Sha1::digest(&key) == *stored
+    is_same(&Sha1::digest(&key), stored)
 }
 
 fn proves_sha256(stored: &[u8; 32], message: &[u8], proof: &[u8]) -> bool
@@ -92,7 +75,7 @@ fn proves_sha256(stored: &[u8; 32], message: &[u8], proof: &[u8]) -> bool
         return false;
     }
     xor_into(proof, &mut key);
-    Sha256::digest(&key) == *stored
+    is_same(&Sha256::digest(&key), stored)
 }
 
 // XORs a string into another of the same length.
@@ -103,6 +86,18 @@ fn xor_into(string: &[u8], sum: &mut [u8])
     for i in 0..sum.len() {
         sum[i] = string[i] ^ sum[i];
     }
+}
+
+// Whether two digests are the same. It looks at every byte, whatever it finds.
+fn is_same(one: &[u8], other: &[u8]) -> bool
+    requires { length one.now ≡ length other.now }
+    ensures { result ≡ bytes_eq one.now other.now }
+{
+    let mut differing = 0;
+    for i in 0..one.len() {
+        differing |= one[i] ^ other[i];
+    }
+    differing == 0
 }
 
 // The bytes that a value stands for; None where it is not base64.
