@@ -1,0 +1,14 @@
+pub mod Bytes
+pub mod Fitting
+pub mod Places
+pub mod Reading
+pub mod Handling
+pub mod Awaiting
+pub mod Saying
+pub mod Answering
+pub mod Submitting
+pub mod Drawing
+pub mod Ending
+pub mod ItemEnds
+pub mod DueEnds
+pub mod Causing
