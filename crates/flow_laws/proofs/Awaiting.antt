@@ -13,8 +13,7 @@ use Rattle.conn_asks.specs.declared.stage.Purpose.TheVariants.{Challenge, Bind, 
 use Rattle.conn_flow.specs.declared.phase.Phase.{Phase}
 use Rattle.conn_flow.specs.declared.phase.Phase.TheVariants.{Resting, Heard, Saying, Refusing, Drawing, Drawn, Entering, Entered, LoggingIn, LoggedIn, PullingOnce, Pulling, Sweeping, Parting, Left}
 use Rattle.conn_flow.specs.declared.talk.Talk.{Talk}
-use Rattle.conn_flow.specs.Flows.{IsLoaded, IsThere, Prepares, State, Takes, ToAwait, ToDraw, ToFinish, ToSay, ToSubmit, Wish, asked_by, counted, drawn_if, event_wish, last_text, login_wish, parting_wish, wish, wish_of}
-use Rattle.flow_laws.specs.Standing.{IsToldAll}
+use Rattle.conn_flow.specs.Flows.{IsLoaded, IsThere, Prepares, State, Takes, ToAwait, ToDraw, ToFinish, ToSay, ToSubmit, Wish, asked_by, counted, drawn_if, event_wish, last_text, login_wish, parting_wish, wish, wish_of, IsToldAll}
 
 no_say : {text : List ℕ} → ToSay text ≡ ToAwait → ⊥
 no_say w = cc

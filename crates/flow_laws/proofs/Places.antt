@@ -17,8 +17,8 @@ use Rattle.conn_flow.specs.declared.talk.Talk.{Talk}
 use Rattle.conn_flow.specs.Streams.{limits}
 use Rattle.conn_flow.specs.Duties.{Site, Due, PullsOnce, Duty, end_due, error_due}
 use Rattle.conn_flow.specs.Following.{rest_due}
-use Rattle.conn_flow.specs.Flows.{IsLoaded, handled_phase}
-use Rattle.flow_laws.specs.Standing.{Place, IsAllHeard, IsDone, IsFit, IsFitFor, IsReadAt, IsServed, IsTimed, IsToldAll, duty_at, is_some_byte, known}
+use Rattle.conn_flow.specs.Flows.{IsLoaded, handled_phase, IsToldAll}
+use Rattle.flow_laws.specs.Standing.{Place, IsAllHeard, IsDone, IsFit, IsFitFor, IsReadAt, IsServed, IsTimed, duty_at, is_some_byte, known}
 
 -- the site that a flow knows
 abbrev pub site : Talk → Book → Site

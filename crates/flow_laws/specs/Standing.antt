@@ -12,7 +12,7 @@ use Rattle.conn_flow.specs.declared.talk.Talk.{Talk}
 use Rattle.conn_flow.specs.Streams.{limits}
 use Rattle.conn_flow.specs.Duties.{Site, Due, Rest, Text, Dice, Submits, LogsIn, PullsOnce, Pulls, Sweeps, Leaves, Duty, after_failure, drew, end_due, followed}
 use Rattle.conn_flow.specs.Following.{rest_due}
-use Rattle.conn_flow.specs.Flows.{State, IsLoaded}
+use Rattle.conn_flow.specs.Flows.{State, IsLoaded, IsToldAll}
 
 -- a flow, the bytes of the present stream that were handled, those that it heard since, those that were read and are still to be heard, and
 -- what is still to be sent of what was said
@@ -137,12 +137,6 @@ IsFit line None = Unit {0}
 abbrev pub IsFitFor : Option Purpose → Type 0
 IsFitFor (Some (Bind id resource)) = IdFits id
 IsFitFor purpose = Unit {0}
-
--- no event was handed over that has no reply yet
-abbrev pub IsToldAll : Phase → Type 0
-IsToldAll (Entered pulls) = ⊥
-IsToldAll LoggedIn = ⊥
-IsToldAll phase = Unit {0}
 
 -- a flow that is served at a site
 pub record IsServed (o : Site) (p : Place) : Type 0 where
