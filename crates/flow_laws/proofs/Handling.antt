@@ -162,7 +162,7 @@ item_handled accounts f s stream front ahead s' None e h talk_is fed_is =
         ),
         refl,
       );
-      silent = record { marks_none = refl; turns_none = refl; moments_none = refl; draws_none = refl };
+      silent = record { marks_none = refl; turns_none = refl; moments_none = refl; draws_none = refl; takes = tt };
       served = served o to (stands o (place f s Heard stream front ahead []) h)
           (record { told = tt; loaded = tt; read = heard_done f.reading stream front ahead h.read (none_goes f.reading e); all = empty });
     }
@@ -202,7 +202,7 @@ item_handled accounts f s stream front ahead s' (Some i) e h (a, asks, talk_is) 
         ),
         refl,
       );
-      silent = record { marks_none = refl; turns_none = refl; moments_none = refl; draws_none = refl };
+      silent = record { marks_none = refl; turns_none = refl; moments_none = refl; draws_none = refl; takes = tt };
       served = served o to (asked_stands o f t ahead a fits (stands o (place f s Heard stream front ahead []) h))
           (asked_suits t f.reading stream front ahead a h.read on);
     }
@@ -228,7 +228,7 @@ drawn_handled accounts f s stream front ahead s' (Some (Challenge m first)) dice
       ahead_is = refl;
       owes_none = refl;
       through = refl;
-      silent = record { marks_none = refl; turns_none = refl; moments_none = refl; draws_none = refl };
+      silent = record { marks_none = refl; turns_none = refl; moments_none = refl; draws_none = refl; takes = tt };
       served = served o to
           (with_purpose o f (record s { purpose = Some (Challenge m first) }) ahead None tt (stands o p h))
           (record { told = tt; loaded = tt; read = h.read; all = tt });
@@ -247,7 +247,7 @@ drawn_handled accounts f s stream front ahead s' (Some (Bind id resource)) dice 
       ahead_is = refl;
       owes_none = refl;
       through = refl;
-      silent = record { marks_none = refl; turns_none = refl; moments_none = refl; draws_none = refl };
+      silent = record { marks_none = refl; turns_none = refl; moments_none = refl; draws_none = refl; takes = tt };
       served = served o to
           (with_event o f (record s { purpose = None }) ahead (drawn_if accounts t dice (Some (Bind id resource))).event (h.purpose_fits, refl)
           (with_purpose o f (record s { purpose = Some (Bind id resource) }) ahead None tt (stands o p h)))
@@ -267,7 +267,7 @@ drawn_handled accounts f s stream front ahead s' (Some (Enable resume)) dice h t
       ahead_is = refl;
       owes_none = refl;
       through = refl;
-      silent = record { marks_none = refl; turns_none = refl; moments_none = refl; draws_none = refl };
+      silent = record { marks_none = refl; turns_none = refl; moments_none = refl; draws_none = refl; takes = tt };
       served = served o to
           (with_event o f (record s { purpose = None }) ahead (drawn_if accounts t dice (Some (Enable resume))).event (tt, refl)
           (with_purpose o f (record s { purpose = Some (Enable resume) }) ahead None tt (stands o p h)))
@@ -284,7 +284,7 @@ stays_put o p s' h owes is = record {
   ahead_is = refl;
   owes_none = owes;
   through = refl;
-  silent = record { marks_none = refl; turns_none = refl; moments_none = refl; draws_none = refl };
+  silent = record { marks_none = refl; turns_none = refl; moments_none = refl; draws_none = refl; takes = tt };
   served = h;
 }
 

@@ -1,7 +1,7 @@
 -- Where the calls of a flow bring it.
-use Rattle.std.specs.Prelude.{◌≡◌, ℕ, List, [], take, drop, Bool, if◌then◌else◌}
+use Rattle.std.specs.Prelude.{◌≡◌, ℕ, List, [], ◌∷◌, take, drop, Bool, if◌then◌else◌}
 use Rattle.house_model.specs.declared.reply.Reply.{Reply}
-use Rattle.conn_flow.specs.Moves.{Move, marks, turns, moments, draws}
+use Rattle.conn_flow.specs.Moves.{Move, Takes, marks, turns, moments, draws}
 use Rattle.conn_flow.specs.Duties.{Site}
 use Rattle.conn_flow.specs.Following.{GoesThrough}
 use Rattle.conn_flow.specs.Flows.{State, fresh, hears, restarts, short_at, taken_of, told, gave_at, hung_at, waited, wished}
@@ -50,12 +50,19 @@ shorts_at p =
 abbrev pub gives_at : Place → List ℕ → Place
 gives_at p dice = record p { flow = record p.flow { talk = gave_at p.flow.talk dice } }
 
+-- each of these handles an item
+abbrev pub AreTakes : List Move → Type 0
+AreTakes [] = Unit {0}
+AreTakes (Takes ∷ more) = AreTakes more
+AreTakes (m ∷ more) = ⊥
+
 -- moves of which nobody tells
 pub record IsSilent (moves : List Move) : Type 0 where
   pub marks_none : marks moves ≡ []
   pub turns_none : turns moves ≡ []
   pub moments_none : moments moves ≡ []
   pub draws_none : draws moves ≡ []
+  pub takes : AreTakes moves
 
 -- from one place to another by moves of which nobody tells
 pub record Comes (o : Site) (p : Place) (s : State) : Type 0 where
