@@ -13,8 +13,8 @@ use Rattle.conn_asks.specs.declared.stage.Purpose.{Purpose}
 use Rattle.conn_asks.specs.declared.stage.Purpose.TheVariants.{Challenge, Bind, Enable}
 use Rattle.conn_flow.specs.Moves.{Move, Hears, Waits, Hangs, Fails, Takes, Says, Sends, Enters, Draws, Stops}
 use Rattle.conn_flow.specs.Duties.{Site, Due, Opens, Rest, Text, Id, Dice, Submits, LogsIn, PullsOnce, Pulls, Sweeps, Leaves, Left, Duty, answered, answered_login, counts_failure, drew, ends, pulled, pulled_once, swept}
-use Rattle.conn_flow.specs.Following.{DrawsDue, EntersDue, GoesOn, GoesThrough, SaysDue, Stopped, reply_of}
-use Rattle.flow_laws.specs.Causes.{Makes}
+use Rattle.conn_flow.specs.Following.{DrawsDue, EntersDue, GoesOn, GoesThrough, SaysDue, Stopped, opening, reply_of}
+use Rattle.flow_laws.specs.Causes.{IsCaused, IsForced, Makes, MakesNone}
 use Rattle.flow_laws.proofs.DueEnds.{IsDue, IsThirdTo, end_only, failed_due, only, only_left, takes_now}
 
 -- A reply.
@@ -247,3 +247,38 @@ caused o v (m ∷ ms) w x (mid, goes, more) d =
         makes = c.makes;
       })
     ]
+
+-- the move of a whole connection
+pub has_cause : (o : Site) (opened : ℕ) (moves : List Move) (last : Duty) (x : Ended) → GoesThrough o (opening o opened) moves last → last.due ≡ Left x ∷ []
+    → IsCaused o opened moves x
+has_cause o opened moves last x through left =
+    elim (caused o (opening o opened) moves last x through (subst (λ (due : List Due). IsDue x due) (sym left) (inl refl))) [
+      | inl none ↦ absurd none
+      | inr c ↦ record {
+        before = c.before;
+        move = c.move;
+        after = c.after;
+        split = c.split;
+        from = c.from;
+        to = c.to;
+        came = c.came;
+        goes = c.goes;
+        makes = c.makes;
+      }
+    ]
+
+-- where nothing else makes it
+pub closes : (o : Site) (opened : ℕ) (moves : List Move) (x : Ended) → IsCaused o opened moves x → ((y : Ended) → IsForced y → MakesNone o opened moves y)
+    → (x ≡ ended.Closed) ⊎ (x ≡ ended.NoMemory)
+closes o opened moves ended.Closed c none = inl refl
+closes o opened moves ended.NoMemory c none = inr refl
+closes o opened moves ended.Hung c none = absurd (none ended.Hung tt c.before c.move c.after c.from c.to c.split c.came c.goes c.makes)
+closes o opened moves ended.LinkFault c none = absurd (none ended.LinkFault tt c.before c.move c.after c.from c.to c.split c.came c.goes c.makes)
+closes o opened moves ended.DiceFault c none = absurd (none ended.DiceFault tt c.before c.move c.after c.from c.to c.split c.came c.goes c.makes)
+closes o opened moves (ended.Broken f k) c none = absurd (none (ended.Broken f k) tt c.before c.move c.after c.from c.to c.split c.came c.goes c.makes)
+closes o opened moves (ended.BadHeader f) c none = absurd (none (ended.BadHeader f) tt c.before c.move c.after c.from c.to c.split c.came c.goes c.makes)
+closes o opened moves (ended.BadItem f n) c none = absurd (none (ended.BadItem f n) tt c.before c.move c.after c.from c.to c.split c.came c.goes c.makes)
+closes o opened moves ended.ThirdFailure c none = absurd (none ended.ThirdFailure tt c.before c.move c.after c.from c.to c.split c.came c.goes c.makes)
+closes o opened moves (ended.Idle t) c none = absurd (none (ended.Idle t) tt c.before c.move c.after c.from c.to c.split c.came c.goes c.makes)
+closes o opened moves (ended.Over cause) c none = absurd (none (ended.Over cause) tt c.before c.move c.after c.from c.to c.split c.came c.goes c.makes)
+closes o opened moves ended.Spent c none = absurd (none ended.Spent tt c.before c.move c.after c.from c.to c.split c.came c.goes c.makes)

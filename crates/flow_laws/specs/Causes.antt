@@ -51,3 +51,17 @@ pub record IsCaused (o : Site) (opened : ℕ) (moves : List Move) (ended : Ended
   pub came : GoesThrough o (opening o opened) before from
   pub goes : GoesOn o from move to
   pub makes : Makes o from move to ended
+
+-- Where nothing else makes an end, the client does.
+
+-- an end that its client doesn't ask for, and that no want of memory makes
+abbrev pub IsForced : Ended → Type 0
+IsForced ended.Closed = ⊥
+IsForced ended.NoMemory = ⊥
+IsForced x = Unit {0}
+
+-- no move of a connection makes this end
+abbrev pub MakesNone : Site → ℕ → List Move → Ended → Type 0
+MakesNone o opened moves x =
+    (before : List Move) (m : Move) (after : List Move) (from to : Duty) → moves ≡ before ++ m ∷ after → GoesThrough o (opening o opened) before from
+    → GoesOn o from m to → Makes o from m to x → ⊥
