@@ -1,0 +1,9 @@
+mod Entering
+mod Growing
+mod Laws
+mod Leaving
+mod Listening
+mod Skipping
+mod Speaking
+mod Standing
+mod Turning

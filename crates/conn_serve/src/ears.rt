@@ -1,0 +1,83 @@
+//! What was read of a link and is still to be heard.
+
+ghost use Rattle.std.specs.Prelude.{true, false, ◌≡◌, ◌≢◌, ◌≤◌, [], length, drop, IfOk};
+ghost use Rattle.outside.specs.Devices.{Rose};
+ghost use Rattle.conn_serve.specs.Reading.{Refilled};
+
+use outside::{Heard, Link};
+use stanza_tree::NoMemory;
+use std::alloc::Global;
+use std::marker::Model;
+
+/// How many bytes are read at once.
+const ROOM: usize = 4096;
+
+/// The bytes that were read and are still to be heard.
+#[derive(Drop)]
+pub(crate) struct Ears {
+    buffer: Vec<u8>,
+    from: usize,
+    to: usize,
+}
+
+impl Model for Ears {
+    ghost use Rattle.std.specs.Prelude.{List, ℕ, ◌-◌, ◌≤◌, ◌<◌, length, take, drop};
+
+    ghost Value = { List ℕ };
+
+    ghost view = { λ e. take (e.to - e.from) (drop e.from e.buffer.items) };
+
+    ghost invariant = { λ e. (e.from ≤ e.to) × (e.to ≤ length e.buffer.items) × (0 < length e.buffer.items) };
+}
+
+impl Ears {
+    pub(crate) fn new(alloc: Global) -> Result<Ears, NoMemory>
+        ensures { IfOk result (λ ears. ears ≡ []) }
+    {
+        let mut buffer = Vec::new(alloc);
+        buffer.resize(ROOM, 0)?;
+        Ok(Ears {
+            buffer,
+            from: 0,
+            to: 0,
+        })
+    }
+
+    pub(crate) fn ahead(&self) -> &[u8]
+        ensures { result.now ≡ self.now }
+    {
+        &self.buffer[self.from..self.to]
+    }
+
+    pub(crate) fn is_empty(&self) -> bool
+        ensures none { result ≡ true → self.now ≡ [] }
+        ensures some { result ≡ false → self.now ≢ [] }
+    {
+        self.from == self.to
+    }
+
+    /// So many bytes were heard.
+    pub(crate) fn skip(&mut self, n: usize)
+        requires { n ≤ length self.old }
+        ensures { self.new ≡ drop n self.old }
+    {
+        self.from += n;
+    }
+
+    /// Reads what comes next, where all that was read was heard.
+    pub(crate) fn refill<L: Link>(&mut self, link: &mut L) -> Heard
+        ensures told { Refilled (L.tape link.old) (L.tape link.new) self.new result }
+        ensures kept { L.faults link.old ≤ L.faults link.new }
+        ensures cause { result ≡ Heard.Failed → Rose (L.faults link.old) (L.faults link.new) }
+        ensures ends_kept { L.ends link.old ≤ L.ends link.new }
+        ensures ended { result ≡ Heard.End → Rose (L.ends link.old) (L.ends link.new) }
+    {
+        self.from = 0;
+        self.to = 0;
+        let heard = link.recv(self.buffer.as_mut_slice());
+        if let Heard::Bytes(n) = heard {
+            self.to = n;
+        }
+        heard
+    }
+}
