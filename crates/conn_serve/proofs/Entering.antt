@@ -1,5 +1,5 @@
 -- What an event, and random bytes, make of a connection.
-use Rattle.std.proofs.Common.{◌≡◌, ℕ, ◌≤◌, List, [], ◌∷◌, ◌++◌, true, false, length, refl, sym, ap, subst, ◌∙◌, Result, Ok, Err}
+use Rattle.std.proofs.Common.{◌≡◌, ℕ, ◌≤◌, List, [], ◌∷◌, ◌++◌, true, false, length, refl, sym, ap, subst, ◌∙◌}
 use Rattle.std.specs.Prelude.{Option}
 use Rattle.std.proofs.lemmas.List.{append-nil}
 use Rattle.outside.specs.Devices.{Rose}
@@ -7,7 +7,6 @@ use Rattle.outside.specs.Tapes.{Mark, Tells}
 use Rattle.house_model.specs.Histories.{MayBeShort, Turn, made, short}
 use Rattle.house_model.specs.declared.event.Event.{Event}
 use Rattle.house_model.specs.declared.reply.Reply.{Reply}
-use Rattle.conn_asks.specs.declared.ended.Ended.{Ended}
 use Rattle.conn_asks.specs.declared.ended.Ended.TheVariants as ended
 use Rattle.conn_flow.specs.Moves.{Draws, Enters, Stops}
 use Rattle.conn_flow.specs.Duties.{Site, Duty, Leaves, Left}

@@ -10,7 +10,8 @@ use Rattle.conn_asks.specs.declared.ended.Ended.{Ended}
 use Rattle.conn_flow.specs.Moves.{Move, Hears, Waits, Hangs, Fails, Takes, Says, Sends, Enters, Draws, Stops, marks, turns, moments, draws}
 use Rattle.conn_flow.specs.Duties.{Site, Duty}
 use Rattle.conn_flow.specs.Following.{GoesThrough}
-use Rattle.conn_serve.specs.Serving.{Counted, Counts, Exhausted, Finished, Grew, Tale, has, is_fail, is_hang, is_no_dice}
+use Rattle.conn_serve.specs.Connections.{Counts}
+use Rattle.conn_serve.specs.Serving.{Counted, Exhausted, Finished, Grew, Tale, has, is_fail, is_hang, is_no_dice}
 
 pub tells_nothing : (A : Type 0) (a : Option (List A)) → Tells A a a []
 tells_nothing A None = tt

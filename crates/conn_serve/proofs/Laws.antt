@@ -1,6 +1,6 @@
 -- The laws of a flow at a place.
 use Rattle.std.proofs.Common.{◌≡◌, ◌≢◌, ℕ, List, [], ◌∷◌, length, true, subst, sym}
-use Rattle.house_model.specs.Histories.{MayBeShort, Meets, line_of, made, short}
+use Rattle.house_model.specs.Histories.{MayBeShort, made, short}
 use Rattle.house_model.specs.declared.event.Event.{Event}
 use Rattle.house_model.specs.declared.reply.Reply.{Reply}
 use Rattle.conn_asks.specs.declared.ended.Ended.{Ended}

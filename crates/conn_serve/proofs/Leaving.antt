@@ -1,6 +1,6 @@
 -- How a connection begins, and how it leaves its line.
-use Rattle.std.proofs.Common.{◌≡◌, ℕ, ◌≤◌, List, [], ◌∷◌, ◌++◌, Bool, true, false, length, refl, sym, ap, subst, inl, inr, ◌⊎◌, ◌∙◌, append_assoc, Err}
-use Rattle.std.specs.Prelude.{Option, Some, None, ◌||◌}
+use Rattle.std.proofs.Common.{◌≡◌, ℕ, ◌≤◌, List, [], ◌∷◌, ◌++◌, Bool, true, false, length, refl, sym, ap, subst, inl, inr, ◌∙◌, Err}
+use Rattle.std.specs.Prelude.{Option, ◌||◌}
 use Rattle.std.proofs.lemmas.List.{append-nil}
 use Rattle.outside.specs.Devices.{Rose}
 use Rattle.outside.specs.Tapes.{Mark, Tells}
@@ -26,7 +26,8 @@ use Rattle.flow_laws.specs.Steps.{start}
 use Rattle.flow_laws.specs.Causes.{Makes}
 use Rattle.flow_laws.proofs.Causing.{CausedFrom, caused}
 use Rattle.flow_laws.proofs.DueEnds.{IsDue}
-use Rattle.conn_serve.specs.Serving.{Caused, Concluded, Exhausted, Finished, Gone, Grew, IsAt, IsOpened, Tale, has, is_fail, is_hang, is_no_dice, last_of, site_of, tale}
+use Rattle.conn_serve.specs.Connections.{Caused, Counts, Rises, site_of}
+use Rattle.conn_serve.specs.Serving.{Concluded, Exhausted, Finished, Gone, Grew, IsAt, IsOpened, Tale, has, is_fail, is_hang, is_no_dice, last_of, tale}
 use Rattle.conn_serve.specs.declared.turn.End.{End}
 use Rattle.conn_serve.specs.declared.turn.End.TheVariants.{Over, NoTurn}
 use Rattle.conn_serve.proofs.Growing.{grew_both, exhausted_after, finished_after, tells_both, tells_nothing}
@@ -236,29 +237,40 @@ made_by o t moves last x through left =
 has_made : (is : Move → Bool) (o : Site) (t : ℕ) (moves : List Move) (x : Ended) (c : CausedFrom o (opening o t) moves x) → is c.move ≡ true → has is moves ≡ true
 has_made is o t moves x c h = ap (has is) c.split ∙ among is c.before c.move c.after h
 
-pub is_caused : (o : Site) (t : ℕ) (a b : Tale) (x : Ended) → Gone o a (opening o t) b x → Caused x a.counts b.counts
-is_caused o t a b ended.LinkFault h =
+rises : (o : Site) (t : ℕ) (a b : Tale) (x : Ended) → Gone o a (opening o t) b x → Rises x a.counts b.counts
+rises o t a b ended.LinkFault h =
     let c : CausedFrom o (opening o t) h.grew.moves ended.LinkFault = made_by o t h.grew.moves h.last ended.LinkFault h.grew.through h.left in
     h.grew.counted.failed (has_made is_fail o t h.grew.moves ended.LinkFault c (fails_makes o c.from c.to c.move c.makes))
-is_caused o t a b ended.Hung h =
+rises o t a b ended.Hung h =
     let c : CausedFrom o (opening o t) h.grew.moves ended.Hung = made_by o t h.grew.moves h.last ended.Hung h.grew.through h.left in
     h.grew.counted.hung (has_made is_hang o t h.grew.moves ended.Hung c (hangs_makes o c.from c.to c.move c.makes))
-is_caused o t a b ended.DiceFault h =
+rises o t a b ended.DiceFault h =
     let c : CausedFrom o (opening o t) h.grew.moves ended.DiceFault = made_by o t h.grew.moves h.last ended.DiceFault h.grew.through h.left in
     h.grew.counted.dice_failed (has_made is_no_dice o t h.grew.moves ended.DiceFault c (dice_makes o c.from c.to c.move c.makes))
-is_caused o t a b ended.Closed h = tt
-is_caused o t a b (ended.Broken f k) h = tt
-is_caused o t a b (ended.BadHeader f) h = tt
-is_caused o t a b (ended.BadItem f n) h = tt
-is_caused o t a b ended.ThirdFailure h = tt
-is_caused o t a b (ended.Idle u) h = tt
-is_caused o t a b (ended.Over c) h = tt
-is_caused o t a b ended.Spent h = tt
-is_caused o t a b ended.NoMemory h = tt
+rises o t a b ended.Closed h = tt
+rises o t a b (ended.Broken f k) h = tt
+rises o t a b (ended.BadHeader f) h = tt
+rises o t a b (ended.BadItem f n) h = tt
+rises o t a b ended.ThirdFailure h = tt
+rises o t a b (ended.Idle u) h = tt
+rises o t a b (ended.Over c) h = tt
+rises o t a b ended.Spent h = tt
+rises o t a b ended.NoMemory h = tt
+
+pub is_caused : (o : Site) (t : ℕ) (a b : Tale) (x : Ended) → Gone o a (opening o t) b x → Caused x a.counts b.counts
+is_caused o t a b x h = record {
+  faults = h.grew.counted.faults_kept;
+  ends = h.grew.counted.ends_kept;
+  dice = h.grew.counted.dice_kept;
+  rose = rises o t a b x h;
+}
+
+pub never_caused : (a : Counts) → Caused ended.Spent a a
+never_caused a = record { faults = same a.faults; ends = same a.ends; dice = same a.dice; rose = tt }
 
 -- no turn was left for the last event
 
-no_short : (line : ℕ) (x : Ended) (t : ℕ) → MayBeShort (last_of line x t) → ⊥
+pub no_short : (line : ℕ) (x : Ended) (t : ℕ) → MayBeShort (last_of line x t) → ⊥
 no_short line ended.Closed t h = h
 no_short line ended.Hung t h = h
 no_short line ended.LinkFault t h = h

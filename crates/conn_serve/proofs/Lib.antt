@@ -1,8 +1,12 @@
+mod Attending
+mod Cutting
 mod Entering
 mod Growing
 mod Laws
 mod Leaving
 mod Listening
+mod Marking
+mod Openings
 mod Skipping
 mod Speaking
 mod Standing

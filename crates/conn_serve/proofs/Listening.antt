@@ -18,7 +18,7 @@ use Rattle.flow_laws.specs.Steps.{hangs_at, hears_at, waits_at}
 use Rattle.conn_serve.specs.declared.turn.Next.{Next}
 use Rattle.conn_serve.specs.declared.turn.Next.TheVariants.{Goes, Finishes, Exhausts}
 use Rattle.conn_serve.specs.Serving.{Came, Counted, Finished, Grew, HearsOn, IsAt, Tale, Turned, tale}
-use Rattle.conn_serve.proofs.Growing.{grew_both, grew_nothing, finished_after, tells_nothing}
+use Rattle.conn_serve.proofs.Growing.{grew_nothing, finished_after, tells_nothing}
 use Rattle.conn_serve.proofs.Laws as L
 use Rattle.conn_serve.proofs.Speaking.{calm, fails, same}
 use Rattle.conn_serve.proofs.Standing.{duty_moment, duty_owes, rests_goes, rests_none}

@@ -1,5 +1,5 @@
 -- What is sent of a text, piece by piece.
-use Rattle.std.proofs.Common.{◌≡◌, ◌≢◌, ◌⊎◌, inl, inr, ℕ, ◌≤◌, ◌<◌, ◌+◌, ◌-◌, List, [], ◌∷◌, ◌++◌, Bool, true, false, length, take, drop, refl, sym, ap, subst, arith, drop-drop, take_all, length-drop, take-append-drop, ◌∙◌}
+use Rattle.std.proofs.Common.{◌≡◌, ◌≢◌, ◌⊎◌, ℕ, ◌≤◌, ◌<◌, ◌+◌, ◌-◌, List, [], ◌∷◌, ◌++◌, true, false, length, take, drop, refl, sym, ap, subst, arith, drop-drop, take_all, length-drop, take-append-drop, ◌∙◌}
 use Rattle.std.specs.Prelude.{Option}
 use Rattle.std.proofs.lemmas.List.{append-nil}
 use Rattle.std.proofs.lemmas.Grind.{common_steps}
@@ -10,9 +10,9 @@ use Rattle.house_model.specs.Histories.{Turn}
 use Rattle.conn_asks.specs.declared.ended.Ended.TheVariants as ended
 use Rattle.conn_flow.specs.Moves.{Move, Sends, Fails}
 use Rattle.conn_flow.specs.Duties.{Site, Duty, Leaves}
-use Rattle.conn_flow.specs.Following.{GoesOn}
-use Rattle.conn_serve.specs.Serving.{Counted, Counts, Finished, Grew, Tale, has, is_fail, is_hang, is_no_dice, tale}
-use Rattle.conn_serve.proofs.Growing.{grew_both, grew_nothing, finished_after, tells_nothing}
+use Rattle.conn_serve.specs.Connections.{Counts}
+use Rattle.conn_serve.specs.Serving.{Counted, Finished, Grew, Tale, has, is_fail, is_hang, is_no_dice, tale}
+use Rattle.conn_serve.proofs.Growing.{grew_nothing, tells_nothing}
 
 -- moves that need no count to rise
 pub calm : (ms : List Move) (a b : Counts) → has is_fail ms ≡ false → has is_hang ms ≡ false → has is_no_dice ms ≡ false

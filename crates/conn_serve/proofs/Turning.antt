@@ -1,5 +1,5 @@
 -- One want of a flow, and what answers it.
-use Rattle.std.proofs.Common.{◌≡◌, ℕ, List, [], ◌∷◌, ◌++◌, Bool, true, false, Option, Some, None, refl, sym, ap, subst, append_assoc, ◌∙◌}
+use Rattle.std.proofs.Common.{◌≡◌, ℕ, List, [], ◌∷◌, ◌++◌, false, Option, Some, None, refl, sym, ap, subst, append_assoc, ◌∙◌}
 use Rattle.std.proofs.lemmas.List.{append-nil}
 use Rattle.outside.specs.Tapes.{Mark, Tells}
 use Rattle.account_book.specs.Lists.{Book}
@@ -14,10 +14,10 @@ use Rattle.conn_flow.specs.declared.phase.Phase.{Phase}
 use Rattle.conn_flow.specs.declared.phase.Phase.TheVariants.{Resting, Heard, Saying, Refusing, Drawing, Drawn, Entering, Entered, LoggingIn, LoggedIn, PullingOnce, Pulling, Sweeping, Parting, Left}
 use Rattle.conn_flow.specs.declared.talk.Talk.{Talk}
 use Rattle.conn_flow.specs.declared.want.Want.{Want}
-use Rattle.conn_flow.specs.Moves.{Move, Hears, Waits, Hangs, Fails, Takes, Says, Sends, Enters, Draws, Stops, marks, turns, moments, draws}
+use Rattle.conn_flow.specs.Moves.{Move, Hears, Waits, Hangs, Fails, Takes, Says, Sends, Enters, Draws, Stops}
 use Rattle.conn_flow.specs.Duties.{Site, Duty}
 use Rattle.conn_flow.specs.Following.{GoesOn}
-use Rattle.conn_flow.specs.Flows.{IsGoing, IsLoaded, IsThere, IsWish, Prepares, State, ToAwait, ToDraw, ToFinish, ToSay, ToSubmit, Wants, event_wish, last_text, login_wish, parting_wish, wish, wish_of, wished}
+use Rattle.conn_flow.specs.Flows.{IsGoing, IsLoaded, IsThere, IsWish, State, ToAwait, ToDraw, ToFinish, ToSay, ToSubmit, Wants, event_wish, last_text, login_wish, parting_wish, wish, wish_of, wished}
 use Rattle.flow_laws.specs.Standing.{IsServed, Place, duty}
 use Rattle.flow_laws.specs.Steps.{AreTakes, Comes, says_at, wishes_at}
 use Rattle.conn_serve.specs.declared.turn.Next.{Next}

@@ -1,2 +1,4 @@
+pub mod Connections
 pub mod Reading
 pub mod Serving
+pub mod Shifts

@@ -1,5 +1,5 @@
 -- What a turn of the loop makes of a connection.
-use Rattle.std.specs.Prelude.{◌≡◌, ◌≤◌, ℕ, List, [], ◌∷◌, ◌++◌, drop, Bool, true, false, ◌||◌, Option}
+use Rattle.std.specs.Prelude.{◌≡◌, ◌⊎◌, ◌≤◌, ℕ, List, [], ◌∷◌, ◌++◌, drop, Bool, true, false, ◌||◌, Option, None, Some}
 use Rattle.outside.specs.Tapes.{Mark, Tells}
 use Rattle.outside.specs.Devices.{Rose}
 use Rattle.house_model.specs.Histories.{Turn}
@@ -13,23 +13,18 @@ use Rattle.conn_flow.specs.Following.{GoesThrough, Told, opening}
 use Rattle.account_book.specs.Lists.{Book}
 use Rattle.conn_flow.specs.Flows.{State, hears, taken_of}
 use Rattle.flow_laws.specs.Standing.{IsServed, Place, duty}
+use Rattle.conn_serve.specs.Connections.{Counts, told}
 use Rattle.conn_serve.specs.declared.turn.Next.{Next}
 use Rattle.conn_serve.specs.declared.turn.Next.TheVariants.{Goes, Finishes, Exhausts}
 use Rattle.conn_serve.specs.declared.turn.End.{End}
 use Rattle.conn_serve.specs.declared.turn.End.TheVariants.{Over, NoTurn}
+use Rattle.conn_serve.specs.declared.worker.Worked.{Worked}
+use Rattle.conn_serve.specs.Shifts.{Ends, Shift, Visited}
 
--- what is told of a connection, and the counts of the faults and Ends of its link and of the faults of its dice
-pub record Counts : Type 0 where
-  pub faults : ℕ
-  pub ends : ℕ
-  pub dice : ℕ
-
+-- what is told of a connection, with these counts
 pub record Tale : Type 0 where
   pub told : Told
   pub counts : Counts
-
-abbrev pub told : Option (List Mark) → List Turn → Option (List ℕ) → Option (List (List ℕ)) → Told
-told tape turns moments drawn = record { tape = tape; turns = turns; moments = moments; drawn = drawn }
 
 abbrev pub tale : Option (List Mark) → List Turn → Option (List ℕ) → Option (List (List ℕ)) → (faults ends dice : ℕ) → Tale
 tale tape turns moments drawn faults ends dice =
@@ -131,20 +126,6 @@ abbrev pub Concluded : Site → Tale → Duty → Tale → End → Type 0
 Concluded o a v b (Over x t) = Finished o a v b x t
 Concluded o a v b NoTurn = Exhausted o a v b
 
--- where a connection is served
-abbrev pub site_of : ℕ → List ℕ → Book → Site
-site_of line domain accounts = record { line = line; domain = domain; accounts = accounts }
-
--- an end by the link or the dice comes only where a count rose
-abbrev pub Caused : Ended → Counts → Counts → Type 0
-Caused ended.LinkFault a b = Rose a.faults b.faults
-Caused ended.Hung a b = Rose a.ends b.ends
-Caused ended.DiceFault a b = Rose a.dice b.dice
-Caused x a b = Unit {0}
-
-abbrev pub counts_of : (faults ends dice : ℕ) → Counts
-counts_of faults ends dice = record { faults = faults; ends = ends; dice = dice }
-
 -- the last event at a line
 abbrev pub last_of : ℕ → Ended → ℕ → Event
 last_of line ended.Closed t = event.CloseLine line t
@@ -160,3 +141,29 @@ pub record Gone (o : Site) (a : Tale) (v : Duty) (b : Tale) (x : Ended) : Type 0
   pub grew : Grew o a v b last
   pub left : last.due ≡ Left x ∷ []
   pub sent : last.owed ≡ []
+
+-- The mark of the pass: a turn that was refused gives it, and then the connection is over.
+
+abbrev pub marked_next : Next → Bool → Bool
+marked_next Exhausts marked = true
+marked_next Goes marked = marked
+marked_next (Finishes x t) marked = marked
+
+abbrev pub marked_end : End → Bool → Bool
+marked_end NoTurn marked = true
+marked_end (Over x t) marked = marked
+
+-- after its line was left
+abbrev pub MarkedLeaving : End → Ended → (old new : Bool) → Type 0
+MarkedLeaving NoTurn x old new = (x ≡ ended.Spent) × (new ≡ old)
+MarkedLeaving (Over y t) x old new = ((x ≡ y) × (new ≡ old)) ⊎ ((x ≡ ended.Spent) × (new ≡ true))
+
+-- What a worker did when it looked for a link.
+
+abbrev pub Attended : Site → Shift → Shift → Option Worked → Type 0
+Attended o a b None = (x : Ended) × Visited o a x b
+Attended o a b (Some worked) = b ≡ a
+
+abbrev pub EndsNow : Option Worked → Bool → (before now : ℕ) → Type 0
+EndsNow None reached before now = Unit {0}
+EndsNow (Some worked) reached before now = Ends worked reached before now

@@ -5,7 +5,7 @@ ghost use Rattle.turn_lock.specs.Histories.{StartsWith};
 ghost use Rattle.hall.specs.Desks.{turns_of};
 ghost use Rattle.conn_flow.specs.Duties.{Site};
 ghost use Rattle.flow_laws.specs.Standing.{Place, duty};
-ghost use Rattle.conn_serve.specs.Serving.{Concluded, IsAt, IsStanding, Turned, tale};
+ghost use Rattle.conn_serve.specs.Serving.{Concluded, IsAt, IsStanding, Turned, marked_end, marked_next, tale};
 
 use crate::ears::Ears;
 use crate::listen::listen;
@@ -39,6 +39,7 @@ fn answer<W: Wait, D: Desk, L: Link, C: Clock, I: Dice>(
     ensures line { D.line pass.new ≡ D.line pass.old }
     ensures history { StartsWith (D.seen pass.new) (D.seen pass.old) }
     ensures room { 524288 ≤ vec_capacity frame.new }
+    ensures mark { D.marked pass.new ≡ marked_next result (D.marked pass.old) }
     ensures turned { (o : Site) (p : Place) → o.line ≡ D.line pass.old → o.accounts ≡ accounts.now → IsAt o p flow.old ears.old
         → Turned o (tale (L.tape link.old) (turns_of (D.line pass.old) (D.seen pass.old)) (C.told clock.old) (I.drawn dice.old) (L.faults link.old) (L.ends link.old) (I.faults dice.old)) (duty o p)
         (tale (L.tape link.new) (turns_of (D.line pass.old) (D.seen pass.new)) (C.told clock.new) (I.drawn dice.new) (L.faults link.new) (L.ends link.new) (I.faults dice.new)) flow.new ears.new result }
@@ -74,6 +75,7 @@ pub(crate) fn converse<W: Wait, D: Desk, L: Link, C: Clock, I: Dice>(
     ensures line { D.line pass.new ≡ D.line pass.old }
     ensures history { StartsWith (D.seen pass.new) (D.seen pass.old) }
     ensures room { 524288 ≤ vec_capacity frame.new }
+    ensures mark { D.marked pass.new ≡ marked_end result (D.marked pass.old) }
     ensures ended { (o : Site) (p : Place) → o.line ≡ D.line pass.old → o.accounts ≡ accounts.now → IsAt o p flow.old ears.old
         → Concluded o (tale (L.tape link.old) (turns_of (D.line pass.old) (D.seen pass.old)) (C.told clock.old) (I.drawn dice.old) (L.faults link.old) (L.ends link.old) (I.faults dice.old)) (duty o p)
         (tale (L.tape link.new) (turns_of (D.line pass.old) (D.seen pass.new)) (C.told clock.new) (I.drawn dice.new) (L.faults link.new) (L.ends link.new) (I.faults dice.new)) result }

@@ -4,11 +4,11 @@ ghost use Rattle.std.specs.Prelude.{◌≡◌, ℕ, List, Option, [], ◌++◌, 
 ghost use Rattle.account_book.specs.Lists.{Book};
 ghost use Rattle.turn_lock.specs.Histories.{StartsWith};
 ghost use Rattle.house_model.specs.Promises.{Safe};
-ghost use Rattle.hall.specs.Desks.{Served, turns_of};
+ghost use Rattle.hall.specs.Desks.{Served, marked_by, turns_of};
 ghost use Rattle.conn_flow.specs.Duties.{Duty, Site};
-ghost use Rattle.conn_flow.specs.Following.{Follows};
 ghost use Rattle.conn_flow.specs.Flows.{fresh};
-ghost use Rattle.conn_serve.specs.Serving.{Caused, Concluded, Gone, IsOpened, Tale, counts_of, last_of, site_of, tale, told};
+ghost use Rattle.conn_serve.specs.Connections.{Caused, Went, counts_of, marked_at, site_of, told};
+ghost use Rattle.conn_serve.specs.Serving.{Concluded, Gone, IsOpened, MarkedLeaving, Tale, last_of, marked_end, tale};
 
 use crate::converse::converse;
 use crate::ears::Ears;
@@ -60,6 +60,7 @@ fn begin<W: Wait, D: Desk, L: Link, C: Clock, I: Dice>(
     ensures pass { D.came_from desk.now pass.new }
     ensures line { D.line pass.new ≡ D.line pass.old }
     ensures history { StartsWith (D.seen pass.new) (D.seen pass.old) }
+    ensures mark { D.marked pass.new ≡ marked_end result (D.marked pass.old) }
     ensures ended { (o : Site) (v : Duty) → o ≡ site_of (D.line pass.old) (D.opening desk.now).head.domain.domain accounts.now → IsOpened o opened v
         → Concluded o (tale (L.tape link.old) (turns_of (D.line pass.old) (D.seen pass.old)) (C.told clock.old) (I.drawn dice.old) (L.faults link.old) (L.ends link.old) (I.faults dice.old)) v
         (tale (L.tape link.new) (turns_of (D.line pass.old) (D.seen pass.new)) (C.told clock.new) (I.drawn dice.new) (L.faults link.new) (L.ends link.new) (I.faults dice.new)) result }
@@ -90,6 +91,7 @@ fn leave<W: Wait, D: Desk>(
     ensures line { D.line pass.new ≡ D.line pass.old }
     ensures history { StartsWith (D.seen pass.new) (D.seen pass.old) }
     ensures served { Served (D.line pass.old) (last_of (D.line pass.old) ended moment) [] result (D.seen pass.old) (D.seen pass.new) }
+    ensures mark { D.marked pass.new ≡ marked_by result (D.marked pass.old) }
 {
     match ended {
         Ended::Closed => desk.close_line(rt, pass, moment),
@@ -109,6 +111,7 @@ fn conclude<W: Wait, D: Desk, L: Link>(
     ensures pass { D.came_from desk.now pass.new }
     ensures line { D.line pass.new ≡ D.line pass.old }
     ensures history { StartsWith (D.seen pass.new) (D.seen pass.old) }
+    ensures mark { MarkedLeaving end result (D.marked pass.old) (D.marked pass.new) }
     ensures gone { (domain : List ℕ) (accounts : Book) (a : Tale) (v : Duty) (moments : Option (List ℕ)) (drawn : Option (List (List ℕ))) (dice : ℕ)
         → Concluded (site_of (D.line pass.old) domain accounts) a v
         (tale (L.tape link.old) (turns_of (D.line pass.old) (D.seen pass.old)) moments drawn (L.faults link.old) (L.ends link.old) dice) end
@@ -128,8 +131,9 @@ fn conclude<W: Wait, D: Desk, L: Link>(
 }
 
 /// Serves the connection of a link at the line of the pass, from its coming to its end: what was heard, said, entered, drawn and timed is a
-/// connection as it may go (`Follows`), the turns that the pass saw are legal after it, and all that is promised of legal histories holds of
-/// them. An end by the link or the dice comes only where their counts rose. Never returns if the link goes on for ever.
+/// connection as it may go (`Went`), the turns that the pass saw are legal after it, and all that is promised of legal histories holds of
+/// them. The answer has its cause: a move of the connection made it. An end by the link or the dice comes only where their counts rose, and
+/// `Spent` exactly where a turn was refused to the pass, which has its mark then. Never returns if the link goes on for ever.
 pub fn serve<W: Wait, D: Desk, L: Link, C: Clock, I: Dice>(
     rt: &W,
     alloc: Global,
@@ -144,9 +148,10 @@ pub fn serve<W: Wait, D: Desk, L: Link, C: Clock, I: Dice>(
     ensures pass { D.came_from desk.now pass.new }
     ensures line { D.line pass.new ≡ D.line pass.old }
     ensures history { StartsWith (D.seen pass.new) (D.seen pass.old) }
-    ensures follows { Follows (site_of (D.line pass.old) (D.opening desk.now).head.domain.domain accounts.now)
+    ensures went { Went (site_of (D.line pass.old) (D.opening desk.now).head.domain.domain accounts.now)
         (told (L.tape link.old) (turns_of (D.line pass.old) (D.seen pass.old)) (C.told clock.old) (I.drawn dice.old))
         (told (L.tape link.new) (turns_of (D.line pass.old) (D.seen pass.new)) (C.told clock.new) (I.drawn dice.new)) result }
+    ensures mark { D.marked pass.new ≡ marked_at result (D.marked pass.old) }
     ensures cause { Caused result (counts_of (L.faults link.old) (L.ends link.old) (I.faults dice.old)) (counts_of (L.faults link.new) (L.ends link.new) (I.faults dice.new)) }
     ensures safe { ∥ Safe (D.opening desk.now) (D.earlier desk.now ++ D.seen pass.new) ∥₁ }
 {

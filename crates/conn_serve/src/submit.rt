@@ -1,6 +1,6 @@
 //! Does what a flow wants of the house and of the dice.
 
-ghost use Rattle.std.specs.Prelude.{◌≡◌, ℕ, List, [], ◌≤◌, Option, vec_capacity};
+ghost use Rattle.std.specs.Prelude.{◌≡◌, ◌≢◌, ℕ, List, [], ◌≤◌, Option, vec_capacity};
 ghost use Rattle.outside.specs.Tapes.{Mark};
 ghost use Rattle.turn_lock.specs.Histories.{StartsWith};
 ghost use Rattle.house_model.specs.Histories.{Meets, Turn, line_of};
@@ -10,7 +10,7 @@ ghost use Rattle.conn_flow.specs.Duties.{Site};
 ghost use Rattle.conn_flow.specs.Flows.{IsTold, ToDraw, ToSubmit, wish_of};
 ghost use Rattle.flow_laws.specs.Standing.{IsServed, Place, duty};
 ghost use Rattle.flow_laws.specs.Steps.{wishes_at};
-ghost use Rattle.conn_serve.specs.Serving.{Turned, tale};
+ghost use Rattle.conn_serve.specs.Serving.{Turned, marked_next, tale};
 
 use crate::enter::{enter, ring_stirred};
 use crate::speak::speak;
@@ -42,6 +42,7 @@ pub(crate) fn submit<W: Wait, D: Desk, L: Link, C: Clock>(
     ensures line { D.line pass.new ≡ D.line pass.old }
     ensures history { StartsWith (D.seen pass.new) (D.seen pass.old) }
     ensures room { 524288 ≤ vec_capacity frame.new }
+    ensures mark { D.marked pass.new ≡ marked_next result (D.marked pass.old) }
     ensures turned { (o : Site) (p : Place) (ahead : List ℕ) (drawn : Option (List (List ℕ))) (dice : ℕ)
         → IsServed o p → p.owed ≡ [] → p.ahead ≡ ahead → wish_of p.flow ≡ ToSubmit event.now → flow.old ≡ wishes_at p.flow → o.line ≡ D.line pass.old
         → Turned o (tale (L.tape link.old) (turns_of (D.line pass.old) (D.seen pass.old)) (C.told clock.old) drawn (L.faults link.old) (L.ends link.old) dice) (duty o p)
@@ -65,6 +66,7 @@ pub(crate) fn submit<W: Wait, D: Desk, L: Link, C: Clock>(
 /// Draws the random bytes that the flow needs.
 pub(crate) fn draw<I: Dice>(dice: &mut I, flow: &mut Flow) -> Next
     requires { flow.old.talk.phase ≡ phase.Drawing }
+    ensures on { result ≢ Next.Exhausts }
     ensures turned { (o : Site) (p : Place) (ahead : List ℕ) (tape : Option (List Mark)) (turns : List Turn) (moments : Option (List ℕ)) (faults ends : ℕ)
         → IsServed o p → p.owed ≡ [] → p.ahead ≡ ahead → wish_of p.flow ≡ ToDraw → flow.old ≡ p.flow
         → Turned o (tale tape turns moments (I.drawn dice.old) faults ends (I.faults dice.old)) (duty o p)

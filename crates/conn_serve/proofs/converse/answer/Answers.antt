@@ -2,6 +2,7 @@ use Rattle.std.proofs.Common.{sym, ◌∙◌}
 use Rattle.conn_flow.specs.declared.want.Want.TheVariants.{Say, Submit, NeedDice, Await, Finish}
 use Rattle.conn_serve.proofs.Laws.{fits}
 use Rattle.conn_serve.proofs.Turning.{draws_at, finishes_now, handled, says_then, short_of_memory, turned_after, waits_at}
+use Rattle.conn_serve.proofs.Marking.{marks_on}
 use Rattle.conn_serve.proofs.converse.answer.Goals as goal
 
 pub submit-requires-clause-line : goal.submit-requires-clause-line
@@ -21,7 +22,7 @@ returns-in-Ok-Say-clause-turned g c = λ o p line accounts at.
     let w = rw c.in-Ok-Say.field-0-is at c.in-Ok-Say.ensures.wants in
     let h = handled o p _ _ _ (Say c.in-Ok-Say.text) _ at accounts w in
     says_then o _ _ p _ _ _ c.in-Ok-Say.text.items c.speak.result h h.wishes
-    (λ v owed. c.speak.ensures o v _ _ _ (owed ∙ sym c.as_slice.ensures.value))
+    (λ v owed. c.speak.ensures.spoke o v _ _ _ (owed ∙ sym c.as_slice.ensures.value))
 
 pub returns-in-Ok-Submit-clause-turned : goal.returns-in-Ok-Submit-clause-turned
 returns-in-Ok-Submit-clause-turned g c = λ o p line accounts at.
@@ -53,3 +54,12 @@ returns-in-Ok-Finish-clause-turned g c = λ o p line accounts at.
 
 pub returns-in-Err-clause-turned : goal.returns-in-Err-clause-turned
 returns-in-Err-clause-turned g c = λ o p line accounts at. short_of_memory o _ p _ _ _ at c.in-Err.ensures.going c.moment-moment.ensures
+
+pub returns-in-Ok-Say-clause-mark : goal.returns-in-Ok-Say-clause-mark
+returns-in-Ok-Say-clause-mark g c = sym (marks_on c.speak.result _ c.speak.ensures.on)
+
+pub returns-in-Ok-NeedDice-clause-mark : goal.returns-in-Ok-NeedDice-clause-mark
+returns-in-Ok-NeedDice-clause-mark g c = sym (marks_on c.draw.result _ c.draw.ensures.on)
+
+pub returns-in-Ok-Await-clause-mark : goal.returns-in-Ok-Await-clause-mark
+returns-in-Ok-Await-clause-mark g c = sym (marks_on c.listen.result _ c.listen.ensures.on)

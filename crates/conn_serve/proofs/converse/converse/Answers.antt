@@ -10,6 +10,7 @@ loop-init g c = record {
   pass = c.requires.pass;
   line = refl;
   history = starts_same _;
+  mark = refl;
   room = c.requires.room;
   stands = c.requires.stands;
   came = λ o p line accounts at. stays o _ p _ _ at;
@@ -25,6 +26,7 @@ loop-preserved g c =
       pass = c.in-Goes.ensures.pass;
       line = c.in-Goes.ensures.line ∙ c.loop.invariant.line;
       history = starts_both _ _ _ c.loop.invariant.history c.in-Goes.ensures.history;
+      mark = c.in-Goes.ensures.mark ∙ c.loop.invariant.mark;
       room = c.in-Goes.ensures.room;
       stands = subst (λ (w : ℕ). IsStanding w c.args.accounts.now c.answer.new.flow c.answer.new.ears) (sym c.in-Goes.ensures.line)
           (stands_on _ _ _ _ _ _ _ _ stands (c.in-Goes.ensures.turned stands.site stands.place stands.line_is stands.accounts_are stands.at));

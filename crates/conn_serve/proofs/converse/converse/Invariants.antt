@@ -1,4 +1,4 @@
-use Rattle.std.proofs.Common.{◌≡◌, ◌≤◌, ℕ, List}
+use Rattle.std.proofs.Common.{◌≡◌, ◌≤◌}
 use Rattle.std.specs.Prelude.{vec_capacity}
 use Rattle.turn_lock.specs.Histories.{StartsWith}
 use Rattle.hall.specs.Desks.{turns_of}
@@ -14,6 +14,7 @@ invariant-loop g l = record {
   pass : g.D.Desk.came_from l.desk l.pass;
   line : g.D.Desk.line l.pass ≡ g.D.Desk.line l.fn.pass;
   history : StartsWith (g.D.Desk.seen l.pass) (g.D.Desk.seen l.fn.pass);
+  mark : g.D.Desk.marked l.pass ≡ g.D.Desk.marked l.fn.pass;
   room : 524288 ≤ vec_capacity l.frame;
   stands : IsStanding (g.D.Desk.line l.pass) l.accounts l.flow l.ears;
   came : (o : Site) (p : Place) → o.line ≡ g.D.Desk.line l.fn.pass → o.accounts ≡ l.accounts → IsAt o p l.fn.flow l.fn.ears

@@ -1,6 +1,7 @@
 use Rattle.std.proofs.Common.{◌≡◌, length, rules, refl, sym, subst, ap, ◌∙◌}
 use Rattle.conn_flow.specs.Duties.{Site}
-use Rattle.conn_serve.specs.Serving.{IsAt, site_of}
+use Rattle.conn_serve.specs.Connections.{site_of}
+use Rattle.conn_serve.specs.Serving.{IsAt}
 use Rattle.flow_laws.specs.Steps.{start}
 use Rattle.conn_serve.proofs.Growing.{finished_after}
 use Rattle.conn_serve.proofs.Leaving.{at_start, concluded_after, named_by, no_room, unnamed}

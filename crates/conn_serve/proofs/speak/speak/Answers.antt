@@ -1,4 +1,4 @@
-use Rattle.std.proofs.Common.{drop, arith, inr, refl}
+use Rattle.std.proofs.Common.{arith, inr, refl}
 use Rattle.std.proofs.Math.ListN.{drop_of_length-le}
 use Rattle.std.proofs.lemmas.Grind.{common_steps}
 use Rattle.conn_serve.proofs.Growing.{grew_both, finished_after}
@@ -21,13 +21,13 @@ loop-at-preserved g c = record {
       (seam c.args.text.now c.loop-at.at c.in-Taken.n c.loop-at.invariant.within) c.in-Taken.ensures.tape c.in-Taken.ensures.kept c.in-Taken.ensures.ends_kept);
 }
 
-pub returns-in-Failed : goal.returns-in-Failed
-returns-in-Failed g c = λ o v turns drawn dice owed.
+pub returns-in-Failed-clause-spoke : goal.returns-in-Failed-clause-spoke
+returns-in-Failed-clause-spoke g c = λ o v turns drawn dice owed.
     finished_after (c.loop-at.invariant.said o v turns drawn dice owed)
     (fails o _ c.moment.result _ _ turns _ _ drawn _ _ _ _ dice
     (inr (left_over c.args.text.now c.loop-at.at c.loop-at-test.true)) c.in-Failed.ensures.tape c.moment.ensures.told
     c.in-Failed.ensures.kept c.in-Failed.ensures.ends_kept (c.in-Failed.ensures.cause refl))
 
-pub returns : goal.returns
-returns g c = λ o v turns drawn dice owed.
+pub returns-clause-spoke : goal.returns-clause-spoke
+returns-clause-spoke g c = λ o v turns drawn dice owed.
     none_left o _ _ v v _ (drop_of_length-le c.args.text.now {i = c.loop-at.at} c.loop-at-test.false) (c.loop-at.invariant.said o v turns drawn dice owed)
