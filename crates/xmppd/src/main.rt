@@ -12,7 +12,6 @@ mod roster_tests;
 mod run;
 #[cfg(test)]
 mod session_tests;
-mod standard;
 #[cfg(test)]
 mod stanza_tests;
 #[cfg(test)]
@@ -22,7 +21,7 @@ mod tests;
 mod words;
 
 use crate::run::run;
-use crate::standard::{ReaderSource, WriterSink};
+use outside_net::{ReaderSource, WriterSink};
 use script_play::Status;
 use stanza_tree::Text;
 use std::process::ExitCode;

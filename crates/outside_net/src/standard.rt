@@ -12,6 +12,7 @@ pub struct ReaderSource<R: Read + Drop> {
 }
 
 impl<R: Read + Drop> ReaderSource<R> {
+    /// A source that reads from this reader.
     pub fn new(reader: R) -> ReaderSource<R> {
         ReaderSource { reader, faults: 0 }
     }
@@ -42,6 +43,7 @@ pub struct WriterSink<W: Write + Drop> {
 }
 
 impl<W: Write + Drop> WriterSink<W> {
+    /// A sink that writes to this writer.
     pub fn new(writer: W) -> WriterSink<W> {
         WriterSink { writer, faults: 0 }
     }

@@ -1,0 +1,10 @@
+//! The workers of a server: each serves the links of its post in a thread of its own, and all share one house.
+#![tactic(auto)]
+
+mod roster;
+mod staff;
+#[cfg(test)]
+mod tests;
+mod worker;
+
+pub use staff::serve_posts;

@@ -1,0 +1,21 @@
+//! The outside as it is: standard input and output, TCP sockets, the system's clock and its random bytes. Each form
+//! counts its faults, and a link its Ends. What is read, sent or drawn none of them tells.
+#![tactic(auto)]
+
+mod bell;
+mod connection;
+mod net_ports;
+mod open_fault;
+mod reactor;
+mod standard;
+mod system;
+mod tcp_door;
+mod tcp_link;
+#[cfg(test)]
+mod tests;
+
+pub use net_ports::{NetPorts, TcpPost};
+pub use standard::{ReaderSource, WriterSink};
+pub use system::{SystemClock, SystemDice};
+pub use tcp_door::TcpDoor;
+pub use tcp_link::TcpLink;

@@ -1,0 +1,128 @@
+//! A link over TCP.
+ghost use Rattle.std.specs.Prelude.{◌≡◌, ◌<◌, ◌≤◌, length, None};
+ghost use Rattle.outside.specs.Devices.{Rose};
+ghost use Rattle.outside.specs.Links.{HeardFits, PutFits};
+
+use crate::connection::{Connection, is_pending};
+use crate::reactor::Reactor;
+use outside::{Heard, Link, Put};
+use std::marker::Model;
+
+/// A TCP connection to a client, which a `TcpDoor` hands out. It counts its errors and its Ends, and tells no tape.
+#[derive(Drop)]
+pub struct TcpLink {
+    connection: Connection,
+    faults: u64,
+    ends: u64,
+}
+
+impl Model for TcpLink {
+    ghost use Rattle.outside_net.specs.Counts.{LinkCounts};
+
+    ghost Value = { LinkCounts };
+
+    ghost view = { λ l. record { faults = l.faults; ends = l.ends } };
+}
+
+impl TcpLink {
+    pub(crate) fn new(connection: Connection) -> TcpLink
+        ensures { result ≡ record { faults = 0; ends = 0 } }
+    {
+        TcpLink {
+            connection,
+            faults: 0,
+            ends: 0,
+        }
+    }
+
+    /// Closes the connection, and gives what it waited with.
+    pub(crate) fn into_reactor(self) -> Reactor {
+        self.connection.into_reactor()
+    }
+
+    fn count_fault(&mut self)
+        ensures kept { self.old.faults ≤ self.new.faults }
+        ensures rose { Rose self.old.faults self.new.faults }
+        ensures ends { self.new.ends ≡ self.old.ends }
+    {
+        self.faults = self.faults.saturating_add(1);
+    }
+
+    /// What is there to be read now. `Quiet` where there is nothing.
+    fn read(&mut self, into: &mut [u8]) -> Heard
+        requires { 0 < length into.old }
+        ensures fits { HeardFits result into.new }
+        ensures kept { self.old.faults ≤ self.new.faults }
+        ensures cause { result ≡ Heard.Failed → Rose self.old.faults self.new.faults }
+        ensures ends_kept { self.old.ends ≤ self.new.ends }
+        ensures ended { result ≡ Heard.End → Rose self.old.ends self.new.ends }
+    {
+        match self.connection.read(into) {
+            Ok(0) => {
+                self.ends = self.ends.saturating_add(1);
+                Heard::End
+            }
+            Ok(count) => Heard::Bytes(count),
+            Err(error) if is_pending(&error) => Heard::Quiet,
+            Err(_) => {
+                self.count_fault();
+                Heard::Failed
+            }
+        }
+    }
+}
+
+impl Link for TcpLink {
+    ghost tape = { λ _. None };
+
+    ghost faults = { λ l. l.faults };
+
+    ghost ends = { λ l. l.ends };
+
+    /// Where there is nothing to read, waits at most 20 milliseconds for it, and answers `Quiet` then, or at once where its
+    /// line was rung since it last waited. `End` where the peer closed its side, `Failed` at any error. Takes no memory.
+    fn recv(&mut self, into: &mut [u8]) -> Heard
+        requires { 0 < length into.old }
+        ensures fits { HeardFits result into.new }
+        ensures kept { self.old.faults ≤ self.new.faults }
+        ensures cause { result ≡ Heard.Failed → Rose self.old.faults self.new.faults }
+        ensures ends_kept { self.old.ends ≤ self.new.ends }
+        ensures ended { result ≡ Heard.End → Rose self.old.ends self.new.ends }
+    {
+        match self.read(into) {
+            Heard::Quiet => {}
+            heard => return heard,
+        }
+        if self.connection.wait_for_bytes().is_err() {
+            self.count_fault();
+            return Heard::Failed;
+        }
+        self.read(into)
+    }
+
+    /// Waits at most 30 seconds until the system takes some of the bytes. `Failed` where it doesn't, and at any error: a peer
+    /// that went away is one, and no signal. Takes no memory.
+    fn send(&mut self, from: &[u8]) -> Put
+        requires { 0 < length from.now }
+        ensures fits { PutFits result from.now }
+        ensures kept { self.old.faults ≤ self.new.faults }
+        ensures cause { result ≡ Put.Failed → Rose self.old.faults self.new.faults }
+        ensures ends { self.new.ends ≡ self.old.ends }
+    {
+        match self.connection.write(from) {
+            Ok(count) if count > 0 => Put::Taken(count),
+            _ => {
+                self.count_fault();
+                Put::Failed
+            }
+        }
+    }
+
+    /// Wakes the worker of that line, which is that of the post with this number, from 0. Where none is there, or it was rung
+    /// already, does nothing. Takes no memory.
+    fn ring(&mut self, line: u32)
+        ensures { self.new ≡ self.old }
+    {
+        self.connection.ring(line);
+    }
+}
