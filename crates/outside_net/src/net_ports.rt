@@ -101,8 +101,8 @@ impl<R: Net + Clock + RandomSource + Clone + Drop> Ports for NetPorts<R> {
 
     ghost dice_faults = { λ p. p.dice_faults };
 
-    /// The address is `127.0.0.1:PORT`; another is `Failed`. Port 0 is one that the system chooses. The worker of post N, from 0,
-    /// is the one whose connection `ring` wakes by the line N.
+    /// The address is `127.0.0.1:PORT`; another is `Failed`, and so is one that the system refuses, as where the port is taken. Port 0
+    /// is one that the system chooses. The worker of post N, from 0, is the one whose connection `ring` wakes by the line N.
     fn listen(
         &mut self,
         alloc: Global,

@@ -1,4 +1,5 @@
 //! Why posts could not be made.
+ghost use Rattle.std.specs.Prelude.{◌≡◌};
 
 use std::alloc::{AllocError, AllocFailed};
 use std::io;
@@ -11,18 +12,30 @@ pub(crate) enum OpenFault {
 }
 
 impl From<AllocError> for OpenFault {
+    ghost use Rattle.outside_net.specs.declared.open_fault.OpenFault.TheVariants as fault;
+
+    ghost from_gives = { λ _ f. f ≡ fault.NoMemory };
+
     fn from(_error: AllocError) -> OpenFault {
         OpenFault::NoMemory
     }
 }
 
 impl<T: Drop> From<AllocFailed<T>> for OpenFault {
+    ghost use Rattle.outside_net.specs.declared.open_fault.OpenFault.TheVariants as fault;
+
+    ghost from_gives = { λ _ f. f ≡ fault.NoMemory };
+
     fn from(_error: AllocFailed<T>) -> OpenFault {
         OpenFault::NoMemory
     }
 }
 
 impl From<io::Error> for OpenFault {
+    ghost use Rattle.outside_net.specs.declared.open_fault.OpenFault.TheVariants as fault;
+
+    ghost from_gives = { λ _ f. f ≡ fault.System };
+
     fn from(_error: io::Error) -> OpenFault {
         OpenFault::System
     }

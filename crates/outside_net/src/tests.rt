@@ -289,12 +289,20 @@ fn fails<R: Wait>(rt: &R, posts: &mut [HostPost]) -> bool {
     }
 }
 
-// A door has one link out at a time.
+fn give_back(posts: &mut [HostPost], link: TcpLink) {
+    if let Some(post) = posts.first_mut() {
+        post.door.done(link);
+    }
+}
+
+// A door has one link out at a time, and the next one when that was given back.
 #[test]
 fn a_door_wants_its_link_back(rt: HostRuntime) -> Result<(), Fail> {
     let mut posts = posts_of(&rt, 1, 0)?;
-    let (_link, _peer) = connect(&rt, posts.as_mut_slice(), 0)?;
+    let (link, _peer) = connect(&rt, posts.as_mut_slice(), 0)?;
     assert!(rt; fails(&rt, posts.as_mut_slice()));
+    give_back(posts.as_mut_slice(), link);
+    let (_next, _other_peer) = connect(&rt, posts.as_mut_slice(), 0)?;
     Ok(())
 }
 
