@@ -1,0 +1,40 @@
+use Rattle.std.proofs.Common.{◌≡◌}
+use Rattle.script_play.specs.declared.status.Status.TheVariants as status
+use Rattle.serve_run.proofs.Running.{by_printing, printed, run_served}
+use Rattle.serve_run.proofs.serving.run.Goals as goal
+
+pub returns-clause-served : goal.returns-clause-served
+returns-clause-served g c =
+    let served = rw c.as_slice.ensures.value at c.in_ok-house.ensures.served in
+    printed c.print_report.result _ _ c.args.serving.now.domain c.args.serving.now.workers c.args.serving.now.connections c.in_ok-list.list.items
+    (g.P.Ports.tapes c.args.ports.now) (g.P.Ports.tapes c.serve_ports.new.ports) _ _ _ c.in_ok-list.ensures.read
+    (run_served c.args.serving.now.domain c.args.serving.now.workers c.args.serving.now.connections c.in_ok-list.list.items
+    (g.P.Ports.tapes c.args.ports.now) (g.P.Ports.tapes c.serve_ports.new.ports) c.in_ok-house.house served c.print_report.ensures.numbers)
+    c.print_report.ensures.written
+
+pub returns-clause-accounts : goal.returns-clause-accounts
+returns-clause-accounts g c =
+    by_printing c.print_report.result _ c.print_report.ensures.others (λ n e. absurd (let k : status.WriteFault ≡ status.Accounts n = e in cc))
+    (λ n e. absurd (let k : status.NoMemory ≡ status.Accounts n = e in cc))
+
+pub returns-clause-read : goal.returns-clause-read
+returns-clause-read g c =
+    by_printing c.print_report.result _ c.print_report.ensures.others (λ e. absurd (let k : status.WriteFault ≡ status.ReadFault = e in cc))
+    (λ e. absurd (let k : status.NoMemory ≡ status.ReadFault = e in cc))
+
+pub returns-clause-listened : goal.returns-clause-listened
+returns-clause-listened g c =
+    by_printing c.print_report.result _ c.print_report.ensures.others (λ e. absurd (let k : status.WriteFault ≡ status.ListenFault = e in cc))
+    (λ e. absurd (let k : status.NoMemory ≡ status.ListenFault = e in cc))
+
+pub returns-clause-usage : goal.returns-clause-usage
+returns-clause-usage g c =
+    by_printing c.print_report.result _ c.print_report.ensures.others (
+      λ e. absurd (let k : status.WriteFault ≡ status.Usage = e in cc),
+      λ e. absurd (let k : status.WriteFault ≡ status.Done = e in cc),
+      λ n e. absurd (let k : status.WriteFault ≡ status.Script n = e in cc),
+    ) (
+      λ e. absurd (let k : status.NoMemory ≡ status.Usage = e in cc),
+      λ e. absurd (let k : status.NoMemory ≡ status.Done = e in cc),
+      λ n e. absurd (let k : status.NoMemory ≡ status.Script n = e in cc),
+    )

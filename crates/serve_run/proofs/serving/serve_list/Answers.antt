@@ -1,0 +1,7 @@
+use Rattle.serve_run.proofs.Running.{served_over}
+use Rattle.serve_run.proofs.serving.serve_list.Goals as goal
+
+pub returns-in-Ok-clause-served : goal.returns-in-Ok-clause-served
+returns-in-Ok-clause-served g c =
+    served_over c.attend.result.1 c.args.serving.now.domain c.args.serving.now.workers c.args.list.now c.in-Ok.accounts _ _ _ c.attend.ensures.served
+    c.in-Ok.ensures.new c.in-Ok.ensures.read

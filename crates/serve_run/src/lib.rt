@@ -1,0 +1,11 @@
+//! Runs the server: the list of accounts is read, the ports are opened, and workers serve what comes until all doors shut or failed.
+#![tactic(auto)]
+
+mod list;
+mod opening;
+mod report;
+mod serving;
+#[cfg(test)]
+mod tests;
+
+pub use serving::{Serving, serve};

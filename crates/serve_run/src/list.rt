@@ -1,0 +1,31 @@
+//! The list of accounts.
+
+ghost use Rattle.std.specs.Prelude.{◌≡◌, ◌⊎◌, ◌≤◌, IfErr, IfOk};
+ghost use Rattle.outside.specs.Devices.{Rose};
+ghost use Rattle.serve_run.specs.Services.{ReadsList};
+
+use outside::{Got, Source};
+use script_play::Status;
+use std::alloc::Global;
+
+/// No list of accounts is longer.
+const MOST_LIST: usize = 8_388_608;
+
+/// What the source has, to its end or past 8,388,608 bytes.
+pub(crate) fn read_list<S: Source>(alloc: Global, source: &mut S) -> Result<Vec<u8>, Status>
+    ensures read { IfOk result (λ list. ReadsList (S.left source.old) (S.left source.new) list.items) }
+    ensures falls { S.faults source.old ≤ S.faults source.new }
+    ensures failed { IfErr result (λ s. s ≡ Status.ReadFault → Rose (S.faults source.old) (S.faults source.new)) }
+    ensures others { IfErr result (λ s. (s ≡ Status.ReadFault) ⊎ (s ≡ Status.NoMemory)) }
+{
+    let mut list = Vec::new(alloc);
+    let mut buffer = [0u8; 4096];
+    while list.len() <= MOST_LIST {
+        match source.read(&mut buffer) {
+            Got::Bytes(count) => list.extend_from_slice(&buffer[..count])?,
+            Got::End => return Ok(list),
+            Got::Failed => return Err(Status::ReadFault),
+        }
+    }
+    Ok(list)
+}

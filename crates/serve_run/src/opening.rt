@@ -1,0 +1,72 @@
+//! Accounts, and a house for their users.
+
+ghost use Rattle.std.specs.Prelude.{◌≡◌, ◌⊎◌, ◌≤◌, [], IfErr, IfOk, Ok, length, map, true};
+ghost use Rattle.std.specs.List.{list_all};
+ghost use Rattle.account_book.specs.Entries.{entry_of};
+ghost use Rattle.account_book.specs.Lists.{entries_of, names_of};
+ghost use Rattle.jid_core.specs.Preparation.{is_local};
+ghost use Rattle.house_core.specs.Houses.{held};
+ghost use Rattle.house_model.specs.Histories.{StandsFor};
+ghost use Rattle.house_model.specs.States.{opening};
+ghost use Rattle.outside.specs.Devices.{Rose};
+ghost use Rattle.serve_run.specs.Services.{IsRefused};
+
+use account_book::{Accounts, BookFault};
+use house_core::House;
+use jid_core::{Jid, Part};
+use outside::{Filled, Ports};
+use script_play::Status;
+use stanza_tree::NoMemory;
+use std::alloc::Global;
+
+/// The accounts of a list. The secret is the key of what is told to names without one.
+pub(crate) fn accounts_of(alloc: Global, list: &[u8], secret: [u8; 32]) -> Result<Accounts, Status>
+    ensures read { IfOk result (λ book. entries_of list.now ≡ Ok (map entry_of book.accounts)) }
+    ensures refused { IfErr result (IsRefused (entries_of list.now)) }
+{
+    match Accounts::read(alloc, list, secret) {
+        Ok(accounts) => Ok(accounts),
+        Err(BookFault::NoMemory) => Err(Status::NoMemory),
+        Err(BookFault::Line { line, kind: _ }) => Err(Status::Accounts(line)),
+    }
+}
+
+/// The names of accounts.
+fn users_of(alloc: Global, accounts: &Accounts) -> Result<Vec<Part>, NoMemory>
+    ensures names { IfOk result (λ users. users.items ≡ names_of accounts.now.accounts) }
+    ensures prepared { list_all is_local (names_of accounts.now.accounts) ≡ true }
+    ensures few { length accounts.now.accounts ≤ 4096 }
+{
+    let mut users = Vec::new(alloc);
+    for account in accounts.names() {
+        users.push(account.name.copy(alloc)?)?;
+    }
+    Ok(users)
+}
+
+/// A house for the users of accounts, before its first event.
+pub(crate) fn house_of(
+    alloc: Global,
+    domain: &Jid,
+    accounts: &Accounts,
+    workers: u32,
+) -> Result<House, NoMemory>
+    ensures new { IfOk result (λ h. StandsFor (opening domain.now (names_of accounts.now.accounts) workers) [] (held h)) }
+    ensures lines { IfOk result (λ h. length h.table.lines ≡ workers) }
+{
+    let users = users_of(alloc, accounts)?;
+    House::new(alloc, domain, users.as_slice(), workers)
+}
+
+/// Random bytes that nobody else knows.
+pub(crate) fn secret_of<P: Ports>(ports: &mut P) -> Result<[u8; 32], Status>
+    ensures kept { P.faults ports.old ≤ P.faults ports.new }
+    ensures cause { IfErr result (λ s. (s ≡ Status.ListenFault) × Rose (P.faults ports.old) (P.faults ports.new)) }
+    ensures tapes { P.tapes ports.new ≡ P.tapes ports.old }
+{
+    let mut secret = [0u8; 32];
+    match ports.fill(&mut secret) {
+        Filled::Full => Ok(secret),
+        Filled::Failed => Err(Status::ListenFault),
+    }
+}
