@@ -1,7 +1,7 @@
 -- A link that was served, and given back.
-use Rattle.std.proofs.Common.{◌≡◌, ℕ, List, Bool, subst, ◌∙◌}
+use Rattle.std.proofs.Common.{◌≡◌, ℕ, ◌<◌, ◌&&◌, List, Bool, false, not, nat_eq, nat_le, arith, sym, ap, subst, ne_eqb, leb-false, ◌∙◌}
 use Rattle.std.specs.Prelude.{Option}
-use Rattle.outside.specs.Doors.{TakesBack, Untold}
+use Rattle.outside.specs.Doors.{TakesBack, Untold, reached}
 use Rattle.outside.specs.Plans.{raised}
 use Rattle.outside.specs.Tapes.{Mark}
 use Rattle.house_model.specs.Histories.{Turn}
@@ -9,7 +9,7 @@ use Rattle.conn_asks.specs.declared.ended.Ended.{Ended}
 use Rattle.conn_asks.specs.declared.ended.Ended.TheVariants as ended
 use Rattle.conn_flow.specs.Duties.{Site}
 use Rattle.conn_serve.specs.Connections.{Caused, Rises, Went, counts_of, marked_at, told}
-use Rattle.conn_serve.specs.Shifts.{Visited, shift}
+use Rattle.conn_serve.specs.Shifts.{IsWithin, Visited, shift}
 
 pub visited : (o : Site) (x : Ended) (blank tape : Option (List Mark)) (tapes tapes1 tapes2 : Option (List (List Mark))) (turns turns' : List Turn)
     (moments moments' : Option (List ℕ)) (drawn drawn' : Option (List (List ℕ))) (links links1 links2 f f' e e' d d' : ℕ) (marked marked' : Bool)
@@ -30,3 +30,10 @@ visited o x blank tape tapes tapes1 tapes2 turns turns' moments moments' drawn d
     mark = mark;
   },
 )
+
+-- a link came, so the quota was not reached
+pub within_more : (quota links quota' links' : ℕ) → quota' ≡ quota → links' ≡ raised links → reached quota links ≡ false → IsWithin quota' links'
+within_more quota links quota' links' same counted more = λ some.
+    let open_ended : nat_eq quota 0 ≡ false = ne_eqb quota 0 (λ none. some (same ∙ none)) in
+    let fewer : links < quota = leb-false quota links (ap (λ t. not t && nat_le quota links) (sym open_ended) ∙ more) in
+    omega (arith, counted, same, fewer)

@@ -1,5 +1,5 @@
 -- What a worker does: it serves one link after the other.
-use Rattle.std.specs.Prelude.{◌≡◌, ◌≤◌, ℕ, List, [], ◌∷◌, ◌++◌, length, Bool, true, false, Option, Some, None, if◌then◌else◌}
+use Rattle.std.specs.Prelude.{◌≡◌, ◌≢◌, ◌≤◌, ℕ, List, [], ◌∷◌, ◌++◌, length, Bool, true, false, Option, Some, None, if◌then◌else◌}
 use Rattle.outside.specs.Devices.{Rose}
 use Rattle.outside.specs.Doors.{TakesBack, Untold}
 use Rattle.outside.specs.Plans.{raised}
@@ -45,6 +45,10 @@ pub record Visited (o : Site) (a : Shift) (x : Ended) (b : Shift) : Type 0 where
 abbrev pub Serves : Site → Shift → List Ended → Shift → Type 0
 Serves o a [] b = b ≡ a
 Serves o a (x ∷ more) b = (mid : Shift) × Visited o a x mid × Serves o mid more b
+
+-- no more links came than a quota other than 0
+abbrev pub IsWithin : ℕ → ℕ → Type 0
+IsWithin quota links = quota ≢ 0 → links ≤ quota
 
 -- how a worker ended: its door shut where its quota was reached, or failed, which it counts
 abbrev pub Ends : Worked → Bool → (before now : ℕ) → Type 0

@@ -7,7 +7,7 @@ ghost use Rattle.house_model.specs.Promises.{Safe};
 ghost use Rattle.hall.specs.Desks.{turns_of};
 ghost use Rattle.conn_serve.specs.Connections.{site_of};
 ghost use Rattle.conn_serve.specs.Serving.{Attended, EndsNow};
-ghost use Rattle.conn_serve.specs.Shifts.{Attends, Ends, shift};
+ghost use Rattle.conn_serve.specs.Shifts.{Attends, Ends, IsWithin, shift};
 
 use crate::service::serve;
 use account_book::Accounts;
@@ -39,6 +39,7 @@ fn attend<W: Wait, D: Desk, G: Door, C: Clock, I: Dice>(
     ensures line { D.line pass.new ≡ D.line pass.old }
     ensures history { StartsWith (D.seen pass.new) (D.seen pass.old) }
     ensures quota { G.quota post.new.door ≡ G.quota post.old.door }
+    ensures within { IsWithin (G.quota post.old.door) (G.links post.old.door) → IsWithin (G.quota post.new.door) (G.links post.new.door) }
     ensures kept { G.faults post.old.door ≤ G.faults post.new.door }
     ensures ends { EndsNow result (reached (G.quota post.new.door) (G.links post.new.door)) (G.faults post.old.door) (G.faults post.new.door) }
     ensures attended { Attended (site_of (D.line pass.old) (D.opening desk.now).head.domain.domain accounts.now)
@@ -75,6 +76,7 @@ pub fn work<W: Wait, D: Desk, G: Door, C: Clock, I: Dice>(
     ensures line { D.line pass.new ≡ D.line pass.old }
     ensures history { StartsWith (D.seen pass.new) (D.seen pass.old) }
     ensures quota { G.quota post.new.door ≡ G.quota post.old.door }
+    ensures within { IsWithin (G.quota post.old.door) (G.links post.old.door) → IsWithin (G.quota post.new.door) (G.links post.new.door) }
     ensures kept { G.faults post.old.door ≤ G.faults post.new.door }
     ensures ends { Ends result (reached (G.quota post.new.door) (G.links post.new.door)) (G.faults post.old.door) (G.faults post.new.door) }
     ensures serves { Attends (site_of (D.line pass.old) (D.opening desk.now).head.domain.domain accounts.now)

@@ -13,7 +13,7 @@ use Rattle.hall.specs.Stories.{Stands}
 use Rattle.conn_serve.specs.declared.worker.Worked.{Worked}
 use Rattle.conn_serve.specs.declared.worker.Worked.TheVariants.{DoorFault, Shut}
 use Rattle.conn_serve.specs.Connections.{site_of}
-use Rattle.conn_serve.specs.Shifts.{Attends, Shift, shift}
+use Rattle.conn_serve.specs.Shifts.{Attends, IsWithin, Shift, shift}
 
 -- what a post tells: the tapes of the links that its door took back, the moments of its clock and the draws of its dice; how many links and faults
 -- the door counts, its quota, and how many faults the dice count
@@ -48,10 +48,11 @@ abbrev pub EndedBy : Bool → Telling → Telling → Type 0
 EndedBy true a b = Rose a.faults b.faults
 EndedBy false a b = reached b.quota b.links ≡ true
 
--- how a worker ended; its quota stays, and its faults never fall
+-- how a worker ended; its quota stays and no more links come than that, and its faults never fall
 pub record Ended (failed : Bool) (a b : Telling) : Type 0 where
   pub by : EndedBy failed a b
   pub quota : b.quota ≡ a.quota
+  pub within : IsWithin a.quota a.links → IsWithin b.quota b.links
   pub kept : a.faults ≤ b.faults
 
 -- all of them, where it is said whether a door failed

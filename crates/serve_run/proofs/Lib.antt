@@ -1,2 +1,4 @@
-mod Endings
+mod Counting
+mod Doors
+pub mod Endings
 mod Running

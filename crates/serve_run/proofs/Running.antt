@@ -1,5 +1,5 @@
 -- What a run of the server rests on.
-use Rattle.std.proofs.Common.{◌≡◌, ◌⊎◌, ℕ, suc, ◌+◌, ◌-◌, ◌^◌, ◌≤◌, min, List, [], ◌∷◌, ◌++◌, length, map, Bool, true, false, Result, Ok, Err, IfOk, IfErr, OnOk, refl, sym, ap, subst, ◌∙◌, inl, inr, append_assoc, arith}
+use Rattle.std.proofs.Common.{◌≡◌, ◌⊎◌, ℕ, suc, ◌+◌, ◌-◌, ◌^◌, ◌<◌, ◌≤◌, min, List, [], ◌∷◌, ◌++◌, length, map, Bool, true, false, Result, Ok, Err, IfOk, IfErr, OnOk, refl, sym, ap, subst, ◌∙◌, inl, inr, append_assoc, arith}
 use Rattle.std.proofs.Math.Logic.{∥∥₁_elim}
 use Rattle.std.proofs.Props.{props}
 use Rattle.std.specs.List.{list_any}
@@ -20,7 +20,8 @@ use Rattle.script_play.specs.declared.status.Status.TheVariants as status
 use Rattle.conn_serve.specs.declared.worker.Worked.{Worked}
 use Rattle.conn_serve.specs.declared.worker.Worked.TheVariants.{DoorFault, Shut}
 use Rattle.conn_staff.specs.Staffs.{AllEnded, Staffed, Telling, worked_by}
-use Rattle.serve_run.specs.Services.{AllOpened, IsRefused, ReadsList, Refused, Served, ServedBy, SomeRose, report}
+use Rattle.serve_run.proofs.Doors.{as-many-ended, dice-counted, links-added, quotas-filled}
+use Rattle.serve_run.specs.Services.{AllOpened, Gathered, GivenBack, HasListened, IsRefused, ReadsList, Refused, Served, ServedBy, SomeRose, Tally, report, tally}
 
 -- Workers: each door shut, or one failed.
 
@@ -149,23 +150,36 @@ as_many P tell (x ∷ xs) = ap suc (as_many P tell xs)
 pub length_told : (P : Type 0) (tell : P → Telling) (xs : List P) (n : ℕ) → length xs ≡ n → length (map tell xs) ≡ n
 length_told P tell xs n h = as_many P tell xs ∙ h
 
-pub gathers_told : (P : Type 0) (tell : P → Telling) (old mid now : Option (List (List (List Mark)))) (xs : List P) → mid ≡ old
-    → Gathers mid (map (λ (x : P). (tell x).tapes) xs) now → Gathers old (map (λ (a : Telling). a.tapes) (map tell xs)) now
-gathers_told P tell old mid now xs same gathers =
-    subst (λ (l : List (Option (List (List Mark)))). Gathers old l now) (sym (map_both P Telling (Option (List (List Mark))) tell (λ (a : Telling). a.tapes) xs))
-    (subst (λ (m : Option (List (List (List Mark)))). Gathers m (map (λ (x : P). (tell x).tapes) xs) now) same gathers)
+gathers_told : (P : Type 0) (tell : P → Telling) (old now : Option (List (List (List Mark)))) (xs : List P)
+    → Gathers old (map (λ (x : P). (tell x).tapes) xs) now → Gathers old (map (λ (a : Telling). a.tapes) (map tell xs)) now
+gathers_told P tell old now xs gathers =
+    subst (λ (l : List (Option (List (List Mark)))). Gathers old l now) (sym (map_both P Telling (Option (List (List Mark))) tell (λ (a : Telling). a.tapes) xs)) gathers
+
+counts_told : (P : Type 0) (tell : P → Telling) (count : Telling → ℕ) (n f : ℕ) (xs : List P) → f ≡ added n (map (λ (x : P). count (tell x)) xs)
+    → f ≡ added n (map count (map tell xs))
+counts_told P tell count n f xs same = same ∙ ap (added n) (sym (map_both P Telling ℕ tell count xs))
+
+-- posts that are taken back are given back to the ports
+pub given_told : (P : Type 0) (tell : P → Telling) (ports mid now : Tally) (xs : List P) → mid ≡ ports
+    → Gathers mid.tapes (map (λ (x : P). (tell x).tapes) xs) now.tapes → now.links ≡ added mid.links (map (λ (x : P). (tell x).links) xs)
+    → now.dice ≡ added mid.dice (map (λ (x : P). (tell x).dice) xs) → Gathered ports (map tell xs) now
+given_told P tell ports mid now xs same tapes links dice = subst (λ (t : Tally). Gathered t (map tell xs) now) same (record {
+  tapes = gathers_told P tell mid.tapes now.tapes xs tapes;
+  links = counts_told P tell (λ (a : Telling). a.links) mid.links now.links xs links;
+  dice = counts_told P tell (λ (a : Telling). a.dice) mid.dice now.dice xs dice;
+})
 
 pub faults_told : (P : Type 0) (tell : P → Telling) (n f : ℕ) (xs : List P) → f ≡ added n (map (λ (x : P). (tell x).faults) xs)
     → f ≡ added n (map (λ (a : Telling). a.faults) (map tell xs))
 faults_told P tell n f xs same = same ∙ ap (added n) (sym (map_both P Telling ℕ tell (λ (a : Telling). a.faults) xs))
 
 pub posts_served : (r : Result HouseRecord Status) (domain : Address) (workers quota : ℕ) (list : List ℕ) (before now : List Telling)
-    (tapes tapes' : Option (List (List (List Mark)))) → IfOk r (λ left. ServedBy domain workers list before now (held left)) → length before ≡ workers
-    → AllOpened quota before → Gathers tapes (map (λ (a : Telling). a.tapes) now) tapes'
+    (ports ports' : Tally) → IfOk r (λ left. ServedBy domain workers list before now (held left)) → length before ≡ workers
+    → AllOpened quota before → Gathered ports now ports'
     → IfOk r (λ left. (b : List Telling) × (n : List Telling) × (length b ≡ workers) × AllOpened quota b × ServedBy domain workers list b n (held left)
-    × Gathers tapes (map (λ (a : Telling). a.tapes) n) tapes')
-posts_served (Ok left) domain workers quota list before now tapes tapes' served many opened gathers = (before, now, many, opened, served, gathers)
-posts_served (Err s) domain workers quota list before now tapes tapes' served many opened gathers = tt
+    × Gathered ports n ports')
+posts_served (Ok left) domain workers quota list before now ports ports' served many opened gathers = (before, now, many, opened, served, gathers)
+posts_served (Err s) domain workers quota list before now ports ports' served many opened gathers = tt
 
 itself_least : (n : ℕ) → n ≤ n
 itself_least n = omega arith
@@ -203,12 +217,12 @@ numbers_known house o h numbers known = (
 line_by : (links links' turns turns' : ℕ) → links ≡ links' → turns ≡ turns' → report links turns ≡ report links' turns'
 line_by links links' turns turns' a b = ap (λ (n : ℕ). report n turns) a ∙ ap (λ (n : ℕ). report links' n) b
 
-pub run_served : (domain : Address) (workers quota : ℕ) (list : List ℕ) (tapes tapes' : Option (List (List (List Mark)))) (house : HouseRecord)
+pub run_served : (domain : Address) (workers quota : ℕ) → 0 < workers → (list : List ℕ) (ports ports' : Tally) (house : HouseRecord)
     → ((b : List Telling) × (n : List Telling) × (length b ≡ workers) × AllOpened quota b × ServedBy domain workers list b n (held house)
-    × Gathers tapes (map (λ (a : Telling). a.tapes) n) tapes')
+    × Gathered ports n ports')
     → ((o : State) (h : List Turn) → Stands o h (held house) → (house.table.opened ≡ openings h) × (house.turns ≡ length h))
-    → Served domain workers quota list tapes tapes' (report house.table.opened house.turns)
-run_served domain workers quota list tapes tapes' house (before, now, many, opened, (accounts, read, staffed), gathers) numbers = record {
+    → Served domain workers quota list ports ports' (report house.table.opened house.turns)
+run_served domain workers quota some list ports ports' house (before, now, many, opened, (accounts, read, staffed), gathers) numbers = record {
   accounts = accounts;
   read = read;
   before = before;
@@ -223,15 +237,24 @@ run_served domain workers quota list tapes tapes' house (before, now, many, open
       in
       line_by house.table.opened (openings staffed.history) house.turns (length staffed.history) n.0 n.1;
   gathered = gathers;
+  counted =
+      links-added (opening domain (names_of accounts.accounts) workers) accounts staffed.history (held house) workers quota ports.links ports'.links before now some refl many
+      staffed.stands staffed.each opened gathers.links;
+  filled =
+      quotas-filled (opening domain (names_of accounts.accounts) workers) accounts staffed.history (held house) workers quota before now staffed.failed refl many
+      staffed.stands staffed.each staffed.ended staffed.worked_is opened;
+  dice_failed =
+      dice-counted (opening domain (names_of accounts.accounts) workers) accounts staffed.history ports.dice ports'.dice before now staffed.each
+      (subst (λ n. 0 < n) (sym many) some) gathers.dice;
 }
 
 pub printed : (r : Result (Unit {0}) Status) (left left' : Option (List ℕ)) (domain : Address) (workers quota : ℕ) (list : List ℕ)
-    (tapes tapes' : Option (List (List (List Mark)))) (took took' : Option (List ℕ)) (line : List ℕ) → ReadsList left left' list
-    → Served domain workers quota list tapes tapes' line → ((taken : List ℕ) → took ≡ Some taken → OnOk r (took' ≡ Some (taken ++ line)))
-    → OnOk r ((l : List ℕ) × (said : List ℕ) × ReadsList left left' l × Served domain workers quota l tapes tapes' said
+    (ports ports' : Tally) (took took' : Option (List ℕ)) (line : List ℕ) → ReadsList left left' list
+    → Served domain workers quota list ports ports' line → ((taken : List ℕ) → took ≡ Some taken → OnOk r (took' ≡ Some (taken ++ line)))
+    → OnOk r ((l : List ℕ) × (said : List ℕ) × ReadsList left left' l × Served domain workers quota l ports ports' said
     × ((taken : List ℕ) → took ≡ Some taken → took' ≡ Some (taken ++ said)))
-printed (Ok done) left left' domain workers quota list tapes tapes' took took' line reads served told = (list, line, reads, served, told)
-printed (Err s) left left' domain workers quota list tapes tapes' took took' line reads served told = tt
+printed (Ok done) left left' domain workers quota list ports ports' took took' line reads served told = (list, line, reads, served, told)
+printed (Err s) left left' domain workers quota list ports ports' took took' line reads served told = tt
 
 -- printing fails by the sink or by memory alone
 pub by_printing : (r : Result (Unit {0}) Status) (Y : Status → Type 0) → IfErr r (λ s. (s ≡ status.WriteFault) ⊎ (s ≡ status.NoMemory)) → Y status.WriteFault
@@ -239,3 +262,30 @@ pub by_printing : (r : Result (Unit {0}) Status) (Y : Status → Type 0) → IfE
 by_printing (Ok done) Y is fault memory = tt
 by_printing (Err s) Y (inl is) fault memory = subst Y (sym is) fault
 by_printing (Err s) Y (inr is) fault memory = subst Y (sym is) memory
+
+-- what was given back, where the run did not end by itself
+pub given_after : (r : Result HouseRecord Status) (workers : ℕ) (ports ports' : Tally) → GivenBack workers ports ports'
+    → IfErr r (λ s. HasListened s → GivenBack workers ports ports')
+given_after (Ok left) workers ports ports' given = tt
+given_after (Err s) workers ports ports' given = λ listened. given
+
+pub same_tally : (tapes tapes' : Option (List (List (List Mark)))) (links links' dice dice' : ℕ) → tapes ≡ tapes' → links ≡ links' → dice ≡ dice'
+    → tally tapes links dice ≡ tally tapes' links' dice'
+same_tally tapes tapes' links links' dice dice' a b d =
+    ap (λ (t : Option (List (List (List Mark)))). tally t links dice) a ∙ ap (λ n. tally tapes' n dice) b ∙ ap (tally tapes' links') d
+
+pub given_printed : (r : Result (Unit {0}) Status) (domain : Address) (workers quota : ℕ) (list : List ℕ) (ports ports' : Tally) (house : HouseRecord)
+    → ((b : List Telling) × (n : List Telling) × (length b ≡ workers) × AllOpened quota b × ServedBy domain workers list b n (held house)
+    × Gathered ports n ports') → IfErr r (λ s. HasListened s → GivenBack workers ports ports')
+given_printed (Ok done) domain workers quota list ports ports' house served = tt
+given_printed (Err s) domain workers quota list ports ports' house (before, now, many, opened, (accounts, read, staffed), given) =
+    λ listened. (now, as-many-ended before now staffed.failed staffed.ended ∙ many, given)
+
+pub many_back : (P : Type 0) (tell : P → Telling) (o : State) (accounts : Book) (before now : List P) (worked : Worked) (k : Kept)
+    → Staffed o accounts (map tell before) (map tell now) worked k → length now ≡ length before
+many_back P tell o accounts before now worked k s =
+    sym (as_many P tell now) ∙ as-many-ended (map tell before) (map tell now) s.failed s.ended ∙ as_many P tell before
+
+pub given_served : (domain : Address) (workers quota : ℕ) (list : List ℕ) (ports ports' : Tally) (line : List ℕ) → Served domain workers quota list ports ports' line
+    → GivenBack workers ports ports'
+given_served domain workers quota list ports ports' line s = (s.now, as-many-ended s.before s.now s.staffed.failed s.staffed.ended ∙ s.as_many, s.gathered)

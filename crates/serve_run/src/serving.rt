@@ -8,9 +8,8 @@ ghost use Rattle.house_core.specs.Houses.{held};
 ghost use Rattle.house_model.specs.Histories.{StandsFor};
 ghost use Rattle.house_model.specs.States.{State, opening};
 ghost use Rattle.outside.specs.Devices.{Rose};
-ghost use Rattle.outside.specs.Posts.{Gathers};
 ghost use Rattle.conn_staff.specs.Staffs.{Staffed, Telling, telling};
-ghost use Rattle.serve_run.specs.Services.{AllOpened, IsRefused, ReadsList, Refused, Served, ServedBy, SomeRose};
+ghost use Rattle.serve_run.specs.Services.{AllOpened, Gathered, GivenBack, HasListened, IsRefused, ReadsList, Refused, Served, ServedBy, SomeRose, tally};
 
 use crate::list::read_list;
 use crate::opening::{accounts_of, house_of, secret_of};
@@ -52,7 +51,7 @@ fn open<P: Ports>(
     ports: &mut P,
 ) -> Result<(Accounts, House), Status>
     ensures kept { P.faults ports.old ≤ P.faults ports.new }
-    ensures tapes { P.tapes ports.new ≡ P.tapes ports.old }
+    ensures same { tally (P.tapes ports.new) (P.links ports.new) (P.dice_faults ports.new) ≡ tally (P.tapes ports.old) (P.links ports.old) (P.dice_faults ports.old) }
     ensures read { IfOk result (λ r. entries_of list.now ≡ Ok (map entry_of r.0.accounts)) }
     ensures new { IfOk result (λ r. StandsFor (opening serving.now.domain (names_of r.0.accounts) serving.now.workers) [] (held r.1)) }
     ensures lines { IfOk result (λ r. length r.1.table.lines ≡ serving.now.workers) }
@@ -95,6 +94,7 @@ where
     requires posts { length posts.items ≡ workers }
     requires lines { workers ≡ length house.table.lines }
     requires new { (o : State) × StandsFor o [] (held house) }
+    ensures many { length result.0.items ≡ length posts.items }
     ensures served { IfOk result.1 (λ left. (o : State) → StandsFor o [] (held house) → Staffed o accounts.now
         (map (λ p. telling (G.tapes p.door) (C.told p.clock) (I.drawn p.dice) (G.links p.door) (G.faults p.door) (G.quota p.door) (I.faults p.dice)) posts.items)
         (map (λ p. telling (G.tapes p.door) (C.told p.clock) (I.drawn p.dice) (G.links p.door) (G.faults p.door) (G.quota p.door) (I.faults p.dice)) result.0.items)
@@ -127,7 +127,8 @@ where
     requires some { 0 < serving.now.workers }
     requires posts { length posts.items ≡ serving.now.workers }
     ensures kept { P.faults ports.old ≤ P.faults ports.new }
-    ensures tapes { P.tapes ports.new ≡ P.tapes ports.old }
+    ensures same { tally (P.tapes ports.new) (P.links ports.new) (P.dice_faults ports.new) ≡ tally (P.tapes ports.old) (P.links ports.old) (P.dice_faults ports.old) }
+    ensures many { length result.0.items ≡ length posts.items }
     ensures served { IfOk result.1 (λ left. ServedBy serving.now.domain serving.now.workers list.now
         (map (λ p. telling (P.Door.tapes p.door) (P.Clock.told p.clock) (P.Dice.drawn p.dice) (P.Door.links p.door) (P.Door.faults p.door) (P.Door.quota p.door) (P.Dice.faults p.dice)) posts.items)
         (map (λ p. telling (P.Door.tapes p.door) (P.Clock.told p.clock) (P.Dice.drawn p.dice) (P.Door.links p.door) (P.Door.faults p.door) (P.Door.quota p.door) (P.Dice.faults p.dice)) result.0.items)
@@ -170,7 +171,8 @@ where
     ensures kept { P.faults ports.old ≤ P.faults ports.new }
     ensures served { IfOk result (λ left. (before : List Telling) × (now : List Telling) × (length before ≡ serving.now.workers)
         × AllOpened serving.now.connections before × ServedBy serving.now.domain serving.now.workers list.now before now (held left)
-        × Gathers (P.tapes ports.old) (map (λ (a : Telling). a.tapes) now) (P.tapes ports.new)) }
+        × Gathered (tally (P.tapes ports.old) (P.links ports.old) (P.dice_faults ports.old)) now (tally (P.tapes ports.new) (P.links ports.new) (P.dice_faults ports.new))) }
+    ensures given { IfErr result (λ s. HasListened s → GivenBack serving.now.workers (tally (P.tapes ports.old) (P.links ports.old) (P.dice_faults ports.old)) (tally (P.tapes ports.new) (P.links ports.new) (P.dice_faults ports.new))) }
     ensures refused { IfErr result (λ s. Refused list.now s (Rose (P.faults ports.old) (P.faults ports.new))) }
 {
     let address = address_of(alloc, serving.port)?;
@@ -201,8 +203,9 @@ where
     requires some { 0 < serving.now.workers }
     ensures kept { P.faults ports.old ≤ P.faults ports.new }
     ensures served { OnOk result ((list : List ℕ) × (line : List ℕ) × ReadsList (S.left source.old) (S.left source.new) list
-        × Served serving.now.domain serving.now.workers serving.now.connections list (P.tapes ports.old) (P.tapes ports.new) line
+        × Served serving.now.domain serving.now.workers serving.now.connections list (tally (P.tapes ports.old) (P.links ports.old) (P.dice_faults ports.old)) (tally (P.tapes ports.new) (P.links ports.new) (P.dice_faults ports.new)) line
         × ((taken : List ℕ) → K.took sink.old ≡ Some taken → K.took sink.new ≡ Some (taken ++ line))) }
+    ensures given { IfErr result (λ s. HasListened s → GivenBack serving.now.workers (tally (P.tapes ports.old) (P.links ports.old) (P.dice_faults ports.old)) (tally (P.tapes ports.new) (P.links ports.new) (P.dice_faults ports.new))) }
     ensures accounts { IfErr result (λ s. (n : ℕ) → s ≡ Status.Accounts n → (list : List ℕ) × ReadsList (S.left source.old) (S.left source.new) list
         × IsRefused (entries_of list) s) }
     ensures read { IfErr result (λ s. s ≡ Status.ReadFault → Rose (S.faults source.old) (S.faults source.new)) }
@@ -237,8 +240,9 @@ where
     requires some { 0 < serving.now.workers }
     ensures kept { P.faults ports.old ≤ P.faults ports.new }
     ensures served { result ≡ Status.Done → (list : List ℕ) × (line : List ℕ) × ReadsList (S.left source.old) (S.left source.new) list
-        × Served serving.now.domain serving.now.workers serving.now.connections list (P.tapes ports.old) (P.tapes ports.new) line
+        × Served serving.now.domain serving.now.workers serving.now.connections list (tally (P.tapes ports.old) (P.links ports.old) (P.dice_faults ports.old)) (tally (P.tapes ports.new) (P.links ports.new) (P.dice_faults ports.new)) line
         × ((taken : List ℕ) → K.took sink.old ≡ Some taken → K.took sink.new ≡ Some (taken ++ line)) }
+    ensures given { HasListened result → GivenBack serving.now.workers (tally (P.tapes ports.old) (P.links ports.old) (P.dice_faults ports.old)) (tally (P.tapes ports.new) (P.links ports.new) (P.dice_faults ports.new)) }
     ensures accounts { (n : ℕ) → result ≡ Status.Accounts n → (list : List ℕ) × ReadsList (S.left source.old) (S.left source.new) list
         × ((kind : LineKind) × (entries_of list ≡ Err (n, kind))) }
     ensures read { result ≡ Status.ReadFault → Rose (S.faults source.old) (S.faults source.new) }

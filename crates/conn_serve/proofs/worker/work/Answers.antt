@@ -14,6 +14,7 @@ loop-preserved g c =
       line = c.in-None-attend.ensures.line ∙ c.loop.invariant.line;
       history = starts_both _ _ _ c.loop.invariant.history c.in-None-attend.ensures.history;
       quota = c.in-None-attend.ensures.quota ∙ c.loop.invariant.quota;
+      within = λ w. c.in-None-attend.ensures.within (c.loop.invariant.within w);
       kept = grind (arith, c.loop.invariant.kept, c.in-None-attend.ensures.kept);
       serves = (
         c.loop.invariant.serves.0 ++ attended.0 ∷ [],
@@ -25,6 +26,9 @@ pub returns-in-Some-attend-clause-serves : goal.returns-in-Some-attend-clause-se
 returns-in-Some-attend-clause-serves g c =
     let attended = rw c.loop.invariant.line at c.in-Some-attend.ensures.attended in
     attends_same _ _ c.loop.invariant.serves.0 _ _ c.loop.invariant.serves.1 attended
+
+pub returns-in-Some-attend-clause-within : goal.returns-in-Some-attend-clause-within
+returns-in-Some-attend-clause-within g c = λ w. c.in-Some-attend.ensures.within (c.loop.invariant.within w)
 
 pub returns-in-Some-attend-clause-safe : goal.returns-in-Some-attend-clause-safe
 returns-in-Some-attend-clause-safe g c =

@@ -3,7 +3,7 @@ use Rattle.turn_lock.specs.Histories.{StartsWith}
 use Rattle.hall.specs.Desks.{turns_of}
 use Rattle.conn_asks.specs.declared.ended.Ended.{Ended}
 use Rattle.conn_serve.specs.Connections.{site_of}
-use Rattle.conn_serve.specs.Shifts.{Serves, shift}
+use Rattle.conn_serve.specs.Shifts.{IsWithin, Serves, shift}
 use Rattle.conn_serve.proofs.worker.work.Given as goal
 
 abbrev pub invariant-loop : goal.invariant-loop
@@ -14,6 +14,7 @@ invariant-loop g l = record {
   line : g.D.Desk.line l.pass ≡ g.D.Desk.line l.fn.pass;
   history : StartsWith (g.D.Desk.seen l.pass) (g.D.Desk.seen l.fn.pass);
   quota : g.G.Door.quota l.post.door ≡ g.G.Door.quota l.fn.post.door;
+  within : IsWithin (g.G.Door.quota l.fn.post.door) (g.G.Door.links l.fn.post.door) → IsWithin (g.G.Door.quota l.post.door) (g.G.Door.links l.post.door);
   kept : g.G.Door.faults l.fn.post.door ≤ g.G.Door.faults l.post.door;
   serves : (ends : List Ended) × Serves (site_of (g.D.Desk.line l.fn.pass) (g.D.Desk.opening l.desk).head.domain.domain l.accounts)
       (shift (g.G.Door.tapes l.fn.post.door) (turns_of (g.D.Desk.line l.fn.pass) (g.D.Desk.seen l.fn.pass)) (g.C.Clock.told l.fn.post.clock)
