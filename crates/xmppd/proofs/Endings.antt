@@ -4,7 +4,8 @@ use Rattle.std.specs.Prelude.{◌⊎◌, Option}
 use Rattle.script_play.specs.declared.status.Status.{Status}
 use Rattle.script_play.specs.declared.status.Status.TheVariants as status
 use Rattle.xmppd.specs.Accounts.{Accounted, IsPasswordLine, MakesLine, Refuses}
-use Rattle.xmppd.specs.Commands.{IsRefusal, task_of}
+use Rattle.serve_words.specs.Options.{IsRefusal}
+use Rattle.xmppd.specs.Commands.{task_of}
 use Rattle.script_play.specs.Runs.{Front, Replayed}
 use Rattle.script_play.proofs.Openings.{first-short}
 

@@ -2,4 +2,5 @@ pub mod Conjunctions
 pub mod Endings
 pub mod GrammarLemmas
 pub mod Passwords
+pub mod Servings
 pub mod TaskLemmas

@@ -8,7 +8,8 @@ use Rattle.account_book.specs.Fields.{on, salt_in}
 use Rattle.clap.specs.Words.{Row, fault_of, first_of, matches_of}
 use Rattle.script_play.specs.declared.status.Status.{Status}
 use Rattle.script_play.specs.declared.status.Status.TheVariants as status
-use Rattle.xmppd.specs.Commands.{IsRefusal, Play, Make, account_task, is_positional, make_of, name_in, replay_task, task_of}
+use Rattle.serve_words.specs.Options.{IsRefusal}
+use Rattle.xmppd.specs.Commands.{Play, Make, account_task, is_positional, make_of, name_in, replay_task, serve_task, task_of}
 use Rattle.xmppd.specs.Grammars.{Parses, account_grammar, bare, pair_in}
 use Rattle.xmppd.proofs.Conjunctions.{two-true, true-two}
 use Rattle.xmppd.proofs.GrammarLemmas.{replay_none, replay-first, account-none, account-one, account-two, account-three, account-name, account-salt}
@@ -20,12 +21,16 @@ task_replay words first rest is named = ap task_of (is ∙ ap (λ w. w ∷ rest)
 pub task_account : (words : List (List ℕ)) (first : List ℕ) (rest : List (List ℕ)) → words ≡ first ∷ rest → first ≡ codes "account" → task_of words ≡ account_task rest
 task_account words first rest is named = ap task_of (is ∙ ap (λ w. w ∷ rest) named)
 
+pub task_serve : (words : List (List ℕ)) (first : List ℕ) (rest : List (List ℕ)) → words ≡ first ∷ rest → first ≡ codes "serve" → task_of words ≡ serve_task rest
+task_serve words first rest is named = ap task_of (is ∙ ap (λ w. w ∷ rest) named)
+
 pub task_none : (words : List (List ℕ)) (first : List ℕ) (rest : List (List ℕ)) → words ≡ first ∷ rest → (first ≡ codes "replay" → ⊥) → (first ≡ codes "account" → ⊥)
-    → task_of words ≡ None
-task_none words first rest is other another =
+    → (first ≡ codes "serve" → ⊥) → task_of words ≡ None
+task_none words first rest is other another third =
     ap task_of is
     ∙ cond-false (bytes_eq first (codes "replay")) (replay_task rest) _ (unlike first (codes "replay") other)
-    ∙ cond-false (bytes_eq first (codes "account")) (account_task rest) None (unlike first (codes "account") another)
+    ∙ cond-false (bytes_eq first (codes "account")) (account_task rest) _ (unlike first (codes "account") another)
+    ∙ cond-false (bytes_eq first (codes "serve")) (serve_task rest) None (unlike first (codes "serve") third)
   where
     unlike : (xs ys : List ℕ) → (xs ≡ ys → ⊥) → bytes_eq xs ys ≡ false
     unlike xs ys ne = bool (bytes_eq xs ys) refl

@@ -1,17 +1,18 @@
 -- The words of a command line, and what they ask for.
-use Rattle.std.specs.Prelude.{◌≡◌, ℕ, ◌==◌, Bool, false, not, ◌&&◌, List, [], ◌∷◌, Option, Some, None, Result, Ok, Err, ⊤, bytes_eq, codes, if◌then◌else◌}
+use Rattle.std.specs.Prelude.{◌≡◌, ◌<◌, ℕ, ◌==◌, ⊤, Bool, false, not, ◌&&◌, List, [], ◌∷◌, Option, Some, None, Result, Ok, Err, bytes_eq, codes, if◌then◌else◌}
 use Rattle.std.specs.Result.{result_ok}
 use Rattle.jid_core.specs.Preparation.{local_of}
 use Rattle.account_book.specs.Fields.{on, salt_in}
+use Rattle.serve_words.specs.Options.{IsRefusal, Wanted, wanted, wanted_of}
 use Rattle.xmppd.specs.declared.words.Command.{Command}
 use Rattle.xmppd.specs.declared.words.Command.TheVariants as command
 use Rattle.script_play.specs.declared.status.Status.{Status}
-use Rattle.script_play.specs.declared.status.Status.TheVariants as status
 
--- to play a script, or to make the account line of a name with a salt
+-- to play a script, to make the account line of a name with a salt, or to serve
 pub data Task : Type 0 where
   Play : Task
   Make : (name salt : List ℕ) → Task
+  Serve : Wanted → Task
 
 -- a positional word: it is not empty, and begins with no `-`
 abbrev pub is_positional : List ℕ → Bool
@@ -36,21 +37,18 @@ abbrev pub replay_task : List (List ℕ) → Option Task
 replay_task [] = Some Play
 replay_task _ = None
 
+-- the words after `serve`
+abbrev pub serve_task : List (List ℕ) → Option Task
+serve_task words = on (wanted words) (λ w. Some (Serve w))
+
 -- what the words ask for: the first names the command by its exact bytes
 abbrev pub task_of : List (List ℕ) → Option Task
 task_of [] = None
-task_of (first ∷ words) = if bytes_eq first (codes "replay") then replay_task words else if bytes_eq first (codes "account") then account_task words else None
-
--- bad words, or no memory to read them
-abbrev pub IsRefusal : {X : Type 0} → Option X → Status → Type 0
-IsRefusal read status.Usage = read ≡ None
-IsRefusal read status.NoMemory = ⊤
-IsRefusal read status.Done = ⊥
-IsRefusal read (status.Accounts n) = ⊥
-IsRefusal read (status.Script n) = ⊥
-IsRefusal read status.ReadFault = ⊥
-IsRefusal read status.WriteFault = ⊥
-IsRefusal read status.ListenFault = ⊥
+task_of (first ∷ words) =
+    if bytes_eq first (codes "replay") then replay_task words
+    else if bytes_eq first (codes "account") then account_task words
+    else if bytes_eq first (codes "serve") then serve_task words
+    else None
 
 -- what was read of a word, or why nothing was
 abbrev pub Reads : {X Y : Type 0} → (Y → X) → Option X → Result Y Status → Type 0
@@ -61,3 +59,10 @@ Reads seen read (Err s) = IsRefusal read s
 abbrev pub task : Command → Task
 task command.Replay = Play
 task (command.Account name salt) = Make name salt.items
+task (command.Serve serving) = Serve (wanted_of serving)
+
+-- a server has a worker at least
+abbrev pub HasWorker : Command → Type 0
+HasWorker command.Replay = ⊤
+HasWorker (command.Account name salt) = ⊤
+HasWorker (command.Serve serving) = 0 < serving.workers

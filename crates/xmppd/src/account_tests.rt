@@ -2,14 +2,16 @@
 //! RFC 5802, section 5.
 
 use crate::run::run;
+use crate::tests::{no_ports, words_of};
 use account_book::Accounts;
 use outside::{MemSink, MemSource};
 use scram_core::{Found, Hello, Mechanism};
 use script_play::Status;
-use stanza_tree::Text;
 use std::alloc::Global;
 use std::process::Abort;
+use std::sync::Wait;
 use std::test::Fail;
+use std::thread::Threads;
 
 const SALT: &[u8] = b"QSXCR+Q6sek8bf92";
 
@@ -29,16 +31,12 @@ struct Given<'a> {
     writing: u64,
 }
 
-fn words_of(alloc: Global, words: &[&[u8]]) -> Result<Vec<Text>, Fail> {
-    let mut texts = Vec::new(alloc);
-    for word in words {
-        texts.push(Text::of(alloc, word)?)?;
-    }
-    Ok(texts)
-}
-
 // How the run ends, and what it writes.
-fn play<R: Abort>(rt: &R, alloc: Global, given: &Given) -> Result<(Status, Vec<u8>), Fail> {
+fn play<R: Abort + Threads + Wait + Sync>(
+    rt: &R,
+    alloc: Global,
+    given: &Given,
+) -> Result<(Status, Vec<u8>), Fail> {
     assert!(rt; given.piece > 0);
     let words = words_of(alloc, given.words)?;
     let bytes = Vec::from_slice(alloc, given.source)?;
@@ -46,12 +44,19 @@ fn play<R: Abort>(rt: &R, alloc: Global, given: &Given) -> Result<(Status, Vec<u
     let writing = Vec::from_array(alloc, [given.writing])?;
     let mut source = MemSource::new(bytes, given.piece, reading);
     let mut sink = MemSink::new(alloc, 4096, given.piece, writing)?;
-    let status = run(rt, alloc, words.as_slice(), &mut source, &mut sink);
+    let status = run(
+        rt,
+        alloc,
+        words.as_slice(),
+        &mut source,
+        &mut sink,
+        &mut no_ports(alloc),
+    );
     Ok((status, Vec::from_slice(alloc, sink.bytes())?))
 }
 
 // With the words of `account` for this name, where nothing fails.
-fn play_account<R: Abort>(
+fn play_account<R: Abort + Threads + Wait + Sync>(
     rt: &R,
     alloc: Global,
     name: &[u8],
@@ -223,7 +228,11 @@ const BAD_VALUES: [(&[u8], &[u8]); 14] = [
     ),
 ];
 
-fn expect_usage<R: Abort>(rt: &R, alloc: Global, words: &[&[u8]]) -> Result<(), Fail> {
+fn expect_usage<R: Abort + Threads + Wait + Sync>(
+    rt: &R,
+    alloc: Global,
+    words: &[&[u8]],
+) -> Result<(), Fail> {
     let given = Given {
         words,
         source: b"pencil\n",

@@ -11,6 +11,8 @@ mod presence_tests;
 mod roster_tests;
 mod run;
 #[cfg(test)]
+mod serve_tests;
+#[cfg(test)]
 mod session_tests;
 #[cfg(test)]
 mod stanza_tests;
@@ -21,26 +23,42 @@ mod tests;
 mod words;
 
 use crate::run::run;
-use outside_net::{ReaderSource, WriterSink};
+use outside::{Sink, Source};
+use outside_net::{NetPorts, ReaderSource, WriterSink};
 use script_play::Status;
 use stanza_tree::Text;
+use std::alloc::Global;
+use std::net::Net;
 use std::process::ExitCode;
+use std::random::RandomSource;
+use std::sync::Wait;
+use std::thread::Threads;
+use std::time::Clock;
 use std::{env, io};
 
 fn main(rt: HostRuntime) -> ExitCode {
-    let status = run_on(&rt);
+    let status = match words_of(&rt) {
+        Ok(words) => {
+            let mut source = ReaderSource::new(rt.reader());
+            let mut sink = WriterSink::new(io::writer(&rt));
+            run_on(&rt, rt.alloc(), words.as_slice(), &mut source, &mut sink)
+        }
+        Err(status) => status,
+    };
     let _told = tell(&rt, status);
     ExitCode::from(status.number())
 }
 
-fn run_on(rt: &HostRuntime) -> Status {
-    let words = match words_of(rt) {
-        Ok(words) => words,
-        Err(status) => return status,
-    };
-    let mut source = ReaderSource::new(rt.reader());
-    let mut sink = WriterSink::new(io::writer(rt));
-    run(rt, rt.alloc(), words.as_slice(), &mut source, &mut sink)
+/// Runs the command over the network, the clock and the random bytes of this system.
+fn run_on<
+    R: Threads + Wait + Sync + Net + Clock + RandomSource + Clone + Send + Drop,
+    S: Source,
+    K: Sink,
+>(rt: &R, alloc: Global, words: &[Text], source: &mut S, sink: &mut K) -> Status {
+    match rt.clone() {
+        Ok(copy) => run(rt, alloc, words, source, sink, &mut NetPorts::new(copy)),
+        Err(_) => Status::NoMemory,
+    }
 }
 
 /// The words after the program's name. One that is not UTF-8 is a bad word.

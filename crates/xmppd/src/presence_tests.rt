@@ -4,7 +4,9 @@ use crate::tests::{Played, expect_play};
 use script_play::Status;
 use std::alloc::Global;
 use std::process::Abort;
+use std::sync::Wait;
 use std::test::Fail;
+use std::thread::Threads;
 
 // Alice has two sessions, and Bob has one.
 const BEFORE: &[u8] = b"house example.org alice,bob 3
@@ -156,7 +158,7 @@ nothing due
 ];
 
 /// Plays a story after the sessions are bound, and expects what it prints.
-pub(crate) fn expect_story<R: Abort>(
+pub(crate) fn expect_story<R: Abort + Threads + Wait + Sync>(
     rt: &R,
     alloc: Global,
     story: &(&[u8], &[u8]),

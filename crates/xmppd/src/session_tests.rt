@@ -4,7 +4,9 @@ use crate::tests::{Played, expect_play};
 use script_play::Status;
 use std::alloc::Global;
 use std::process::Abort;
+use std::sync::Wait;
 use std::test::Fail;
+use std::thread::Threads;
 
 // Alice's session counts and can be resumed, and three stanzas were given to her.
 const BEFORE: &[u8] = b"house example.org alice,bob 3
@@ -252,7 +254,12 @@ swept 1
     ),
 ];
 
-fn expect_story<R: Abort>(rt: &R, alloc: Global, lines: &[u8], told: &[u8]) -> Result<(), Fail> {
+fn expect_story<R: Abort + Threads + Wait + Sync>(
+    rt: &R,
+    alloc: Global,
+    lines: &[u8],
+    told: &[u8],
+) -> Result<(), Fail> {
     let mut script = Vec::from_slice(alloc, BEFORE)?;
     script.extend_from_slice(lines)?;
     let mut printed = Vec::from_slice(alloc, PRINTED)?;

@@ -4,7 +4,9 @@ use crate::tests::{Played, expect_play};
 use script_play::Status;
 use std::alloc::Global;
 use std::process::Abort;
+use std::sync::Wait;
 use std::test::Fail;
+use std::thread::Threads;
 
 const BEFORE: &[u8] = b"house example.org alice,bob 2
 open 0
@@ -160,7 +162,11 @@ const ROWS: [Row; 26] = [
     ),
 ];
 
-fn expect_row<R: Abort>(rt: &R, alloc: Global, row: &Row) -> Result<(), Fail> {
+fn expect_row<R: Abort + Threads + Wait + Sync>(
+    rt: &R,
+    alloc: Global,
+    row: &Row,
+) -> Result<(), Fail> {
     let (sent, hers, his) = row;
     let mut script = Vec::from_slice(alloc, BEFORE)?;
     script.extend_from_slice(sent)?;

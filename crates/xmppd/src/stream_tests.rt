@@ -4,7 +4,9 @@ use crate::tests::{Played, expect_play};
 use script_play::Status;
 use std::alloc::Global;
 use std::process::Abort;
+use std::sync::Wait;
 use std::test::Fail;
+use std::thread::Threads;
 
 // A header, a message with a character of two bytes, a reference and a comment's like in words, an iq, and the close tag.
 const STREAM: &[u8] =
@@ -21,7 +23,11 @@ item close
 const DIGITS: &[u8] = b"0123456789abcdef";
 
 // The two digits of a byte.
-fn push_hex<R: Abort>(rt: &R, byte: u8, script: &mut Vec<u8>) -> Result<(), Fail> {
+fn push_hex<R: Abort + Threads + Wait + Sync>(
+    rt: &R,
+    byte: u8,
+    script: &mut Vec<u8>,
+) -> Result<(), Fail> {
     assert!(rt; DIGITS.len() == 16);
     script.push(DIGITS[(byte / 16) as usize])?;
     script.push(DIGITS[(byte % 16) as usize])?;
@@ -29,7 +35,7 @@ fn push_hex<R: Abort>(rt: &R, byte: u8, script: &mut Vec<u8>) -> Result<(), Fail
 }
 
 // Begins a `feed` line at each so many bytes.
-fn push_feeds<R: Abort>(
+fn push_feeds<R: Abort + Threads + Wait + Sync>(
     rt: &R,
     bytes: &[u8],
     piece: usize,
@@ -45,7 +51,7 @@ fn push_feeds<R: Abort>(
     Ok(())
 }
 
-fn expect_items<R: Abort>(
+fn expect_items<R: Abort + Threads + Wait + Sync>(
     rt: &R,
     alloc: Global,
     bytes: &[u8],

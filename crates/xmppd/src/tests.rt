@@ -2,12 +2,14 @@
 ghost use Rattle.std.specs.Prelude.{◌<◌};
 
 use crate::run::run;
-use outside::{MemSink, MemSource};
+use outside::{CleanDice, CleanPorts, MemSink, MemSource};
 use script_play::Status;
 use stanza_tree::Text;
 use std::alloc::Global;
 use std::process::Abort;
+use std::sync::Wait;
 use std::test::Fail;
+use std::thread::Threads;
 
 // The words of `replay`.
 fn replay_words(alloc: Global) -> Result<Vec<Text>, Fail> {
@@ -41,7 +43,12 @@ fn sink_of(alloc: Global, piece: usize, fails: u64) -> Result<MemSink, Fail>
     Ok(MemSink::new(alloc, 4096, piece, fails)?)
 }
 
-pub(crate) fn expect_play<R: Abort>(
+/// Ports that nobody comes to.
+pub(crate) fn no_ports(alloc: Global) -> CleanPorts {
+    CleanPorts::new(Vec::new(alloc), CleanDice::new(Vec::new(alloc)))
+}
+
+pub(crate) fn expect_play<R: Abort + Threads + Wait + Sync>(
     rt: &R,
     alloc: Global,
     script: &[u8],
@@ -51,7 +58,14 @@ pub(crate) fn expect_play<R: Abort>(
     let words = replay_words(alloc)?;
     let mut source = source_of(alloc, script, want.piece, want.reading)?;
     let mut sink = sink_of(alloc, want.piece, want.writing)?;
-    let status = run(rt, alloc, words.as_slice(), &mut source, &mut sink);
+    let status = run(
+        rt,
+        alloc,
+        words.as_slice(),
+        &mut source,
+        &mut sink,
+        &mut no_ports(alloc),
+    );
     assert_eq!(rt; status, want.status);
     assert!(rt; sink.bytes() == want.printed);
     Ok(())
@@ -103,7 +117,11 @@ fn a_notice_is_handed_on(rt: HostRuntime) -> Result<(), Fail> {
 // A script of the house of alice and bob at example.org with two lines, and what comes of its later lines.
 type Story<'a> = (&'a [u8], Status, &'a [u8]);
 
-fn expect_story<R: Abort>(rt: &R, alloc: Global, story: &Story) -> Result<(), Fail> {
+fn expect_story<R: Abort + Threads + Wait + Sync>(
+    rt: &R,
+    alloc: Global,
+    story: &Story,
+) -> Result<(), Fail> {
     let (lines, status, printed) = story;
     let mut script = Vec::from_slice(alloc, b"house example.org alice,bob 2\n")?;
     script.extend_from_slice(lines)?;
@@ -156,7 +174,11 @@ fn stories_are_played(rt: HostRuntime) -> Result<(), Fail> {
 }
 
 // A refusal is told at its line, and what came before it was printed.
-fn expect_refused<R: Abort>(rt: &R, alloc: Global, line: &[u8]) -> Result<(), Fail> {
+fn expect_refused<R: Abort + Threads + Wait + Sync>(
+    rt: &R,
+    alloc: Global,
+    line: &[u8],
+) -> Result<(), Fail> {
     let mut lines = Vec::from_slice(alloc, b"open 0\n")?;
     lines.extend_from_slice(line)?;
     lines.extend_from_slice(b"\npull 0 0\n")?;
@@ -310,7 +332,12 @@ fn a_front_is_written(rt: HostRuntime) -> Result<(), Fail> {
 }
 
 // A line of 200,000 bytes is of no grammar, and one of 200,001 passes the limit: both are refused where they stand.
-fn expect_long<R: Abort>(rt: &R, alloc: Global, words: usize, want: &Played) -> Result<(), Fail> {
+fn expect_long<R: Abort + Threads + Wait + Sync>(
+    rt: &R,
+    alloc: Global,
+    words: usize,
+    want: &Played,
+) -> Result<(), Fail> {
     let mut script = Vec::from_slice(alloc, b"house example.org alice 1\nnote 0 0 a@b ")?;
     for _word in 0..words {
         script.push(b'x')?;
@@ -343,24 +370,34 @@ fn lines_and_stanzas_have_limits(rt: HostRuntime) -> Result<(), Fail> {
 // Words that are no command.
 #[test]
 fn other_words_are_no_command(rt: HostRuntime) -> Result<(), Fail> {
-    let cases: [&[&[u8]]; 5] = [
+    let cases: [&[&[u8]]; 8] = [
         &[],
         &[b"serv"],
         &[b"replay", b"x"],
         &[b"replay", b""],
         &[b"Replay"],
+        &[b"serve", b"--workers", b"0"],
+        &[b"serve", b"--port", b"5", b"--port", b"6"],
+        &[b"serve", b"--"],
     ];
     for words in cases {
         let words = words_of(rt.alloc(), words)?;
         let mut source = source_of(rt.alloc(), b"", 1, 0)?;
         let mut sink = sink_of(rt.alloc(), 1, 0)?;
-        let status = run(&rt, rt.alloc(), words.as_slice(), &mut source, &mut sink);
+        let status = run(
+            &rt,
+            rt.alloc(),
+            words.as_slice(),
+            &mut source,
+            &mut sink,
+            &mut no_ports(rt.alloc()),
+        );
         assert_eq!(rt; status, Status::Usage);
     }
     Ok(())
 }
 
-fn words_of(alloc: Global, words: &[&[u8]]) -> Result<Vec<Text>, Fail> {
+pub(crate) fn words_of(alloc: Global, words: &[&[u8]]) -> Result<Vec<Text>, Fail> {
     let mut texts = Vec::new(alloc);
     for word in words {
         texts.push(Text::of(alloc, word)?)?;

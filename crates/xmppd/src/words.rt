@@ -3,7 +3,8 @@ ghost use Rattle.std.specs.Prelude.{◌≡◌, ◌⊎◌, true, false, Some, IfO
 ghost use Rattle.std.specs.List.{list_all};
 ghost use Rattle.account_book.specs.Fields.{salt_in};
 ghost use Rattle.clap.specs.Words.{HasMatchesOf, app_of, fault_of, first_of, found_of, is_simple_and_free, matches_of, rows_of, rule_of};
-ghost use Rattle.xmppd.specs.Commands.{IsRefusal, Reads, account_task, is_positional, name_in, replay_task, task, task_of};
+ghost use Rattle.serve_words.specs.Options.{IsRefusal};
+ghost use Rattle.xmppd.specs.Commands.{HasWorker, Reads, account_task, is_positional, name_in, replay_task, serve_task, task, task_of};
 ghost use Rattle.xmppd.specs.Grammars.{Parses, account_grammar, bare, pair_in, wanted};
 
 use base64::DecodeAllocError;
@@ -12,6 +13,8 @@ use clap::error::ErrorKind;
 use clap::{Arg, ArgAction, ArgMatches};
 use jid_core::{JidFault, Part};
 use script_play::Status;
+use serve_run::Serving;
+use serve_words::read_serve;
 use stanza_tree::{NoMemory, Text};
 use std::alloc::{AllocError, Global};
 
@@ -28,11 +31,14 @@ pub enum Command {
     Replay,
     /// Makes the account line of a prepared local part with a salt of 8 to 64 bytes.
     Account { name: Part, salt: Vec<u8> },
+    /// Serves clients.
+    Serve(Serving),
 }
 
 /// The command of these words. `Usage` comes exactly where they are none.
 pub fn read_words(alloc: Global, words: &[Text]) -> Result<Command, Status>
-    ensures { Reads task (task_of words.now) result }
+    ensures task { Reads task (task_of words.now) result }
+    ensures some { IfOk result HasWorker }
 {
     let Some((first, rest)) = words.split_first() else {
         return Err(Status::Usage);
@@ -43,12 +49,27 @@ pub fn read_words(alloc: Global, words: &[Text]) -> Result<Command, Status>
     if first.bytes() == b"account".as_slice() {
         return read_account(alloc, rest);
     }
+    if first.bytes() == b"serve".as_slice() {
+        return read_serving(alloc, rest);
+    }
     Err(Status::Usage)
+}
+
+/// `serve` with its options.
+fn read_serving(alloc: Global, words: &[Text]) -> Result<Command, Status>
+    ensures task { Reads task (serve_task words.now) result }
+    ensures some { IfOk result HasWorker }
+{
+    match read_serve(alloc, words) {
+        Ok(serving) => Ok(Command::Serve(serving)),
+        Err(status) => Err(status),
+    }
 }
 
 /// `replay` has no further words.
 fn read_replay(alloc: Global, words: &[Text]) -> Result<Command, Status>
-    ensures { Reads task (replay_task words.now) result }
+    ensures task { Reads task (replay_task words.now) result }
+    ensures some { IfOk result HasWorker }
 {
     let texts = read_positionals(alloc, words)?;
     match parse_replay(alloc, texts.as_slice()) {
@@ -59,7 +80,8 @@ fn read_replay(alloc: Global, words: &[Text]) -> Result<Command, Status>
 
 /// `account NAME SALT`.
 fn read_account(alloc: Global, words: &[Text]) -> Result<Command, Status>
-    ensures { Reads task (account_task words.now) result }
+    ensures task { Reads task (account_task words.now) result }
+    ensures some { IfOk result HasWorker }
 {
     let texts = read_positionals(alloc, words)?;
     let (name, salt) = account_values(alloc, texts.as_slice())?;

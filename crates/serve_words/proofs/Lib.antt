@@ -1,0 +1,5 @@
+mod CutLemmas
+mod GrammarLemmas
+mod NumberLemmas
+mod OptionLemmas
+mod WantedLemmas

@@ -1,0 +1,11 @@
+//! The words of `serve`: options anywhere, each at most once, as `--x=V` or as `--x` and then V.
+#![tactic(auto)]
+
+mod grammar;
+mod number;
+mod option;
+#[cfg(test)]
+mod tests;
+mod words;
+
+pub use words::read_serve;

@@ -1,0 +1,132 @@
+//! The options, and what of each stands in the words.
+
+ghost use Rattle.std.specs.Prelude.{◌≡◌, None};
+ghost use Rattle.std.specs.Option.{option_map};
+ghost use Rattle.jid_core.specs.Cuts.{after, before};
+ghost use Rattle.serve_words.specs.Options.{Finds, Meets, is_same, is_value, joined, named};
+
+/// An option of `serve`.
+#[derive(Clone, Copy)]
+pub enum Name {
+    Domain,
+    Port,
+    Workers,
+    Connections,
+}
+
+/// An option with its value.
+#[derive(Clone, Copy)]
+pub struct Given<'a> {
+    pub name: Name,
+    pub value: &'a str,
+}
+
+/// The option that a text names.
+pub(crate) fn named(text: &str) -> Option<Name>
+    ensures { result ≡ named text.now }
+{
+    if text == "--domain" {
+        Some(Name::Domain)
+    } else if text == "--port" {
+        Some(Name::Port)
+    } else if text == "--workers" {
+        Some(Name::Workers)
+    } else if text == "--connections" {
+        Some(Name::Connections)
+    } else {
+        None
+    }
+}
+
+/// Whether a word is not empty and begins with no `-`.
+pub(crate) fn is_value(word: &[u8]) -> bool
+    ensures { result ≡ is_value word.now }
+{
+    match word {
+        [] => false,
+        [first, ..] => *first != b'-',
+    }
+}
+
+/// What stands before the first `=` and after it.
+fn split(word: &str) -> (&str, Option<&str>)
+    ensures before { result.0.now ≡ before 61 word.now }
+    ensures after { option_map (λ text. text.now) result.1 ≡ after 61 word.now }
+{
+    match word.split_once('=') {
+        Some((text, value)) => (text, Some(value)),
+        None => (word, None),
+    }
+}
+
+/// The option and its value in a word `--x=V`, where V isn't empty.
+pub(crate) fn joined(word: &str) -> Option<Given<'_>>
+    ensures { Finds (joined word.now) result }
+{
+    let (text, value) = split(word);
+    let value = value?;
+    if value.is_empty() {
+        return None;
+    }
+    Some(Given {
+        name: named(text)?,
+        value,
+    })
+}
+
+/// What a word is after a name that may wait for its value.
+#[derive(Clone, Copy)]
+pub enum Met<'a> {
+    /// An option with its value.
+    Whole(Given<'a>),
+    /// A name that waits for its value.
+    Waits(Name),
+    /// Neither.
+    Neither,
+}
+
+/// What a word is where a name may wait for its value.
+pub(crate) fn meet(waits: Option<Name>, word: &str) -> Met<'_>
+    ensures { Meets waits word.now result }
+{
+    match waits {
+        Some(name) => {
+            if is_value(word.as_bytes()) {
+                Met::Whole(Given { name, value: word })
+            } else {
+                Met::Neither
+            }
+        }
+        None => meet_first(word),
+    }
+}
+
+fn meet_first(word: &str) -> Met<'_>
+    ensures { Meets None word.now result }
+{
+    let (_, value) = split(word);
+    if value.is_some() {
+        match joined(word) {
+            Some(given) => Met::Whole(given),
+            None => Met::Neither,
+        }
+    } else {
+        match named(word) {
+            Some(name) => Met::Waits(name),
+            None => Met::Neither,
+        }
+    }
+}
+
+/// Whether both are the same option.
+pub(crate) fn is_same(one: Name, other: Name) -> bool
+    ensures { result ≡ is_same one other }
+{
+    match (one, other) {
+        (Name::Domain, Name::Domain) => true,
+        (Name::Port, Name::Port) => true,
+        (Name::Workers, Name::Workers) => true,
+        (Name::Connections, Name::Connections) => true,
+        _ => false,
+    }
+}

@@ -1,0 +1,180 @@
+//! Runs of `serve`: at ports whose links have ended, and over TCP.
+
+use crate::run::run;
+use crate::run_on;
+use crate::tests::{no_ports, words_of};
+use outside::{MemSink, MemSource};
+use script_play::Status;
+use std::alloc::Global;
+use std::io::{Read, Write};
+use std::net::{IpAddr, Ipv4Addr, Net, SocketAddr, TcpStream};
+use std::sync::Wait;
+use std::test::Fail;
+use std::thread::Threads;
+use std::time::Duration;
+use std::{io, thread, time};
+
+const HEADER: &[u8] =
+    b"<stream:stream xmlns='jabber:client' xmlns:stream='http://etherx.jabber.org/streams' to='localhost' version='1.0'>";
+
+const FEATURES: &[u8] = b"</stream:features>";
+
+const CLOSE_TAG: &[u8] = b"</stream:stream>";
+
+/// The words, the list of accounts, the status, and what is printed. Each connection is opened and lost, in a turn each.
+type Case = (
+    &'static [&'static [u8]],
+    &'static [u8],
+    Status,
+    &'static [u8],
+);
+
+const CASES: [Case; 4] = [
+    (
+        &[b"serve", b"--connections", b"1"],
+        b"",
+        Status::Done,
+        b"links 4 turns 8\n",
+    ),
+    (
+        &[b"serve", b"--workers=2", b"--connections=3"],
+        b"",
+        Status::Done,
+        b"links 6 turns 12\n",
+    ),
+    (
+        &[b"serve", b"--connections", b"1"],
+        b"alice 4096",
+        Status::Accounts(1),
+        b"",
+    ),
+    (&[b"serve", b"--connections", b"x"], b"", Status::Usage, b""),
+];
+
+// How a case ends, and whether this and no more was printed.
+fn run_case<R: Threads + Wait + Sync>(
+    rt: &R,
+    alloc: Global,
+    case: &Case,
+) -> Result<(Status, bool), Fail> {
+    let (words, list, _, printed) = *case;
+    let words = words_of(alloc, words)?;
+    let mut source = MemSource::new(Vec::from_slice(alloc, list)?, 4096, Vec::new(alloc));
+    let mut sink = MemSink::new(alloc, 100, 100, Vec::new(alloc))?;
+    let status = run(
+        rt,
+        alloc,
+        words.as_slice(),
+        &mut source,
+        &mut sink,
+        &mut no_ports(alloc),
+    );
+    Ok((status, sink.bytes() == printed))
+}
+
+#[test]
+fn servers_end_as_they_must(rt: HostRuntime) -> Result<(), Fail> {
+    for (i, case) in CASES.iter().enumerate() {
+        let (status, is_printed) = run_case(&rt, rt.alloc(), case)?;
+        assert_eq!(rt; status, case.2, "case {i}");
+        assert!(rt; is_printed, "case {i}");
+    }
+    Ok(())
+}
+
+// A connection, as soon as somebody listens there.
+fn connect<R: Net<Stream = TcpStream> + time::Clock>(rt: &R, port: u16) -> io::Result<TcpStream> {
+    let address = SocketAddr::new(IpAddr::V4(Ipv4Addr::LOCALHOST), port);
+    for _attempt in 0..1000 {
+        if let Ok(peer) = TcpStream::connect(rt, address) {
+            return Ok(peer);
+        }
+        thread::sleep(rt, Duration::from_millis(10));
+    }
+    TcpStream::connect(rt, address)
+}
+
+// Whether the server says these bytes, before it says 4,096 others or nothing more.
+fn hears(alloc: Global, peer: &mut TcpStream, end: &[u8]) -> io::Result<bool> {
+    let mut said = Vec::new(alloc);
+    for _byte in 0..4096 {
+        let mut byte = [0u8];
+        if peer.read(&mut byte)? == 0 || said.push(byte[0]).is_err() {
+            return Ok(false);
+        }
+        if said.as_slice().ends_with(end) {
+            return Ok(true);
+        }
+    }
+    Ok(false)
+}
+
+// A client that begins a stream and ends it.
+fn visit<R: Net<Stream = TcpStream> + time::Clock>(rt: &R, alloc: Global) -> io::Result<bool> {
+    let mut peer = connect(rt, 15222)?;
+    peer.write_all(HEADER)?;
+    peer.write_all(CLOSE_TAG)?;
+    hears(alloc, &mut peer, CLOSE_TAG)
+}
+
+// Two clients, each of which ends its stream when both were answered.
+fn meet<R: Net<Stream = TcpStream> + time::Clock>(rt: &R, alloc: Global) -> io::Result<bool> {
+    let mut first = connect(rt, 15223)?;
+    let mut second = connect(rt, 15223)?;
+    first.write_all(HEADER)?;
+    second.write_all(HEADER)?;
+    let first_hears = hears(alloc, &mut first, FEATURES)?;
+    let second_hears = hears(alloc, &mut second, FEATURES)?;
+    first.write_all(CLOSE_TAG)?;
+    second.write_all(CLOSE_TAG)?;
+    let first_ends = hears(alloc, &mut first, CLOSE_TAG)?;
+    let second_ends = hears(alloc, &mut second, CLOSE_TAG)?;
+    Ok(first_hears && second_hears && first_ends && second_ends)
+}
+
+#[test]
+fn serves_a_client_over_tcp(rt: HostRuntime) -> Result<(), Fail> {
+    let words: [&[u8]; 7] = [
+        b"serve",
+        b"--port",
+        b"15222",
+        b"--workers",
+        b"1",
+        b"--connections",
+        b"1",
+    ];
+    let words = words_of(rt.alloc(), &words)?;
+    let mut source = MemSource::new(Vec::new(rt.alloc()), 1, Vec::new(rt.alloc()));
+    let mut sink = MemSink::new(rt.alloc(), 100, 100, Vec::new(rt.alloc()))?;
+    let (status, visited) = thread::join(
+        &rt,
+        || run_on(&rt, rt.alloc(), words.as_slice(), &mut source, &mut sink),
+        || visit(&rt, rt.alloc()),
+    );
+    assert!(rt; visited?);
+    assert_eq!(rt; status, Status::Done);
+    assert!(rt; sink.bytes() == b"links 1 turns 2\n".as_slice());
+    Ok(())
+}
+
+#[test]
+fn serves_two_clients_at_once(rt: HostRuntime) -> Result<(), Fail> {
+    let words: [&[u8]; 4] = [
+        b"serve",
+        b"--port=15223",
+        b"--workers=2",
+        b"--connections=1",
+    ];
+    let words = words_of(rt.alloc(), &words)?;
+    let mut source = MemSource::new(Vec::new(rt.alloc()), 1, Vec::new(rt.alloc()));
+    let mut sink = MemSink::new(rt.alloc(), 100, 100, Vec::new(rt.alloc()))?;
+    let (status, met) = thread::join(
+        &rt,
+        || run_on(&rt, rt.alloc(), words.as_slice(), &mut source, &mut sink),
+        || meet(&rt, rt.alloc()),
+    );
+    assert!(rt; met?);
+    assert_eq!(rt; status, Status::Done);
+    assert!(rt; sink.bytes() == b"links 2 turns 6\n".as_slice());
+    Ok(())
+}
