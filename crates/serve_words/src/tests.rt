@@ -8,7 +8,7 @@ use std::alloc::Global;
 use std::process::Abort;
 use std::test::Fail;
 
-const TAKEN: [(&[&[u8]], &[u8], u16, u32, u64); 7] = [
+const TAKEN: [(&[&[u8]], &[u8], u16, u32, u64); 6] = [
     (&[], b"localhost", 5222, 4, 0),
     (&[b"--port", b"15222"], b"localhost", 15222, 4, 0),
     (
@@ -47,10 +47,9 @@ const TAKEN: [(&[&[u8]], &[u8], u16, u32, u64); 7] = [
         1,
         7,
     ),
-    (&[b"--domain=[::1]"], b"[::1]", 5222, 4, 0),
 ];
 
-const REFUSED: [&[&[u8]]; 16] = [
+const REFUSED: [&[&[u8]]; 17] = [
     &[b"5222"],
     &[b"--"],
     &[b"--port"],
@@ -66,6 +65,7 @@ const REFUSED: [&[&[u8]]; 16] = [
     &[b"--connections", b"1000001"],
     &[b"--domain", b"Example.org"],
     &[b"--domain", b"alice@example.org"],
+    &[b"--domain=[::1]"],
     &[b"--listen", b"1"],
 ];
 
