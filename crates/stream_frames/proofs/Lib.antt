@@ -7,3 +7,8 @@ pub mod LookupLemmas
 pub mod ExpandedLemmas
 pub mod BuildLemmas
 mod FillLemmas
+pub mod RunLemmas
+pub mod RunWords
+pub mod RunValues
+pub mod RunNames
+pub mod RunEnds

@@ -1,6 +1,6 @@
 //! The bytes of a stream become items, however they are cut.
 
-ghost use Rattle.std.specs.Prelude.{◌≡◌, ◌≤◌, ◌<◌, ◌+◌, List, ℕ, take, length, true, false, IfOk, IfErr, OnOk, OnErr, Some, None};
+ghost use Rattle.std.specs.Prelude.{◌≡◌, ◌≤◌, ◌<◌, ◌+◌, List, ℕ, take, drop, length, true, false, IfOk, IfErr, OnOk, OnErr, Some, None};
 ghost use Rattle.std.specs.Option.{option_copied};
 ghost use Rattle.stream_grammar.specs.Reading.{Reading, reads, stopped, first_reading, reading_next, reading_after, byte_judged, waiting, handed, is_ready, is_done, is_stopped, taken, is_large_item, rules_of};
 ghost use Rattle.stream_frames.specs.Fed.{Fed, IsPrepared};
@@ -9,9 +9,11 @@ ghost use Rattle.stream_grammar.specs.Items.{told_at, in_item};
 ghost use Rattle.stream_grammar.specs.Telling.{is_few};
 ghost use Rattle.stream_grammar.specs.Building.{build_all};
 ghost use Rattle.stream_frames.specs.Builds.{building};
+ghost use Rattle.stream_frames.specs.Runs.{IsRun};
 ghost use Rattle.stream_frames.specs.Works.{work_of};
 
 use crate::built::{Builder, Ready};
+use crate::runs::work_run;
 use crate::tags::TagFault;
 use crate::tracker::Tracker;
 use crate::work::Work;
@@ -205,8 +207,28 @@ impl Framer {
         self.fault.is_some() || self.work.has_item()
     }
 
-    /// Reads a piece as `feed` does.
-    #[tactic(auto, using(stream_grammar::proofs::FeedLemmas::stays, stream_grammar::proofs::FeedLemmas::after_one, stream_grammar::proofs::FeedLemmas::rest_going))]
+    /// Reads the bytes that come first and are a run, as far as the item may have them and there is memory: how many.
+    #[tactic(auto, using(crate::proofs::RunLemmas::run_skipped))]
+    fn skip_run(&mut self, rest: &[u8]) -> usize
+        requires { is_done self.old.reading ≡ false }
+        ensures limits { self.new.limits ≡ self.old.limits }
+        ensures fits { result ≤ length rest.now }
+        ensures run { IsRun self.old.limits self.old.reading (take result rest.now) (drop result rest.now) self.new.reading }
+    {
+        let bytes = self.limits.bytes as u64;
+        if self.fault.is_some() || self.extent >= bytes {
+            return 0;
+        }
+        let room = (bytes - self.extent) as usize;
+        let within = &rest[..rest.len().min(room)];
+        let count = work_run(&mut self.tracker, &mut self.work, within);
+        self.extent += count as u64;
+        self.offset = self.offset.saturating_add(count as u64);
+        count
+    }
+
+    /// Reads a piece as `feed` does: a run at once, and else a byte.
+    #[tactic(auto, using(stream_grammar::proofs::FeedLemmas::stays, stream_grammar::proofs::FeedLemmas::after_one, stream_grammar::proofs::FeedLemmas::rest_going, crate::proofs::RunLemmas::run_after, crate::proofs::RunLemmas::run_taken))]
     fn read(&mut self, piece: &[u8]) -> Result<usize, Short>
         requires { is_ready self.old.reading ≡ true }
         ensures limits { self.new.limits ≡ self.old.limits }
@@ -218,12 +240,17 @@ impl Framer {
         if self.fault.is_some() {
             return Ok(piece.len());
         }
-        for (i, byte) in piece.iter().enumerate() {
-            if self.step(*byte).is_err() {
-                return Err(Short { taken: i });
-            }
-            if self.is_done() {
-                return Ok(i + 1);
+        let mut at = 0;
+        while at < piece.len() {
+            at += self.skip_run(&piece[at..]);
+            if at < piece.len() {
+                if self.step(piece[at]).is_err() {
+                    return Err(Short { taken: at });
+                }
+                at += 1;
+                if self.is_done() {
+                    return Ok(at);
+                }
             }
         }
         Ok(piece.len())

@@ -2,6 +2,7 @@
 #![tactic(auto)]
 
 mod builder;
+mod builder_runs;
 mod built;
 mod expanded;
 #[cfg(test)]
@@ -14,11 +15,14 @@ mod name_tests;
 mod names;
 mod namespaces;
 mod places;
+mod plain;
+mod runs;
 mod scan;
 mod tags;
 #[cfg(test)]
 mod tests;
 mod tracker;
+mod tracker_runs;
 mod work;
 
 pub use framer::{Framer, LIMITS, Short};

@@ -1,6 +1,6 @@
 //! The names of the elements that are open.
 
-ghost use Rattle.std.specs.Prelude.{◌≡◌, ◌+◌, [], ◌∷◌, ◌++◌, length, cond, None, Some, OnOk, OnErr};
+ghost use Rattle.std.specs.Prelude.{◌≡◌, ◌≤◌, ◌+◌, [], ◌∷◌, ◌++◌, take, length, cond, None, Some, OnOk, OnErr};
 ghost use Rattle.stream_frames.specs.Stacks.{raw, outer, begins_so, left_of, next_is, is_all};
 ghost use Rattle.stream_frames.specs.Moves.{is_none, is_one};
 
@@ -153,6 +153,23 @@ impl Names {
         } else {
             None
         }
+    }
+
+    /// How many of the bytes go on with the innermost name, after so many of its further bytes, and how many of these there are
+    /// then.
+    #[tactic(auto, using(crate::proofs::RunEnds::goes_on_more))]
+    pub(crate) fn goes_on_by(&self, at: usize, bytes: &[u8]) -> (usize, usize)
+        ensures fits { result.0 ≤ length bytes.now }
+        ensures same { left_of self.now at ≡ take result.0 bytes.now ++ left_of self.now result.1 }
+    {
+        let mut next = at;
+        for (i, byte) in bytes.iter().enumerate() {
+            match self.goes_on(next, *byte) {
+                Some(after) => next = after,
+                None => return (i, next),
+            }
+        }
+        (bytes.len(), next)
     }
 
     /// Whether so many further bytes are the whole innermost name.

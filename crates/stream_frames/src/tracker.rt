@@ -234,10 +234,10 @@ fn read(rules: Rules, place: Place, open: &Names, turned: &Turned) -> Result<Mov
 pub struct Tracker {
     alloc: Global,
     rules: Rules,
-    state: State,
-    standing: Standing,
-    open: Names,
-    name: OpenName,
+    pub(crate) state: State,
+    pub(crate) standing: Standing,
+    pub(crate) open: Names,
+    pub(crate) name: OpenName,
 }
 
 impl Model for Tracker {
