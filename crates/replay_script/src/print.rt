@@ -65,7 +65,7 @@ fn print_frame(text: &[u8], out: &mut Vec<u8>) -> Result<(), NoMemory>
     ensures ok { OnOk result (out.new.items ≡ out.old.items ++ frame_line text.now) }
     ensures err { OnErr result (out.new.items ≡ out.old.items) }
 {
-    let mut line = Vec::new(*out.allocator());
+    let mut line = Vec::with_capacity(*out.allocator(), text.len().saturating_add(7))?;
     line.extend_from_slice(b"frame ")?;
     line.extend_from_slice(text)?;
     line.push(b'\n')?;

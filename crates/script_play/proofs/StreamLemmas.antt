@@ -1,16 +1,13 @@
 -- The framers of places.
-use Rattle.std.proofs.Common.{◌≡◌, ℕ, zero, suc, ◌+◌, ◌<◌, ◌≤◌, List, [], ◌∷◌, ◌++◌, length, take, get_or, set, refl, sym, ap, ◌∙◌, subst, append_assoc, append-nil, Bool, true, false, ◌==◌, eq-eqb, arith}
+use Rattle.std.proofs.Common.{◌≡◌, ℕ, zero, suc, ◌+◌, ◌<◌, ◌≤◌, List, [], ◌∷◌, ◌++◌, length, get_or, set, refl, sym, ap, ◌∙◌, subst, append-nil, Bool, true, false, ◌==◌, eq-eqb, arith}
 use Rattle.std.proofs.lemmas.Bool.{eqb-true}
 use Rattle.std.proofs.lemmas.List.{get_or-set_same, get_or-set_other}
-use Rattle.std.proofs.lemmas.Grind.{flat_map-append}
-use Rattle.std.specs.Prelude.{Option, Some, None, if◌then◌else◌, option_to_list}
+use Rattle.std.specs.Prelude.{Option, Some, None, if◌then◌else◌}
 use Rattle.house_model.specs.Histories.{Turn, StandsFor}
 use Rattle.house_model.specs.States.{State, Kept}
 use Rattle.stream_grammar.specs.declared.item.Item.{Item}
-use Rattle.stream_grammar.specs.declared.item.Limits.{Limits}
-use Rattle.stream_grammar.specs.Reading.{Reading, reads, stopped, first_reading, reading_next, reading_after, handed, is_ready, is_none, is_done, taken, went, waiting}
-use Rattle.replay_script.specs.Deeds.{with_framer, item_in, items_of, print_items}
-use Rattle.replay_script.specs.Prints.{print_item}
+use Rattle.stream_grammar.specs.Reading.{Reading, reads, stopped, first_reading, reading_next, handed, is_ready, is_none, went}
+use Rattle.replay_script.specs.Deeds.{with_framer}
 use Rattle.replay_script.specs.Stanzas.{limits}
 use Rattle.script_play.specs.declared.place.Place.{Place}
 use Rattle.script_play.specs.Streams.{reading_at, framers_of}
@@ -33,51 +30,6 @@ ready_handed (reads f b n k) h = none b.item h refl
     none None h e = ap (λ (i : Option Item). reads f (record b { item = i }) n k) (sym e)
     none (Some i) h e = absurd (let bad : false ≡ true = h in cc)
 
--- one byte is taken whole
-pub one_fed : (s : Reading) (b : ℕ) → reading_after limits s (take (taken limits s (b ∷ [])) (b ∷ [])) ≡ reading_next limits s b
-one_fed (stopped f k) b = refl
-one_fed (reads f c n k) b = by (is_done (reading_next limits (reads f c n k) b))
-  where
-    by : (t : Bool) → reading_after limits (reads f c n k) (take (if t then 1 else 1 + 0) (b ∷ [])) ≡ reading_next limits (reads f c n k) b
-    by true = refl
-    by false = refl
-
-pub none_short : (s : Reading) (b n : ℕ) → n < taken limits s (b ∷ []) → n ≡ 0
-none_short (stopped f k) b n h = omega (arith, h)
-none_short (reads f c m k) b n h = by (is_done (reading_next limits (reads f c m k) b)) h
-  where
-    by : (t : Bool) → n < (if t then 1 else 1 + 0) → n ≡ 0
-    by true h = omega (arith, h)
-    by false h = omega (arith, h)
-
-pub short_ready : (s t : Reading) (b n : ℕ) → is_ready s ≡ true → n < taken limits s (b ∷ []) → t ≡ reading_after limits s (take n (b ∷ [])) → is_ready t ≡ true
-short_ready s t b n h less is =
-    ap is_ready (is ∙ ap (λ (m : ℕ). reading_after limits s (take m (b ∷ []))) (none_short s b n less)) ∙ h
-
-pub item_none : (s t : Reading) → waiting t ≡ None → item_in s t ≡ []
-item_none (stopped f k) t e = refl
-item_none (reads f b n k) t e = ap option_to_list e
-
-pub item_some : (s t : Reading) (i : Item) → waiting s ≡ None → waiting t ≡ Some i → item_in s t ≡ i ∷ []
-item_some (stopped f k) t i h e = absurd (some-none _ h)
-  where
-    some-none : {X : Type 0} (x : X) → Some x ≡ None → ⊥
-    some-none x e = cc
-item_some (reads f b n k) t i h e = ap option_to_list e
-
-pub fed_one : (l : Limits) (s held t : Reading) (b n : ℕ) → l ≡ limits → held ≡ handed s → is_ready s ≡ true → n ≡ taken l held (b ∷ []) → t ≡ reading_after l held (take n (b ∷ [])) → t ≡ reading_next limits s b
-fed_one l s held t b n same is h count read =
-    read
-    ∙ (ap (λ (m : ℕ). reading_after l held (take m (b ∷ []))) count
-    ∙ (ap (λ (x : Limits). reading_after x held (take (taken x held (b ∷ [])) (b ∷ []))) same
-    ∙ (ap (λ (x : Reading). reading_after limits x (take (taken limits x (b ∷ [])) (b ∷ []))) (is ∙ ready_handed s h) ∙ one_fed s b)))
-
-pub printed_one : (s t : Reading) (i : Item) (out new : List ℕ) → waiting s ≡ None → waiting t ≡ Some i → new ≡ out ++ print_item i → new ≡ out ++ print_items (item_in s t)
-printed_one s t i out new h e is = is ∙ ap (λ (l : List ℕ). out ++ l) (sym (append-nil (print_item i)) ∙ ap print_items (sym (item_some s t i h e)))
-
-pub printed_none : (s t : Reading) (out : List ℕ) → waiting t ≡ None → out ≡ out ++ print_items (item_in s t)
-printed_none s t out e = sym (append-nil out) ∙ ap (λ (l : List ℕ). out ++ l) (ap print_items (sym (item_none s t e)))
-
 -- a byte more
 pub went_on : (s : Reading) (b : ℕ) (bs : List ℕ) → is_ready s ≡ true → handed (went limits (handed (reading_next limits s b)) bs) ≡ handed (went limits s (b ∷ bs))
 went_on s b bs h = again (reading_next limits s b) bs ∙ ap (λ (x : Reading). handed (went limits (reading_next limits x b) bs)) (sym (ready_handed s h))
@@ -85,12 +37,6 @@ went_on s b bs h = again (reading_next limits s b) bs ∙ ap (λ (x : Reading). 
     again : (s : Reading) (bs : List ℕ) → handed (went limits (handed s) bs) ≡ handed (went limits s bs)
     again s [] = handed_twice s
     again s (c ∷ cs) = ap (λ (x : Reading). handed (went limits (reading_next limits x c) cs)) (handed_twice s)
-
-pub printed_on : (out : List ℕ) (s : Reading) (b : ℕ) (bs : List ℕ)
-    → (out ++ print_items (item_in s (reading_next limits s b))) ++ print_items (items_of (handed (reading_next limits s b)) bs) ≡ out ++ print_items (items_of s (b ∷ bs))
-printed_on out s b bs =
-    append_assoc out (print_items (item_in s (reading_next limits s b))) (print_items (items_of (handed (reading_next limits s b)) bs))
-    ∙ ap (λ (l : List ℕ). out ++ l) (sym (flat_map-append print_item (item_in s (reading_next limits s b)) (items_of (handed (reading_next limits s b)) bs)))
 
 -- Places.
 

@@ -2,3 +2,4 @@ pub mod Readings
 pub mod Runs
 pub mod Statuses
 pub mod Streams
+pub mod Feeding

@@ -1,8 +1,9 @@
 //! The framer of a connection's place.
-ghost use Rattle.std.specs.Prelude.{◌≡◌, ◌++◌, true, IfOk, OnOk};
-ghost use Rattle.stream_grammar.specs.Reading.{first_reading, reading_next, handed, is_ready, went};
-ghost use Rattle.replay_script.specs.Deeds.{item_in, items_of, print_items};
+ghost use Rattle.std.specs.Prelude.{◌≡◌, ◌≤◌, ◌<◌, ◌++◌, length, true, IfOk, OnOk};
+ghost use Rattle.stream_grammar.specs.Reading.{first_reading, handed, is_ready, went};
+ghost use Rattle.replay_script.specs.Deeds.{items_of, print_items};
 ghost use Rattle.replay_script.specs.Stanzas.{limits};
+ghost use Rattle.script_play.specs.Feeding.{FedOn};
 
 use replay_script::print_item;
 use stanza_tree::NoMemory;
@@ -27,36 +28,39 @@ impl Place {
         })
     }
 
-    #[tactic(auto, using(crate::proofs::StreamLemmas::one_fed, crate::proofs::StreamLemmas::none_short, crate::proofs::StreamLemmas::handed_ready, crate::proofs::StreamLemmas::ready_handed))]
-    /// Reads a byte, and prints the item that it ends or the fault that it has. Where there is no memory the stream is given up.
-    fn feed_byte(&mut self, byte: u8, print: &mut Vec<u8>) -> Result<(), NoMemory>
-        ensures read { OnOk result (self.new.framer.reading ≡ handed (reading_next limits self.old.framer.reading byte)) }
-        ensures printed { OnOk result (print.new.items ≡ print.old.items ++ print_items (item_in self.old.framer.reading (reading_next limits self.old.framer.reading byte))) }
+    /// Reads a piece up to the byte that ends an item or has a fault, and prints what it brings: how many bytes. After a fault they
+    /// are passed over. Where there is no memory the stream is given up.
+    #[tactic(auto, using(crate::proofs::StreamLemmas::handed_ready, crate::proofs::PieceLemmas::taken_fits, crate::proofs::PieceLemmas::taken_some))]
+    fn feed_piece(&mut self, piece: &[u8], print: &mut Vec<u8>) -> Result<usize, NoMemory>
+        ensures fits { IfOk result (λ n. n ≤ length piece.now) }
+        ensures some { IfOk result (λ n. 0 < length piece.now → 0 < n) }
+        ensures fed { IfOk result (λ n. FedOn self.old.framer.reading piece.now print.old.items n self.new.framer.reading print.new.items) }
     {
         if self.framer.next().is_some() {
-            return Ok(());
+            return Ok(piece.len());
         }
-        match self.framer.feed(&[byte]) {
-            Ok(_) => {}
+        let taken = match self.framer.feed(piece) {
+            Ok(taken) => taken,
             Err(_) => {
                 self.framer.restart();
                 return Err(NoMemory);
             }
-        }
+        };
         if let Some(item) = self.framer.next() {
             print_item(&item, print)?;
         }
-        Ok(())
+        Ok(taken)
     }
 
-    #[tactic(auto, using(crate::proofs::StreamLemmas::went_on, crate::proofs::StreamLemmas::printed_on, crate::proofs::StreamLemmas::ready_handed))]
     /// Reads bytes, and prints the items that end in them and their fault. Costs the bytes and what is printed.
+    #[tactic(auto, using(crate::proofs::PieceLemmas::all_fed))]
     pub fn feed(&mut self, bytes: &[u8], print: &mut Vec<u8>) -> Result<(), NoMemory>
         ensures read { OnOk result (self.new.framer.reading ≡ handed (went limits self.old.framer.reading bytes.now)) }
         ensures printed { OnOk result (print.new.items ≡ print.old.items ++ print_items (items_of self.old.framer.reading bytes.now)) }
     {
-        for byte in bytes {
-            self.feed_byte(*byte, print)?;
+        let mut at = 0;
+        while at < bytes.len() {
+            at += self.feed_piece(&bytes[at..], print)?;
         }
         Ok(())
     }

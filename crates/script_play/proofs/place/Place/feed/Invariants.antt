@@ -1,11 +1,12 @@
-use Rattle.std.proofs.Common.{◌≡◌, ◌++◌, drop}
-use Rattle.stream_grammar.specs.Reading.{handed, went}
-use Rattle.replay_script.specs.Deeds.{items_of, print_items}
-use Rattle.replay_script.specs.Stanzas.{limits}
+use Rattle.std.proofs.Common.{◌≤◌, ◌-◌, length}
+use Rattle.script_play.specs.Feeding.{FedOn}
 use Rattle.script_play.proofs.place.Place.feed.Given as goal
 
-abbrev pub invariant-loop-byte : goal.invariant-loop-byte
-invariant-loop-byte l = record {
-  read : handed (went limits l.self.framer.reading (drop l.byte-index l.bytes)) ≡ handed (went limits l.fn.self.framer.reading l.bytes);
-  printed : l.print.items ++ print_items (items_of l.self.framer.reading (drop l.byte-index l.bytes)) ≡ l.fn.print.items ++ print_items (items_of l.fn.self.framer.reading l.bytes);
+abbrev pub invariant-loop-at : goal.invariant-loop-at
+invariant-loop-at l = record {
+  within : l.at ≤ length l.bytes;
+  fed : FedOn l.fn.self.framer.reading l.bytes l.fn.print.items l.at l.self.framer.reading l.print.items;
 }
+
+abbrev pub decreases-loop-at : goal.decreases-loop-at
+decreases-loop-at l = length l.bytes - l.at
