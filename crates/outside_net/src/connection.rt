@@ -21,29 +21,47 @@ const WRITE_WAIT: u64 = 1000;
 pub(crate) struct Connection {
     stream: TcpStream,
     reactor: Reactor,
+    // A reading found nothing, and no change came since.
+    dry: bool,
 }
 
 impl Connection {
     /// A connection of a stream that the reactor watches for bytes.
     pub(crate) fn new(stream: TcpStream, reactor: Reactor) -> Connection {
-        Connection { stream, reactor }
+        Connection {
+            stream,
+            reactor,
+            dry: false,
+        }
     }
 
     /// Closes the stream, which so leaves the reactor's poll.
     pub(crate) fn into_reactor(self) -> Reactor {
-        let Connection { stream: _, reactor } = self;
+        let Connection { reactor, .. } = self;
         reactor
     }
 
+    /// Reads what there is. The system isn't asked again before a change where it had nothing.
     pub(crate) fn read(&mut self, into: &mut [u8]) -> Result<usize>
         ensures { ReadsAtMost result into.new }
     {
-        self.stream.read(into)
+        if self.dry {
+            return Err(Error::from(ErrorKind::WouldBlock));
+        }
+        let result = self.stream.read(into);
+        self.dry = matches!(&result, Err(error) if error.kind() == ErrorKind::WouldBlock);
+        result
     }
 
     /// Waits until there may be something to read, until it is rung, or for `READ_WAIT`.
     pub(crate) fn wait_for_bytes(&mut self) -> Result<()> {
-        self.reactor.wait_for_ring(Duration::from_millis(READ_WAIT))
+        let changed = self
+            .reactor
+            .wait_for_ring(Duration::from_millis(READ_WAIT))?;
+        if changed {
+            self.dry = false;
+        }
+        Ok(())
     }
 
     /// Writes some of the bytes as soon as there is room for some.
@@ -57,6 +75,7 @@ impl Connection {
         self.reactor
             .watch_again(&mut self.stream, Interest::WRITABLE)?;
         let result = self.write_with_room(from);
+        self.dry = false;
         self.reactor
             .watch_again(&mut self.stream, Interest::READABLE)?;
         result
@@ -67,7 +86,7 @@ impl Connection {
         ensures { WritesAtMost result from.now }
     {
         for _round in 0..WRITE_ROUNDS {
-            self.reactor.wait(Duration::from_millis(WRITE_WAIT))?;
+            let _changed = self.reactor.wait(Duration::from_millis(WRITE_WAIT))?;
             match self.stream.write(from) {
                 Err(error) if is_pending(&error) => {}
                 result => return result,

@@ -43,9 +43,10 @@ impl Poller {
         self.poll.registry()
     }
 
-    /// Waits for a change, at most so long. Takes no memory.
-    pub(crate) fn wait(&mut self, longest: Duration) -> io::Result<()> {
-        self.poll.poll(&mut self.events, Some(longest))
+    /// Waits for a change, at most so long: whether one came. Takes no memory.
+    pub(crate) fn wait(&mut self, longest: Duration) -> io::Result<bool> {
+        self.poll.poll(&mut self.events, Some(longest))?;
+        Ok(!self.events.is_empty())
     }
 }
 
@@ -81,20 +82,20 @@ impl Reactor {
         self.poller.watch_again(socket, interest)
     }
 
-    /// Waits for the socket, at most so long.
-    pub(crate) fn wait(&mut self, longest: Duration) -> io::Result<()> {
+    /// Waits for the socket, at most so long: whether it may have changed.
+    pub(crate) fn wait(&mut self, longest: Duration) -> io::Result<bool> {
         self.poller.wait(longest)
     }
 
-    /// Waits for the socket, at most so long, unless the line was or is rung.
-    pub(crate) fn wait_for_ring(&mut self, longest: Duration) -> io::Result<()> {
+    /// Waits for the socket, at most so long, unless the line was or is rung: whether the socket may have changed.
+    pub(crate) fn wait_for_ring(&mut self, longest: Duration) -> io::Result<bool> {
         let Some(bell) = self.bells.get(self.line as usize) else {
             return self.poller.wait(longest);
         };
         let waited = if bell.begin_wait() {
             self.poller.wait(longest)
         } else {
-            Ok(())
+            Ok(true)
         };
         bell.end_wait();
         waited

@@ -174,8 +174,8 @@ fn next_stream<R: Wait>(
             }
             Err(error) if is_gone(&error) => {}
             Err(error) if may_pass(&error) => {
-                arrivals.wait(Duration::from_millis(ACCEPT_WAIT))?
-            },
+                let _came = arrivals.wait(Duration::from_millis(ACCEPT_WAIT))?;
+            }
             Err(error) => return Err(error),
         }
     }
