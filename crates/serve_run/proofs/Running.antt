@@ -1,9 +1,9 @@
 -- What a run of the server rests on.
-use Rattle.std.proofs.Common.{◌≡◌, ◌⊎◌, ℕ, suc, ◌+◌, ◌-◌, ◌^◌, ◌<◌, ◌≤◌, min, List, [], ◌∷◌, ◌++◌, length, map, Bool, true, false, Result, Ok, Err, IfOk, IfErr, OnOk, refl, sym, ap, subst, ◌∙◌, inl, inr, append_assoc, arith}
+use Rattle.std.proofs.Common.{◌≡◌, ◌⊎◌, ℕ, suc, ◌+◌, ◌-◌, ◌^◌, ◌<◌, ◌≤◌, min, List, [], ◌∷◌, ◌++◌, length, map, Bool, true, false, Result, Ok, Err, IfOk, IfErr, OnOk, OnErr, refl, sym, ap, subst, ◌∙◌, inl, inr, append_assoc, arith}
 use Rattle.std.proofs.Math.Logic.{∥∥₁_elim}
 use Rattle.std.proofs.Props.{props}
 use Rattle.std.specs.List.{list_any}
-use Rattle.std.specs.Prelude.{Option, Some, None}
+use Rattle.std.specs.Prelude.{◌≢◌, Option, Some, None}
 use Rattle.account_book.specs.Entries.{entry_of}
 use Rattle.account_book.specs.Lists.{Book, entries_of, names_of}
 use Rattle.jid_core.specs.Addresses.{Address}
@@ -15,6 +15,7 @@ use Rattle.outside.specs.Devices.{Front, Rose}
 use Rattle.outside.specs.Doors.{Untold}
 use Rattle.outside.specs.Posts.{Each, Gathers, Opened, added, plus}
 use Rattle.outside.specs.Tapes.{Mark}
+use Rattle.script_play.specs.Runs as Run
 use Rattle.script_play.specs.declared.status.Status.{Status}
 use Rattle.script_play.specs.declared.status.Status.TheVariants as status
 use Rattle.conn_serve.specs.declared.worker.Worked.{Worked}
@@ -255,6 +256,32 @@ pub printed : (r : Result (Unit {0}) Status) (left left' : Option (List ℕ)) (d
     × ((taken : List ℕ) → took ≡ Some taken → took' ≡ Some (taken ++ said)))
 printed (Ok done) left left' domain workers quota list ports ports' took took' line reads served told = (list, line, reads, served, told)
 printed (Err s) left left' domain workers quota list ports ports' took took' line reads served told = tt
+
+-- the sink failed, and took a front of the line
+pub printed_front : (r : Result (Unit {0}) Status) (left left' : Option (List ℕ)) (domain : Address) (workers quota : ℕ) (list : List ℕ)
+    (ports ports' : Tally) (took took' : Option (List ℕ)) (line : List ℕ) → ReadsList left left' list
+    → Served domain workers quota list ports ports' line
+    → ((taken : List ℕ) → took ≡ Some taken → IfErr r (λ s. s ≡ status.WriteFault → Run.Front taken line took'))
+    → IfErr r (λ s. s ≡ status.WriteFault → (l : List ℕ) × (said : List ℕ) × ReadsList left left' l × Served domain workers quota l ports ports' said
+    × ((taken : List ℕ) → took ≡ Some taken → Run.Front taken said took'))
+printed_front (Ok done) left left' domain workers quota list ports ports' took took' line reads served told = tt
+printed_front (Err s) left left' domain workers quota list ports ports' took took' line reads served told =
+    λ is. (list, line, reads, served, λ taken before. told taken before is)
+
+pub when_cut : (r : Result (Unit {0}) Status) (X : Type 0) → OnErr r X → IfErr r (λ s. s ≡ status.WriteFault → X)
+when_cut (Ok done) X failed = tt
+when_cut (Err s) X failed = λ is. failed
+
+pub when_silent : (r : Result (Unit {0}) Status) (X : Type 0) → IfErr r (λ s. s ≡ status.WriteFault) → IfErr r (λ s. s ≡ status.NoMemory → X)
+when_silent (Ok done) X told = tt
+when_silent (Err s) X told = λ is. absurd (let e : status.WriteFault ≡ status.NoMemory = sym told ∙ is in cc)
+
+-- a sink that didn't fail took nothing
+pub printed_nothing : (K : Type 0) (old now : K) (r : Result (Unit {0}) Status) → IfErr r (λ s. (s ≡ status.WriteFault) ⊎ (s ≡ status.NoMemory))
+    → IfErr r (λ s. s ≡ status.NoMemory → now ≡ old) → IfErr r (λ s. s ≢ status.WriteFault → now ≡ old)
+printed_nothing K old now (Ok done) others silent = tt
+printed_nothing K old now (Err s) (inl is) silent = λ other. absurd (other is)
+printed_nothing K old now (Err s) (inr is) silent = λ other. silent is
 
 -- printing fails by the sink or by memory alone
 pub by_printing : (r : Result (Unit {0}) Status) (Y : Status → Type 0) → IfErr r (λ s. (s ≡ status.WriteFault) ⊎ (s ≡ status.NoMemory)) → Y status.WriteFault

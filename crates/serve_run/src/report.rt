@@ -6,6 +6,7 @@ ghost use Rattle.house_core.specs.Houses.{held};
 ghost use Rattle.house_model.specs.Histories.{StandsFor, Turn, openings};
 ghost use Rattle.house_model.specs.States.{State};
 ghost use Rattle.outside.specs.Devices.{Rose};
+ghost use Rattle.script_play.specs.Runs.{Front};
 ghost use Rattle.serve_run.specs.Services.{report};
 
 use house_core::House;
@@ -36,6 +37,8 @@ pub(crate) fn print_report<K: Sink>(
     ensures others { IfErr result (λ s. (s ≡ Status.WriteFault) ⊎ (s ≡ Status.NoMemory)) }
     ensures numbers { (o : State) (h : List Turn) → Stands o h (held house.now) → (house.now.table.opened ≡ openings h) × (house.now.turns ≡ length h) }
     ensures written { (taken : List ℕ) → K.took sink.old ≡ Some taken → OnOk result (K.took sink.new ≡ Some (taken ++ report house.now.table.opened house.now.turns)) }
+    ensures cut { (taken : List ℕ) → K.took sink.old ≡ Some taken → IfErr result (λ s. s ≡ Status.WriteFault → Front taken (report house.now.table.opened house.now.turns) (K.took sink.new)) }
+    ensures silent { IfErr result (λ s. s ≡ Status.NoMemory → sink.new ≡ sink.old) }
 {
     let line = report_of(alloc, house)?;
     write_all(sink, line.as_slice())

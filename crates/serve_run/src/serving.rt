@@ -9,6 +9,7 @@ ghost use Rattle.house_model.specs.Histories.{StandsFor};
 ghost use Rattle.house_model.specs.States.{State, opening};
 ghost use Rattle.outside.specs.Devices.{Rose};
 ghost use Rattle.conn_staff.specs.Staffs.{Staffed, Telling, telling};
+ghost use Rattle.script_play.specs.Runs.{Front};
 ghost use Rattle.serve_run.specs.Services.{AllOpened, Gathered, GivenBack, HasListened, IsRefused, ReadsList, Refused, Served, ServedBy, SomeRose, tally};
 
 use crate::list::read_list;
@@ -205,6 +206,10 @@ where
     ensures served { OnOk result ((list : List ℕ) × (line : List ℕ) × ReadsList (S.left source.old) (S.left source.new) list
         × Served serving.now.domain serving.now.workers serving.now.connections list (tally (P.tapes ports.old) (P.links ports.old) (P.dice_faults ports.old)) (tally (P.tapes ports.new) (P.links ports.new) (P.dice_faults ports.new)) line
         × ((taken : List ℕ) → K.took sink.old ≡ Some taken → K.took sink.new ≡ Some (taken ++ line))) }
+    ensures cut { IfErr result (λ s. s ≡ Status.WriteFault → (list : List ℕ) × (line : List ℕ) × ReadsList (S.left source.old) (S.left source.new) list
+        × Served serving.now.domain serving.now.workers serving.now.connections list (tally (P.tapes ports.old) (P.links ports.old) (P.dice_faults ports.old)) (tally (P.tapes ports.new) (P.links ports.new) (P.dice_faults ports.new)) line
+        × ((taken : List ℕ) → K.took sink.old ≡ Some taken → Front taken line (K.took sink.new))) }
+    ensures silent { IfErr result (λ s. s ≢ Status.WriteFault → sink.new ≡ sink.old) }
     ensures given { IfErr result (λ s. HasListened s → GivenBack serving.now.workers (tally (P.tapes ports.old) (P.links ports.old) (P.dice_faults ports.old)) (tally (P.tapes ports.new) (P.links ports.new) (P.dice_faults ports.new))) }
     ensures accounts { IfErr result (λ s. (n : ℕ) → s ≡ Status.Accounts n → (list : List ℕ) × ReadsList (S.left source.old) (S.left source.new) list
         × IsRefused (entries_of list) s) }
@@ -223,7 +228,8 @@ where
 /// took. Never returns if a door hands out links for ever.
 ///
 /// `Accounts` tells the first line at fault. `ReadFault`, `WriteFault` and `ListenFault` come only where the source, the sink, or the ports and their
-/// doors count a fault; what listens is given back to the ports in any case.
+/// doors count a fault; what listens is given back to the ports in any case. At `WriteFault` the server ran to its end and a front of the line is
+/// printed; at any other fault nothing is.
 pub fn serve<R: Threads + Wait + Sync, S: Source, K: Sink, P: Ports>(
     rt: &R,
     alloc: Global,
@@ -242,6 +248,10 @@ where
     ensures served { result ≡ Status.Done → (list : List ℕ) × (line : List ℕ) × ReadsList (S.left source.old) (S.left source.new) list
         × Served serving.now.domain serving.now.workers serving.now.connections list (tally (P.tapes ports.old) (P.links ports.old) (P.dice_faults ports.old)) (tally (P.tapes ports.new) (P.links ports.new) (P.dice_faults ports.new)) line
         × ((taken : List ℕ) → K.took sink.old ≡ Some taken → K.took sink.new ≡ Some (taken ++ line)) }
+    ensures cut { result ≡ Status.WriteFault → (list : List ℕ) × (line : List ℕ) × ReadsList (S.left source.old) (S.left source.new) list
+        × Served serving.now.domain serving.now.workers serving.now.connections list (tally (P.tapes ports.old) (P.links ports.old) (P.dice_faults ports.old)) (tally (P.tapes ports.new) (P.links ports.new) (P.dice_faults ports.new)) line
+        × ((taken : List ℕ) → K.took sink.old ≡ Some taken → Front taken line (K.took sink.new)) }
+    ensures silent { result ≢ Status.Done → result ≢ Status.WriteFault → sink.new ≡ sink.old }
     ensures given { HasListened result → GivenBack serving.now.workers (tally (P.tapes ports.old) (P.links ports.old) (P.dice_faults ports.old)) (tally (P.tapes ports.new) (P.links ports.new) (P.dice_faults ports.new)) }
     ensures accounts { (n : ℕ) → result ≡ Status.Accounts n → (list : List ℕ) × ReadsList (S.left source.old) (S.left source.new) list
         × ((kind : LineKind) × (entries_of list ≡ Err (n, kind))) }

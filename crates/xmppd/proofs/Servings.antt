@@ -4,6 +4,7 @@ use Rattle.std.specs.Prelude.{◌⊎◌, Option}
 use Rattle.account_book.specs.Entries.{Entry}
 use Rattle.account_book.specs.Lists.{entries_of}
 use Rattle.account_book.specs.declared.fault.LineKind.{LineKind}
+use Rattle.script_play.specs.Runs.{Front}
 use Rattle.script_play.specs.declared.status.Status.{Status}
 use Rattle.script_play.specs.declared.status.Status.TheVariants as status
 use Rattle.serve_run.specs.Services.{GivenBack, HasListened, ReadsList, Served, Tally}
@@ -15,17 +16,27 @@ use Rattle.xmppd.specs.Servings.{Concluded}
 concluded : (w : Wanted) (left left_now : Option (List ℕ)) (ports now_ports : Tally) (took took_now : Option (List ℕ)) (s : Status)
     → (s ≡ status.Done → (list : List ℕ) × (line : List ℕ) × ReadsList left left_now list × Served w.domain w.workers w.connections list ports now_ports line
     × ((taken : List ℕ) → took ≡ Some taken → took_now ≡ Some (taken ++ line)))
+    → (s ≡ status.WriteFault → (list : List ℕ) × (line : List ℕ) × ReadsList left left_now list × Served w.domain w.workers w.connections list ports now_ports line
+    × ((taken : List ℕ) → took ≡ Some taken → Front taken line took_now))
+    → (s ≢ status.Done → s ≢ status.WriteFault → took_now ≡ took)
     → (HasListened s → GivenBack w.workers ports now_ports)
     → ((n : ℕ) → s ≡ status.Accounts n → (list : List ℕ) × ReadsList left left_now list × ((kind : LineKind) × (entries_of list ≡ Err (n, kind))))
     → (s ≢ status.Usage) → ((n : ℕ) → s ≢ status.Script n) → Concluded w left left_now ports now_ports took took_now s
-concluded w left left_now ports now_ports took took_now status.Done served given accounts usage script = served refl
-concluded w left left_now ports now_ports took took_now (status.Accounts n) served given accounts usage script = (accounts n refl, given tt)
-concluded w left left_now ports now_ports took took_now status.WriteFault served given accounts usage script = given tt
-concluded w left left_now ports now_ports took took_now status.ReadFault served given accounts usage script = tt
-concluded w left left_now ports now_ports took took_now status.ListenFault served given accounts usage script = tt
-concluded w left left_now ports now_ports took took_now status.NoMemory served given accounts usage script = tt
-concluded w left left_now ports now_ports took took_now status.Usage served given accounts usage script = absurd (usage refl)
-concluded w left left_now ports now_ports took took_now (status.Script n) served given accounts usage script = absurd (script n refl)
+concluded w left left_now ports now_ports took took_now status.Done served cut silent given accounts usage script = served refl
+concluded w left left_now ports now_ports took took_now status.WriteFault served cut silent given accounts usage script = cut refl
+concluded w left left_now ports now_ports took took_now (status.Accounts n) served cut silent given accounts usage script = (
+  accounts n refl,
+  given tt,
+  silent (λ e. absurd (let k : status.Accounts n ≡ status.Done = e in cc)) (λ e. absurd (let k : status.Accounts n ≡ status.WriteFault = e in cc)),
+)
+concluded w left left_now ports now_ports took took_now status.ReadFault served cut silent given accounts usage script =
+    silent (λ e. absurd (let k : status.ReadFault ≡ status.Done = e in cc)) (λ e. absurd (let k : status.ReadFault ≡ status.WriteFault = e in cc))
+concluded w left left_now ports now_ports took took_now status.ListenFault served cut silent given accounts usage script =
+    silent (λ e. absurd (let k : status.ListenFault ≡ status.Done = e in cc)) (λ e. absurd (let k : status.ListenFault ≡ status.WriteFault = e in cc))
+concluded w left left_now ports now_ports took took_now status.NoMemory served cut silent given accounts usage script =
+    silent (λ e. absurd (let k : status.NoMemory ≡ status.Done = e in cc)) (λ e. absurd (let k : status.NoMemory ≡ status.WriteFault = e in cc))
+concluded w left left_now ports now_ports took took_now status.Usage served cut silent given accounts usage script = absurd (usage refl)
+concluded w left left_now ports now_ports took took_now (status.Script n) served cut silent given accounts usage script = absurd (script n refl)
 
 same-wanted : (v w : Wanted) → Some (Serve v) ≡ Some (Serve w) → v ≡ w
 same-wanted v w e = cc
@@ -35,24 +46,27 @@ pub as_asked : (task : Option Task) (v w : Wanted) (left left_now : Option (List
     → task ≡ Some (Serve v)
     → (s ≡ status.Done → (list : List ℕ) × (line : List ℕ) × ReadsList left left_now list × Served v.domain v.workers v.connections list ports now_ports line
     × ((taken : List ℕ) → took ≡ Some taken → took_now ≡ Some (taken ++ line)))
+    → (s ≡ status.WriteFault → (list : List ℕ) × (line : List ℕ) × ReadsList left left_now list × Served v.domain v.workers v.connections list ports now_ports line
+    × ((taken : List ℕ) → took ≡ Some taken → Front taken line took_now))
+    → (s ≢ status.Done → s ≢ status.WriteFault → took_now ≡ took)
     → (HasListened s → GivenBack v.workers ports now_ports)
     → ((n : ℕ) → s ≡ status.Accounts n → (list : List ℕ) × ReadsList left left_now list × ((kind : LineKind) × (entries_of list ≡ Err (n, kind))))
     → (s ≢ status.Usage) → ((n : ℕ) → s ≢ status.Script n) → task ≡ Some (Serve w) → Concluded w left left_now ports now_ports took took_now s
-as_asked task v w left left_now ports now_ports took took_now s read served given accounts usage script asked =
+as_asked task v w left left_now ports now_ports took took_now s read served cut silent given accounts usage script asked =
     subst (λ (x : Wanted). Concluded x left left_now ports now_ports took took_now s) (same-wanted v w (sym read ∙ asked))
-    (concluded v left left_now ports now_ports took took_now s served given accounts usage script)
+    (concluded v left left_now ports now_ports took took_now s served cut silent given accounts usage script)
 
 -- no words were read
-pub serve_unread : (task : Option Task) (w : Wanted) (left left_now : Option (List ℕ)) (ports now_ports : Tally) (took took_now : Option (List ℕ)) (s : Status)
-    → IsRefusal task s → task ≡ Some (Serve w) → Concluded w left left_now ports now_ports took took_now s
-serve_unread task w left left_now ports now_ports took took_now status.NoMemory refused is = tt
-serve_unread task w left left_now ports now_ports took took_now status.Usage refused is = absurd (true≢false (ap is_some (sym is) ∙ ap is_some refused))
-serve_unread task w left left_now ports now_ports took took_now status.Done refused is = absurd refused
-serve_unread task w left left_now ports now_ports took took_now (status.Accounts n) refused is = absurd refused
-serve_unread task w left left_now ports now_ports took took_now (status.Script n) refused is = absurd refused
-serve_unread task w left left_now ports now_ports took took_now status.ReadFault refused is = absurd refused
-serve_unread task w left left_now ports now_ports took took_now status.WriteFault refused is = absurd refused
-serve_unread task w left left_now ports now_ports took took_now status.ListenFault refused is = absurd refused
+pub serve_unread : (task : Option Task) (w : Wanted) (left left_now : Option (List ℕ)) (ports now_ports : Tally) (took : Option (List ℕ)) (s : Status)
+    → IsRefusal task s → task ≡ Some (Serve w) → Concluded w left left_now ports now_ports took took s
+serve_unread task w left left_now ports now_ports took status.NoMemory refused is = refl
+serve_unread task w left left_now ports now_ports took status.Usage refused is = absurd (true≢false (ap is_some (sym is) ∙ ap is_some refused))
+serve_unread task w left left_now ports now_ports took status.Done refused is = absurd refused
+serve_unread task w left left_now ports now_ports took (status.Accounts n) refused is = absurd refused
+serve_unread task w left left_now ports now_ports took (status.Script n) refused is = absurd refused
+serve_unread task w left left_now ports now_ports took status.ReadFault refused is = absurd refused
+serve_unread task w left left_now ports now_ports took status.WriteFault refused is = absurd refused
+serve_unread task w left left_now ports now_ports took status.ListenFault refused is = absurd refused
 
 -- a list of accounts without a fault, where nothing fails
 pub ends_concluded : (w : Wanted) (bytes now : List ℕ) (entries : List Entry) (ports now_ports : Tally) (took took_now : Option (List ℕ)) (s : Status)

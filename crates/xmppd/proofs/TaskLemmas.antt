@@ -8,44 +8,20 @@ use Rattle.account_book.specs.Fields.{on, salt_in}
 use Rattle.clap.specs.Words.{Row, fault_of, first_of, matches_of}
 use Rattle.script_play.specs.declared.status.Status.{Status}
 use Rattle.script_play.specs.declared.status.Status.TheVariants as status
-use Rattle.serve_words.specs.Options.{IsRefusal}
-use Rattle.xmppd.specs.Commands.{Play, Make, account_task, is_positional, make_of, name_in, replay_task, serve_task, task_of}
-use Rattle.xmppd.specs.Grammars.{Parses, account_grammar, bare, pair_in}
+use Rattle.serve_words.specs.Grammars.{bare}
+use Rattle.serve_words.specs.Options.{IsRefusal, is_value}
+use Rattle.xmppd.specs.Commands.{Play, Make, account_task, make_of, name_in, replay_task}
+use Rattle.xmppd.specs.Grammars.{Parses, account_grammar, pair_in}
 use Rattle.xmppd.proofs.Conjunctions.{two-true, true-two}
 use Rattle.xmppd.proofs.GrammarLemmas.{replay_none, replay-first, account-none, account-one, account-two, account-three, account-name, account-salt}
-
--- the first word names the command
-pub task_replay : (words : List (List ℕ)) (first : List ℕ) (rest : List (List ℕ)) → words ≡ first ∷ rest → first ≡ codes "replay" → task_of words ≡ replay_task rest
-task_replay words first rest is named = ap task_of (is ∙ ap (λ w. w ∷ rest) named)
-
-pub task_account : (words : List (List ℕ)) (first : List ℕ) (rest : List (List ℕ)) → words ≡ first ∷ rest → first ≡ codes "account" → task_of words ≡ account_task rest
-task_account words first rest is named = ap task_of (is ∙ ap (λ w. w ∷ rest) named)
-
-pub task_serve : (words : List (List ℕ)) (first : List ℕ) (rest : List (List ℕ)) → words ≡ first ∷ rest → first ≡ codes "serve" → task_of words ≡ serve_task rest
-task_serve words first rest is named = ap task_of (is ∙ ap (λ w. w ∷ rest) named)
-
-pub task_none : (words : List (List ℕ)) (first : List ℕ) (rest : List (List ℕ)) → words ≡ first ∷ rest → (first ≡ codes "replay" → ⊥) → (first ≡ codes "account" → ⊥)
-    → (first ≡ codes "serve" → ⊥) → task_of words ≡ None
-task_none words first rest is other another third =
-    ap task_of is
-    ∙ cond-false (bytes_eq first (codes "replay")) (replay_task rest) _ (unlike first (codes "replay") other)
-    ∙ cond-false (bytes_eq first (codes "account")) (account_task rest) _ (unlike first (codes "account") another)
-    ∙ cond-false (bytes_eq first (codes "serve")) (serve_task rest) None (unlike first (codes "serve") third)
-  where
-    unlike : (xs ys : List ℕ) → (xs ≡ ys → ⊥) → bytes_eq xs ys ≡ false
-    unlike xs ys ne = bool (bytes_eq xs ys) refl
-      where
-        bool : (b : Bool) → bytes_eq xs ys ≡ b → b ≡ false
-        bool true e = absurd (ne ((bytes_eq-Decides xs ys).0 e))
-        bool false e = refl
 
 one-fault : {X : Type 0} {x : X} {xs : List X} → x ∷ xs ≡ [] → ⊥
 one-fault e = let n = ap length e in omega (arith, n)
 
 -- `replay` has no further word
-pub replay_some : (words : List (List ℕ)) → list_all is_positional words ≡ true → fault_of (bare (codes "replay")) words ≡ [] → replay_task words ≡ Some Play
+pub replay_some : (words : List (List ℕ)) → list_all is_value words ≡ true → fault_of (bare (codes "replay")) words ≡ [] → replay_task words ≡ Some Play
 replay_some [] all none = refl
-replay_some (w ∷ more) all none = absurd (one-fault (sym (replay-first w more (two-true (is_positional w) (list_all is_positional more) all).0) ∙ none))
+replay_some (w ∷ more) all none = absurd (one-fault (sym (replay-first w more (two-true (is_value w) (list_all is_value more) all).0) ∙ none))
 
 pub replay_refused : (M : Type 0) (words : List (List ℕ)) (s : Status) → Parses {M = M} (fault_of (bare (codes "replay")) words) (Err s) → IsRefusal (replay_task words) s
 replay_refused M [] status.Usage parsed = absurd (parsed replay_none)
@@ -58,7 +34,7 @@ replay_refused M words status.ReadFault parsed = absurd parsed
 replay_refused M words status.WriteFault parsed = absurd parsed
 replay_refused M words status.ListenFault parsed = absurd parsed
 
-pub replay_other : (words : List (List ℕ)) → list_all is_positional words ≡ false → replay_task words ≡ None
+pub replay_other : (words : List (List ℕ)) → list_all is_value words ≡ false → replay_task words ≡ None
 replay_other [] other = absurd (true≢false other)
 replay_other (w ∷ more) other = refl
 
@@ -70,40 +46,40 @@ pub record ArePair (words : List (List ℕ)) : Type 0 where
   pub name_is : first_of (codes "NAME") (matches_of account_grammar words) ≡ Some name
   pub salt_is : first_of (codes "SALT") (matches_of account_grammar words) ≡ Some salt
 
-pub are_pair : (words : List (List ℕ)) → list_all is_positional words ≡ true → fault_of account_grammar words ≡ [] → ArePair words
+pub are_pair : (words : List (List ℕ)) → list_all is_value words ≡ true → fault_of account_grammar words ≡ [] → ArePair words
 are_pair [] all none = absurd (one-fault (sym account-none ∙ none))
-are_pair (a ∷ []) all none = absurd (one-fault (sym (account-one a (two-true (is_positional a) true all).0) ∙ none))
+are_pair (a ∷ []) all none = absurd (one-fault (sym (account-one a (two-true (is_value a) true all).0) ∙ none))
 are_pair (a ∷ s ∷ []) all none =
-    let more = two-true (is_positional a) (is_positional s && true) all in
-    let last = two-true (is_positional s) true more.1 in
+    let more = two-true (is_value a) (is_value s && true) all in
+    let last = two-true (is_value s) true more.1 in
     record { name = a; salt = s; words_are = refl; name_is = account-name a s more.0 last.0; salt_is = account-salt a s more.0 last.0 }
 are_pair (a ∷ s ∷ x ∷ more) all none =
-    let first = two-true (is_positional a) (list_all is_positional (s ∷ x ∷ more)) all in
-    let second = two-true (is_positional s) (list_all is_positional (x ∷ more)) first.1 in
-    let third = two-true (is_positional x) (list_all is_positional more) second.1 in
+    let first = two-true (is_value a) (list_all is_value (s ∷ x ∷ more)) all in
+    let second = two-true (is_value s) (list_all is_value (x ∷ more)) first.1 in
+    let third = two-true (is_value x) (list_all is_value more) second.1 in
     absurd (one-fault (sym (account-three a s x more first.0 second.0 third.0) ∙ none))
 
-pub no_pair : (words : List (List ℕ)) → list_all is_positional words ≡ true → (fault_of account_grammar words ≡ [] → ⊥) → pair_in words ≡ None
+pub no_pair : (words : List (List ℕ)) → list_all is_value words ≡ true → (fault_of account_grammar words ≡ [] → ⊥) → pair_in words ≡ None
 no_pair [] all fault = refl
 no_pair (a ∷ []) all fault = refl
 no_pair (a ∷ s ∷ []) all fault =
-    let more = two-true (is_positional a) (is_positional s && true) all in
-    absurd (fault (account-two a s more.0 (two-true (is_positional s) true more.1).0))
+    let more = two-true (is_value a) (is_value s && true) all in
+    absurd (fault (account-two a s more.0 (two-true (is_value s) true more.1).0))
 no_pair (a ∷ s ∷ x ∷ more) all fault = refl
 
 -- and clap's matches have them
 value-is : (v w : List ℕ) (o : Option (List ℕ)) → o ≡ Some v → o ≡ Some w → v ≡ w
 value-is v w o e f = ap (λ p. unwrap_or p []) (sym e ∙ f)
 
-pub name_there : (words : List (List ℕ)) (rows : List Row) → list_all is_positional words ≡ true → fault_of account_grammar words ≡ [] → rows ≡ matches_of account_grammar words
+pub name_there : (words : List (List ℕ)) (rows : List Row) → list_all is_value words ≡ true → fault_of account_grammar words ≡ [] → rows ≡ matches_of account_grammar words
     → is_some (first_of (codes "NAME") rows) ≡ true
 name_there words rows all none same = ap (λ r. is_some (first_of (codes "NAME") r)) same ∙ ap is_some (are_pair words all none).name_is
 
-pub salt_there : (words : List (List ℕ)) (rows : List Row) → list_all is_positional words ≡ true → fault_of account_grammar words ≡ [] → rows ≡ matches_of account_grammar words
+pub salt_there : (words : List (List ℕ)) (rows : List Row) → list_all is_value words ≡ true → fault_of account_grammar words ≡ [] → rows ≡ matches_of account_grammar words
     → is_some (first_of (codes "SALT") rows) ≡ true
 salt_there words rows all none same = ap (λ r. is_some (first_of (codes "SALT") r)) same ∙ ap is_some (are_pair words all none).salt_is
 
-pub pair_read : (words : List (List ℕ)) (rows : List Row) (name salt : List ℕ) → list_all is_positional words ≡ true → fault_of account_grammar words ≡ []
+pub pair_read : (words : List (List ℕ)) (rows : List Row) (name salt : List ℕ) → list_all is_value words ≡ true → fault_of account_grammar words ≡ []
     → rows ≡ matches_of account_grammar words → first_of (codes "NAME") rows ≡ Some name → first_of (codes "SALT") rows ≡ Some salt → pair_in words ≡ Some (name, salt)
 pair_read words rows name salt all none same is are =
     let pair = are_pair words all none in
@@ -111,7 +87,7 @@ pair_read words rows name salt all none same is are =
     ∙ ap₂ (λ (n s : List ℕ). Some (n, s)) (value-is pair.name name (first_of (codes "NAME") rows) (ap (first_of (codes "NAME")) same ∙ pair.name_is) is)
     (value-is pair.salt salt (first_of (codes "SALT") rows) (ap (first_of (codes "SALT")) same ∙ pair.salt_is) are)
 
-pub pair_refused : (M : Type 0) (words : List (List ℕ)) (s : Status) → list_all is_positional words ≡ true → Parses {M = M} (fault_of account_grammar words) (Err s)
+pub pair_refused : (M : Type 0) (words : List (List ℕ)) (s : Status) → list_all is_value words ≡ true → Parses {M = M} (fault_of account_grammar words) (Err s)
     → IsRefusal (pair_in words) s
 pair_refused M words status.Usage all parsed = no_pair words all parsed
 pair_refused M words status.NoMemory all parsed = tt
@@ -123,9 +99,9 @@ pair_refused M words status.WriteFault all parsed = absurd parsed
 pair_refused M words status.ListenFault all parsed = absurd parsed
 
 -- the task of two positional words
-pub account_two : (words : List (List ℕ)) (name salt : List ℕ) → list_all is_positional words ≡ true → pair_in words ≡ Some (name, salt) → account_task words ≡ make_of name salt
+pub account_two : (words : List (List ℕ)) (name salt : List ℕ) → list_all is_value words ≡ true → pair_in words ≡ Some (name, salt) → account_task words ≡ make_of name salt
 account_two words name salt all pair =
-    ap account_task (words-pair words name salt pair) ∙ both name salt (sym (ap (list_all is_positional) (words-pair words name salt pair)) ∙ all)
+    ap account_task (words-pair words name salt pair) ∙ both name salt (sym (ap (list_all is_value) (words-pair words name salt pair)) ∙ all)
   where
     none-some : {X : Type 0} {x : X} → None ≡ Some x → ⊥
     none-some e = true≢false (sym (ap is_some e))
@@ -144,11 +120,11 @@ account_two words name salt all pair =
     words-pair (a ∷ s ∷ []) name salt pair = ap₂ (λ v w. v ∷ w ∷ []) (ap (λ (o : Option (List ℕ × List ℕ)). first-of o) pair) (ap (λ (o : Option (List ℕ × List ℕ)). second-of o) pair)
     words-pair (a ∷ s ∷ x ∷ more) name salt pair = absurd (none-some pair)
 
-    both : (name salt : List ℕ) → list_all is_positional (name ∷ salt ∷ []) ≡ true → account_task (name ∷ salt ∷ []) ≡ make_of name salt
+    both : (name salt : List ℕ) → list_all is_value (name ∷ salt ∷ []) ≡ true → account_task (name ∷ salt ∷ []) ≡ make_of name salt
     both name salt all =
-        let more = two-true (is_positional name) (is_positional salt && true) all in
-        let last = two-true (is_positional salt) true more.1 in
-        cond-true (is_positional name && is_positional salt) (make_of name salt) None (true-two (is_positional name) (is_positional salt) more.0 last.0)
+        let more = two-true (is_value name) (is_value salt && true) all in
+        let last = two-true (is_value salt) true more.1 in
+        cond-true (is_value name && is_value salt) (make_of name salt) None (true-two (is_value name) (is_value salt) more.0 last.0)
 
 -- other words have none
 pub account_not_two : (words : List (List ℕ)) → pair_in words ≡ None → account_task words ≡ None
@@ -157,10 +133,10 @@ account_not_two (a ∷ []) none = refl
 account_not_two (a ∷ s ∷ []) none = absurd (true≢false (ap is_some none))
 account_not_two (a ∷ s ∷ x ∷ more) none = refl
 
-pub account_other : (words : List (List ℕ)) → list_all is_positional words ≡ false → account_task words ≡ None
+pub account_other : (words : List (List ℕ)) → list_all is_value words ≡ false → account_task words ≡ None
 account_other [] other = refl
 account_other (a ∷ []) other = refl
-account_other (a ∷ s ∷ []) other = cond-false (is_positional a && is_positional s) (make_of a s) None (two-false (is_positional a) (is_positional s) other)
+account_other (a ∷ s ∷ []) other = cond-false (is_value a && is_value s) (make_of a s) None (two-false (is_value a) (is_value s) other)
   where
     two-false : (c d : Bool) → (c && (d && true)) ≡ false → (c && d) ≡ false
     two-false true true h = h

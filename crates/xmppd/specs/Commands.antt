@@ -3,7 +3,7 @@ use Rattle.std.specs.Prelude.{◌≡◌, ◌<◌, ℕ, ◌==◌, ⊤, Bool, fals
 use Rattle.std.specs.Result.{result_ok}
 use Rattle.jid_core.specs.Preparation.{local_of}
 use Rattle.account_book.specs.Fields.{on, salt_in}
-use Rattle.serve_words.specs.Options.{IsRefusal, Wanted, wanted, wanted_of}
+use Rattle.serve_words.specs.Options.{IsRefusal, Wanted, is_value, wanted, wanted_of}
 use Rattle.xmppd.specs.declared.words.Command.{Command}
 use Rattle.xmppd.specs.declared.words.Command.TheVariants as command
 use Rattle.script_play.specs.declared.status.Status.{Status}
@@ -14,11 +14,6 @@ pub data Task : Type 0 where
   Make : (name salt : List ℕ) → Task
   Serve : Wanted → Task
 
--- a positional word: it is not empty, and begins with no `-`
-abbrev pub is_positional : List ℕ → Bool
-is_positional [] = false
-is_positional (b ∷ more) = not (b == 45)
-
 -- NAME: a local part, as it is prepared (RFC 7622, 3.3)
 abbrev pub name_in : List ℕ → Option (List ℕ)
 name_in word = result_ok (local_of word)
@@ -27,9 +22,9 @@ name_in word = result_ok (local_of word)
 abbrev pub make_of : List ℕ → List ℕ → Option Task
 make_of name salt = on (name_in name) (λ local. on (salt_in salt) (λ bytes. Some (Make local bytes)))
 
--- the words after `account`
+-- the words after `account`, of which none is empty or begins with `-`
 abbrev pub account_task : List (List ℕ) → Option Task
-account_task (name ∷ salt ∷ []) = if is_positional name && is_positional salt then make_of name salt else None
+account_task (name ∷ salt ∷ []) = if is_value name && is_value salt then make_of name salt else None
 account_task _ = None
 
 -- the words after `replay`, which are none

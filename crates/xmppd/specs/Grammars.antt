@@ -1,13 +1,10 @@
 -- What clap is told of the commands.
 use Rattle.std.specs.Prelude.{◌≡◌, ◌≢◌, ℕ, true, List, [], ◌∷◌, Option, Some, None, Result, Ok, Err, ⊤, codes}
-use Rattle.clap.specs.Words.{App, Kinds, Rule, new_app, new_rule, with_rule}
+use Rattle.clap.specs.Words.{App, Kinds, Rule, new_rule, with_rule}
+use Rattle.serve_words.specs.Grammars.{bare}
 use Rattle.clap.specs.declared.builder.action.ArgAction.TheVariants.{Set}
 use Rattle.script_play.specs.declared.status.Status.{Status}
 use Rattle.script_play.specs.declared.status.Status.TheVariants as status
-
--- a command whose words come without its name, and that has neither help nor a version
-abbrev pub bare : List ℕ → App
-bare name = let app = new_app name in record app { top = record app.top { no_binary_name = true; disable_help_flag = true; disable_version_flag = true } }
 
 -- a positional word that must be there
 abbrev pub wanted : List ℕ → Rule

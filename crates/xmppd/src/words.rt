@@ -3,9 +3,10 @@ ghost use Rattle.std.specs.Prelude.{◌≡◌, ◌⊎◌, true, false, Some, IfO
 ghost use Rattle.std.specs.List.{list_all};
 ghost use Rattle.account_book.specs.Fields.{salt_in};
 ghost use Rattle.clap.specs.Words.{HasMatchesOf, app_of, fault_of, first_of, found_of, is_simple_and_free, matches_of, rows_of, rule_of};
-ghost use Rattle.serve_words.specs.Options.{IsRefusal};
-ghost use Rattle.xmppd.specs.Commands.{HasWorker, Reads, account_task, is_positional, name_in, replay_task, serve_task, task, task_of};
-ghost use Rattle.xmppd.specs.Grammars.{Parses, account_grammar, bare, pair_in, wanted};
+ghost use Rattle.serve_words.specs.Grammars.{bare};
+ghost use Rattle.serve_words.specs.Options.{IsRefusal, is_value};
+ghost use Rattle.xmppd.specs.Commands.{HasWorker, Reads, account_task, name_in, replay_task, serve_task, task, task_of};
+ghost use Rattle.xmppd.specs.Grammars.{Parses, account_grammar, pair_in, wanted};
 
 use base64::DecodeAllocError;
 use base64::engine::general_purpose::STANDARD;
@@ -92,7 +93,7 @@ fn read_account(alloc: Global, words: &[Text]) -> Result<Command, Status>
 
 /// Whether a word is not empty and begins with no `-`.
 fn is_positional(word: &[u8]) -> bool
-    ensures { result ≡ is_positional word.now }
+    ensures { result ≡ is_value word.now }
 {
     match word {
         [] => false,
@@ -103,8 +104,8 @@ fn is_positional(word: &[u8]) -> bool
 /// The words as texts, if each is positional.
 fn read_positionals<'a>(alloc: Global, words: &'a [Text]) -> Result<Vec<&'a str>, Status>
     ensures texts { IfOk result (λ texts. map (λ text. text.now) texts.items ≡ words.entry.now) }
-    ensures positional { IfOk result (λ texts. list_all is_positional words.entry.now ≡ true) }
-    ensures refused { IfErr result (λ s. s ≡ Status.Usage → list_all is_positional words.entry.now ≡ false) }
+    ensures positional { IfOk result (λ texts. list_all is_value words.entry.now ≡ true) }
+    ensures refused { IfErr result (λ s. s ≡ Status.Usage → list_all is_value words.entry.now ≡ false) }
     ensures other { IfErr result (λ s. (s ≡ Status.Usage) ⊎ (s ≡ Status.NoMemory)) }
 {
     let mut texts = Vec::new(alloc);
@@ -188,7 +189,7 @@ fn value<'a>(matches: &ArgMatches<'a>, id: &str) -> &'a str
 
 /// The name and the salt among the words of `account`.
 fn account_values<'a>(alloc: Global, words: &'a [&'a str]) -> Result<(&'a str, &'a str), Status>
-    requires { list_all is_positional (map (λ word. word.now) words.now) ≡ true }
+    requires { list_all is_value (map (λ word. word.now) words.now) ≡ true }
     ensures { Reads (λ pair. (pair.0.now, pair.1.now)) (pair_in (map (λ word. word.now) words.entry.now)) result }
 {
     let matches = match parse_account(alloc, words) {
