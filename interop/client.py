@@ -73,18 +73,27 @@ class Client:
         salted = hashlib.pbkdf2_hmac("sha256", self.password.encode(), base64.b64decode(told["s"]), int(told["i"]))
         key = hmac.digest(salted, b"Client Key", "sha256")
         last = "c=biws,r=" + told["r"]
-        signature = hmac.digest(hashlib.sha256(key).digest(), ",".join((first, challenge, last)).encode(), "sha256")
+        said = ",".join((first, challenge, last)).encode()
+        signature = hmac.digest(hashlib.sha256(key).digest(), said, "sha256")
         proof = bytes(x ^ y for x, y in zip(key, signature))
         self.send("<response xmlns='%s'>%s</response>" % (SASL, b64((last + ",p=" + b64(proof)).encode())))
         answer = self.read()
         if answer.tag != "{%s}success" % SASL:
             raise ValueError(self.name + ": " + ET.tostring(answer).decode())
+        wanted = hmac.digest(hmac.digest(salted, b"Server Key", "sha256"), said, "sha256")
+        if base64.b64decode(answer.text or "").split(b",")[0] != b"v=" + base64.b64encode(wanted):
+            raise ValueError(self.name + ": the server's signature is wrong")
 
-    def bind(self):
+    def ask_session(self):
+        """Binds, and has its stanzas counted in a session that can be resumed."""
         self.send("<iq type='set' id='bind'><bind xmlns='%s'/></iq><enable xmlns='%s' resume='true'/>" % (BIND, SM))
         self.address = self.read().findtext(".//{%s}jid" % BIND)
         self.session = self.read().get("id")
         self.counting = True
+
+    def bind(self):
+        """A session that is available."""
+        self.ask_session()
         self.say("<presence/>")
         self.until(lambda: self.handled == 1)
 
