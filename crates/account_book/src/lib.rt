@@ -15,8 +15,6 @@ mod laws;
 mod line;
 mod lines;
 mod make;
-#[cfg(test)]
-mod tests;
 
 pub use account::Account;
 pub use book::Accounts;

@@ -7,18 +7,10 @@ mod binding;
 mod challenged;
 mod ended;
 mod failure;
-#[cfg(test)]
-mod heard;
 mod login;
-#[cfg(test)]
-mod login_tests;
-#[cfg(test)]
-mod request_tests;
 mod requests;
 mod stage;
 mod stream_error;
-#[cfg(test)]
-mod text_tests;
 mod texts;
 
 pub use asked::Asked;

@@ -2,14 +2,8 @@
 #![tactic(auto)]
 
 mod flow;
-#[cfg(test)]
-mod flow_cases;
-#[cfg(test)]
-mod flow_tests;
 mod phase;
 mod saying;
-#[cfg(test)]
-mod session_cases;
 mod talk;
 mod telling;
 mod want;

@@ -1,8 +1,6 @@
 //! Serves a connection: what is read of its link goes to its flow, and what that wants is done, until the connection ends.
 #![tactic(auto)]
 
-#[cfg(test)]
-mod cases;
 mod converse;
 mod ears;
 mod enter;
@@ -10,10 +8,6 @@ mod listen;
 mod service;
 mod speak;
 mod submit;
-#[cfg(test)]
-mod tests;
-#[cfg(test)]
-mod trials;
 mod turn;
 mod worker;
 

@@ -3,8 +3,6 @@
 
 mod roster;
 mod staff;
-#[cfg(test)]
-mod tests;
 mod worker;
 
 pub use staff::serve_posts;

@@ -10,8 +10,6 @@ mod hall;
 mod hall_desk;
 mod recorded;
 mod stirring;
-#[cfg(test)]
-mod tests;
 
 pub use desk::{Desk, DeskFault};
 pub use entry::{HouseTurn, Opening};

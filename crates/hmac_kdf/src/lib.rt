@@ -16,8 +16,6 @@ use keyed_sha256::KeyedSha256;
 mod block;
 mod keyed_sha1;
 mod keyed_sha256;
-#[cfg(test)]
-mod tests;
 
 /// HMAC-SHA-1 (RFC 2104) of a text under a key of any length.
 pub fn hmac_sha1(key: &[u8], words: &[u8]) -> [u8; 20]

@@ -17,8 +17,6 @@ mod plan;
 pub mod ports;
 mod script;
 pub mod tape;
-#[cfg(test)]
-mod tests;
 
 pub use bytes::{Got, Put, Sink, Source};
 pub use clean::{CleanSink, CleanSource};

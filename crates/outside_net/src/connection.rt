@@ -5,10 +5,7 @@ use crate::reactor::Reactor;
 use mio::Interest;
 use mio::net::TcpStream;
 use std::io::{Error, ErrorKind, Read, Result, Write};
-use std::time::Duration;
-
-// How long a reading waits, in milliseconds: what nothing rings, such as deadlines, is looked at so often.
-const READ_WAIT: u64 = 20;
+use std::time::{Clock, Duration};
 
 // How long a writing waits: so many rounds of so many milliseconds, 30 seconds in all. A round that ends before the socket
 // has room, as at a signal, makes it shorter.
@@ -18,16 +15,16 @@ const WRITE_WAIT: u64 = 1000;
 
 /// A connection whose reads and writes don't wait by themselves.
 #[derive(Drop)]
-pub(crate) struct Connection {
+pub(crate) struct Connection<R: Clock + Drop> {
     stream: TcpStream,
-    reactor: Reactor,
+    reactor: Reactor<R>,
     // A reading found nothing, and no change came since.
     dry: bool,
 }
 
-impl Connection {
+impl<R: Clock + Drop> Connection<R> {
     /// A connection of a stream that the reactor watches for bytes.
-    pub(crate) fn new(stream: TcpStream, reactor: Reactor) -> Connection {
+    pub(crate) fn new(stream: TcpStream, reactor: Reactor<R>) -> Connection<R> {
         Connection {
             stream,
             reactor,
@@ -36,7 +33,7 @@ impl Connection {
     }
 
     /// Closes the stream, which so leaves the reactor's poll.
-    pub(crate) fn into_reactor(self) -> Reactor {
+    pub(crate) fn into_reactor(self) -> Reactor<R> {
         let Connection { reactor, .. } = self;
         reactor
     }
@@ -53,11 +50,10 @@ impl Connection {
         result
     }
 
-    /// Waits until there may be something to read, until it is rung, or for `READ_WAIT`.
+    /// Waits until there may be something to read, until it is rung, or until all workers look again.
     pub(crate) fn wait_for_bytes(&mut self) -> Result<()> {
-        let changed = self
-            .reactor
-            .wait_for_ring(Duration::from_millis(READ_WAIT))?;
+        let rest = self.reactor.rest();
+        let changed = self.reactor.wait_for_ring(rest)?;
         if changed {
             self.dry = false;
         }

@@ -6,6 +6,7 @@ mod bell;
 mod connection;
 mod net_ports;
 mod open_fault;
+mod pace;
 mod reactor;
 mod standard;
 mod system;

@@ -6,6 +6,7 @@ ghost use Rattle.outside_net.specs.Counts.{AreOpened, took_post, took_posts};
 
 use crate::bell::Bell;
 use crate::open_fault::OpenFault;
+use crate::pace::Pace;
 use crate::reactor::{Poller, Reactor};
 use crate::system::{SystemClock, SystemDice};
 use crate::tcp_door::TcpDoor;
@@ -21,7 +22,7 @@ use std::sync::Arc;
 use std::time::Clock;
 
 /// What a worker has of the world.
-pub type TcpPost<R> = Post<TcpDoor, SystemClock<R>, SystemDice<R>>;
+pub type TcpPost<R> = Post<TcpDoor<R>, SystemClock<R>, SystemDice<R>>;
 
 /// Ports over TCP on this machine, with the system's clock and random bytes. They count their errors and what comes back
 /// with the posts, and tell no tapes.
@@ -87,7 +88,7 @@ impl<R: Net + Clock + RandomSource + Clone + Drop> NetPorts<R> {
 }
 
 impl<R: Net + Clock + RandomSource + Clone + Drop> Ports for NetPorts<R> {
-    type Door = TcpDoor;
+    type Door = TcpDoor<R>;
 
     type Clock = SystemClock<R>;
 
@@ -195,7 +196,8 @@ fn make_posts<R: Net + Clock + RandomSource + Clone + Drop>(
     let mut posts = Vec::new(alloc);
     let mut line: u32 = 0;
     for poller in pollers {
-        let reactor = Reactor::new(poller, Arc::try_clone(bells)?, line);
+        let pace = Pace::new(rt.clone()?);
+        let reactor = Reactor::new(poller, Arc::try_clone(bells)?, line, pace);
         let arrivals = Poller::new(alloc, Poll::new(rt)?)?;
         let door = TcpDoor::new(Arc::try_clone(listener)?, arrivals, reactor, quota)?;
         posts.push(Post {

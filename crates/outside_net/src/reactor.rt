@@ -1,12 +1,13 @@
 //! What a worker waits with. No contract speaks of when a wait ends.
 
 use crate::bell::Bell;
+use crate::pace::Pace;
 use mio::event::Source;
 use mio::{Events, Interest, Poll, Registry, Token};
 use std::alloc::{AllocError, Global};
 use std::io;
 use std::sync::Arc;
-use std::time::Duration;
+use std::time::{Clock, Duration};
 
 // The one socket of a poll.
 const SOCKET: Token = Token(0);
@@ -50,22 +51,29 @@ impl Poller {
     }
 }
 
-/// What the worker of a line waits with for its connection: a poll, and the bells of all workers, its own among them. A
-/// door lends it to the link that it hands out.
+/// What the worker of a line waits with for its connection: a poll, the bells of all workers, its own among them, and when
+/// it looks again. A door lends it to the link that it hands out.
 #[derive(Drop)]
-pub(crate) struct Reactor {
+pub(crate) struct Reactor<R: Clock + Drop> {
     poller: Poller,
     bells: Arc<Vec<Bell>, Global>,
     line: u32,
+    pace: Pace<R>,
 }
 
-impl Reactor {
+impl<R: Clock + Drop> Reactor<R> {
     /// The poll is the one that the bell of this line ends.
-    pub(crate) fn new(poller: Poller, bells: Arc<Vec<Bell>, Global>, line: u32) -> Reactor {
+    pub(crate) fn new(
+        poller: Poller,
+        bells: Arc<Vec<Bell>, Global>,
+        line: u32,
+        pace: Pace<R>,
+    ) -> Reactor<R> {
         Reactor {
             poller,
             bells,
             line,
+            pace,
         }
     }
 
@@ -85,6 +93,11 @@ impl Reactor {
     /// Waits for the socket, at most so long: whether it may have changed.
     pub(crate) fn wait(&mut self, longest: Duration) -> io::Result<bool> {
         self.poller.wait(longest)
+    }
+
+    /// How long a worker waits to whom nothing comes.
+    pub(crate) fn rest(&self) -> Duration {
+        self.pace.rest()
     }
 
     /// Waits for the socket, at most so long, unless the line was or is rung: whether the socket may have changed.

@@ -17,7 +17,7 @@ use std::marker::Model;
 use std::net::SocketAddr;
 use std::os::fd::AsRawFd;
 use std::sync::{Arc, Wait};
-use std::time::Duration;
+use std::time::{Clock, Duration};
 
 // How long a door waits before it asks the listener again, whatever it was told, in milliseconds.
 const ACCEPT_WAIT: u64 = 1000;
@@ -35,17 +35,17 @@ const EPROTO: i32 = 71;
 /// A door at a listening socket, which all workers' doors share: a connection comes through one of them. It hands out one
 /// link at a time, and the next when that one was given back. It counts its errors and its links, and tells no tapes.
 #[derive(Drop)]
-pub struct TcpDoor {
+pub struct TcpDoor<R: Clock + Drop> {
     listener: Arc<TcpListener, Global>,
     arrivals: Poller,
     // It is with the link while one is handed out.
-    reactor: Option<Reactor>,
+    reactor: Option<Reactor<R>>,
     quota: u64,
     links: u64,
     faults: u64,
 }
 
-impl Model for TcpDoor {
+impl<R: Clock + Drop> Model for TcpDoor<R> {
     ghost use Rattle.outside_net.specs.Counts.{DoorCounts};
 
     ghost Value = { DoorCounts };
@@ -53,14 +53,14 @@ impl Model for TcpDoor {
     ghost view = { λ d. record { faults = d.faults; links = d.links; quota = d.quota } };
 }
 
-impl TcpDoor {
+impl<R: Clock + Drop> TcpDoor<R> {
     /// A door that is to hand out so many links; 0 is without end. Each waits with this reactor.
     pub(crate) fn new(
         listener: Arc<TcpListener, Global>,
         arrivals: Poller,
-        reactor: Reactor,
+        reactor: Reactor<R>,
         quota: u64,
-    ) -> Result<TcpDoor>
+    ) -> Result<TcpDoor<R>>
         ensures { IfOk result (λ d. d ≡ fresh_door quota) }
     {
         arrivals.watch(&mut SourceFd(&listener.as_raw_fd()), Interest::READABLE)?;
@@ -93,7 +93,7 @@ impl TcpDoor {
         self.links
     }
 
-    fn fail(&mut self) -> Came<TcpLink>
+    fn fail(&mut self) -> Came<TcpLink<R>>
         ensures result { result ≡ Came.Failed }
         ensures kept { self.old.faults ≤ self.new.faults }
         ensures rose { Rose self.old.faults self.new.faults }
@@ -112,8 +112,8 @@ impl TcpDoor {
     }
 }
 
-impl Door for TcpDoor {
-    type Link = TcpLink;
+impl<R: Clock + Drop> Door for TcpDoor<R> {
+    type Link = TcpLink<R>;
 
     ghost tapes = { λ _. None };
 
@@ -125,7 +125,7 @@ impl Door for TcpDoor {
 
     /// The next connection, however long it takes to come. `Failed` where the listener or the poll does, and where the last link
     /// wasn't given back. A connection that is gone before it is handed out isn't counted, and a want of descriptors is waited out.
-    fn accept<R: Wait>(&mut self, rt: &R) -> Came<TcpLink>
+    fn accept<W: Wait>(&mut self, rt: &W) -> Came<TcpLink<R>>
         ensures comes { Comes LinkCounts self.old.quota self.old.links self.new.links result }
         ensures quota { self.new.quota ≡ self.old.quota }
         ensures kept { self.old.faults ≤ self.new.faults }
@@ -150,7 +150,7 @@ impl Door for TcpDoor {
     }
 
     /// Closes the connection.
-    fn done(&mut self, link: TcpLink)
+    fn done(&mut self, link: TcpLink<R>)
         ensures { self.new ≡ self.old }
     {
         self.reactor = Some(link.into_reactor());
@@ -158,11 +158,11 @@ impl Door for TcpDoor {
 }
 
 /// The next connection, ready for a link that waits with this reactor.
-fn next_stream<R: Wait>(
-    rt: &R,
+fn next_stream<W: Wait, R: Clock + Drop>(
+    rt: &W,
     listener: &TcpListener,
     arrivals: &mut Poller,
-    reactor: &Reactor,
+    reactor: &Reactor<R>,
 ) -> Result<TcpStream> {
     for _ in rt.forever() {
         match listener.accept() {

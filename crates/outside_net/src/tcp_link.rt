@@ -7,16 +7,17 @@ use crate::connection::{Connection, is_pending};
 use crate::reactor::Reactor;
 use outside::{Heard, Link, Put};
 use std::marker::Model;
+use std::time::Clock;
 
 /// A TCP connection to a client, which a `TcpDoor` hands out. It counts its errors and its Ends, and tells no tape.
 #[derive(Drop)]
-pub struct TcpLink {
-    connection: Connection,
+pub struct TcpLink<R: Clock + Drop> {
+    connection: Connection<R>,
     faults: u64,
     ends: u64,
 }
 
-impl Model for TcpLink {
+impl<R: Clock + Drop> Model for TcpLink<R> {
     ghost use Rattle.outside_net.specs.Counts.{LinkCounts};
 
     ghost Value = { LinkCounts };
@@ -24,8 +25,8 @@ impl Model for TcpLink {
     ghost view = { λ l. record { faults = l.faults; ends = l.ends } };
 }
 
-impl TcpLink {
-    pub(crate) fn new(connection: Connection) -> TcpLink
+impl<R: Clock + Drop> TcpLink<R> {
+    pub(crate) fn new(connection: Connection<R>) -> TcpLink<R>
         ensures { result ≡ record { faults = 0; ends = 0 } }
     {
         TcpLink {
@@ -36,7 +37,7 @@ impl TcpLink {
     }
 
     /// Closes the connection, and gives what it waited with.
-    pub(crate) fn into_reactor(self) -> Reactor {
+    pub(crate) fn into_reactor(self) -> Reactor<R> {
         self.connection.into_reactor()
     }
 
@@ -72,7 +73,7 @@ impl TcpLink {
     }
 }
 
-impl Link for TcpLink {
+impl<R: Clock + Drop> Link for TcpLink<R> {
     ghost tape = { λ _. None };
 
     ghost faults = { λ l. l.faults };
@@ -80,7 +81,7 @@ impl Link for TcpLink {
     ghost ends = { λ l. l.ends };
 
     /// Where there is nothing to read, waits at most 20 milliseconds for it, and answers `Quiet` then, or at once where its
-    /// line was rung since it last waited. `End` where the peer closed its side, `Failed` at any error. Takes no memory.
+    /// line was rung since it last waited. Links for which nothing comes stop waiting at the same moments. `End` where the peer closed its side, `Failed` at any error. Takes no memory.
     fn recv(&mut self, into: &mut [u8]) -> Heard
         requires { 0 < length into.old }
         ensures fits { HeardFits result into.new }

@@ -13,8 +13,6 @@ mod place;
 mod proof;
 mod stage;
 mod step;
-#[cfg(test)]
-mod tests;
 mod verifier;
 
 pub use exchange::{Challenge, Scram, Success};

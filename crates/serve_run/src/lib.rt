@@ -6,7 +6,5 @@ mod list;
 mod opening;
 mod report;
 mod serving;
-#[cfg(test)]
-mod tests;
 
 pub use serving::{Serving, serve};

@@ -4,8 +4,6 @@
 mod grammar;
 mod number;
 mod option;
-#[cfg(test)]
-mod tests;
 mod words;
 
 pub use words::read_serve;

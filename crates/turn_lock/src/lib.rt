@@ -13,8 +13,6 @@ mod lock;
 mod parking;
 pub mod rule;
 mod story;
-#[cfg(test)]
-mod tests;
 mod tokens;
 
 pub use lock::Turnstile;

@@ -1,8 +1,0 @@
-use Rattle.turn_lock.proofs.tests.closed.Goals as goal
-
-pub returns-clause-closes : goal.returns-clause-closes
-returns-clause-closes c = record {
-  history = c.close.ensures.history;
-  lines = c.close.ensures.lines;
-  mine = c.close.ensures.mine;
-}

@@ -1,5 +1,0 @@
-use Rattle.turn_lock.specs.Passes.{IsIdle}
-use Rattle.turn_lock.proofs.tests.count_on.Given as goal
-
-abbrev pub invariant-loop-n : goal.invariant-loop-n
-invariant-loop-n g l = IsIdle (λ e. e.0) (λ t. t.base) l.fn.lock l.pass
