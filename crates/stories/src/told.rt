@@ -1,25 +1,24 @@
 //! Stories. A story is a line `== TITLE` and the lines up to the next such line: lines of words for people that begin with `# `, and
 //! then a script.
-
 ghost use Rattle.std.specs.Prelude.{◌<◌};
 
 use outside::{MemSink, MemSource};
 use script_play::Status;
 use script_play::replay::replay;
-use std::alloc::{AllocError, Global};
+use std::alloc::Global;
 use std::io::{self, Write};
 
 const TITLE: &[u8] = b"== ";
 
 const COMMENT: &[u8] = b"# ";
 
-/// How many bytes a reading and a writing of a story's first play moves at most.
+/// How many bytes a reading or a writing moves at most in a story's first play.
 const PIECE: usize = 4096;
 
-/// How many they are in its other plays.
+/// How many it moves in the other plays.
 const SMALL_PIECES: [usize; 2] = [7, 1];
 
-/// How many bytes a play may print.
+/// How many bytes a play may print: for one that prints more, writing fails.
 const ROOM: usize = 1_048_576;
 
 /// What a play of a script printed, and how it ended.
@@ -64,24 +63,25 @@ fn tell<W: Write>(alloc: Global, script: &[u8], out: &mut W) -> io::Result<()> {
     write_end(first.status, out)
 }
 
-/// Plays a script of which a reading gives, and of whose prints a writing takes, so many bytes at most.
-fn play(alloc: Global, script: &[u8], piece: usize) -> Result<Played, AllocError>
+/// Plays a script of which a reading gives, and of whose prints a writing takes, so many bytes at most. A play that finds no memory is an error.
+fn play(alloc: Global, script: &[u8], piece: usize) -> io::Result<Played>
     requires { 0 < piece }
 {
     let bytes = Vec::from_slice(alloc, script)?;
     let mut source = MemSource::new(bytes, piece, Vec::new(alloc));
     let mut sink = MemSink::new(alloc, ROOM, piece, Vec::new(alloc))?;
-    let status = replay(alloc, &mut source, &mut sink);
-    Ok(Played { sink, status })
+    match replay(alloc, &mut source, &mut sink) {
+        Status::NoMemory => Err(io::Error::from(io::ErrorKind::OutOfMemory)),
+        status => Ok(Played { sink, status }),
+    }
 }
 
-/// Writes how a play ended, in the words of the server. A play that found no memory is an error, and so is one that ended as none does.
+/// Writes how a play ended, in the words of the server. It is an error to have ended as no play does.
 fn write_end<W: Write>(status: Status, out: &mut W) -> io::Result<()> {
     match status {
         Status::Done => writeln!(out, "-- done"),
         Status::Script(line) => writeln!(out, "-- script line {line}"),
         Status::WriteFault => writeln!(out, "-- write fault"),
-        Status::NoMemory => Err(io::Error::from(io::ErrorKind::OutOfMemory)),
         _ => Err(io::Error::from(io::ErrorKind::Other)),
     }
 }

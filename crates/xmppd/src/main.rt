@@ -5,19 +5,9 @@ mod account;
 #[cfg(test)]
 mod account_tests;
 mod laws;
-#[cfg(test)]
-mod presence_tests;
-#[cfg(test)]
-mod roster_tests;
 mod run;
 #[cfg(test)]
 mod serve_tests;
-#[cfg(test)]
-mod session_tests;
-#[cfg(test)]
-mod stanza_tests;
-#[cfg(test)]
-mod stream_tests;
 #[cfg(test)]
 mod tests;
 mod words;
