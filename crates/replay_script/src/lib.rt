@@ -11,8 +11,6 @@ mod print;
 mod read;
 mod stanza;
 pub mod step;
-#[cfg(test)]
-mod tests;
 
 pub use fault::LineFault;
 pub use print::{print_item, print_reply};

@@ -5,13 +5,7 @@ mod builder;
 mod builder_runs;
 mod built;
 mod expanded;
-#[cfg(test)]
-mod feeding;
 mod framer;
-#[cfg(test)]
-mod framer_tests;
-#[cfg(test)]
-mod name_tests;
 mod names;
 mod namespaces;
 mod places;

@@ -15,8 +15,6 @@ mod kinds;
 mod laws;
 mod stages;
 mod steps;
-#[cfg(test)]
-mod tests;
 mod turning;
 
 pub use characters::Pending;
