@@ -1,5 +1,6 @@
-//! The outside in memory, and connections, from what an item asks to a server of several workers: tests of `outside`, `conn_asks`, `conn_flow`, `conn_serve`, `conn_staff`,
-//! `serve_run` and `serve_words` by their public calls. They stand apart from these crates, since a crate with tests is proved twice.
+//! The outside in memory, and connections, from the syntax of a stream to a server of several workers: tests of `outside`,
+//! `stream_frames`, `conn_asks`, `conn_flow`, `conn_serve`, `conn_staff`, `serve_run` and `serve_words` by their public calls. They
+//! stand apart from these crates, since a crate with tests is proved twice.
 #![tactic(auto)]
 
 #[cfg(test)]
@@ -24,6 +25,8 @@ mod servers;
 mod session_cases;
 #[cfg(test)]
 mod staff;
+#[cfg(test)]
+mod syntax;
 #[cfg(test)]
 mod texts;
 #[cfg(test)]

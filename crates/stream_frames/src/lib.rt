@@ -13,8 +13,6 @@ mod plain;
 mod runs;
 mod scan;
 mod tags;
-#[cfg(test)]
-mod tests;
 mod tracker;
 mod tracker_runs;
 mod work;

@@ -1,7 +1,7 @@
 //! The syntax of a stream by itself, under other limits than those of the server.
 
-use crate::syntax_fault;
 use std::test::Fail;
+use stream_frames::syntax_fault;
 use stream_grammar::FrameFault::{NotWellFormed, TooDeep, TooManyAttrs};
 use stream_grammar::{FrameFault, Rules};
 
