@@ -9,8 +9,6 @@ pub mod laws;
 pub mod part;
 mod prepare;
 mod refuse;
-#[cfg(test)]
-mod tests;
 
 pub use address::Jid;
 pub use cut::cut_at;

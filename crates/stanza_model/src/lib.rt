@@ -5,23 +5,15 @@ pub mod condition;
 pub mod effect;
 pub mod error;
 pub mod form;
-#[cfg(test)]
-mod form_tests;
 pub mod here;
 pub mod kinds;
 pub mod limits;
 pub mod make;
 pub mod nonza;
-#[cfg(test)]
-mod nonza_tests;
 pub mod reply;
 pub mod roster;
-#[cfg(test)]
-mod roster_tests;
 pub mod shared;
 pub mod stanza;
-#[cfg(test)]
-mod tests;
 
 pub use condition::Condition;
 pub use effect::{Change, Effect};

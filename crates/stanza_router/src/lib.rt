@@ -2,14 +2,10 @@
 #![tactic(auto)]
 
 pub mod discovery;
-#[cfg(test)]
-mod discovery_tests;
 pub mod listed;
 pub mod message;
 pub mod places;
 pub mod routing;
-#[cfg(test)]
-mod tests;
 
 pub use discovery::discover;
 pub use listed::Listed;

@@ -1,5 +1,5 @@
 -- How long an element is, by itself and among the children of another of its namespace.
-use Rattle.std.proofs.Common.{◌≡◌, refl, ap, ◌∙◌, sym, arith, ℕ, ◌+◌, List, length}
+use Rattle.std.proofs.Common.{◌≡◌, ap, arith, ℕ, ◌+◌, List, length}
 use Rattle.std.proofs.lemmas.Grind.{common_steps}
 use Rattle.stanza_tree.specs.Spelling.{attributes, client_space, closed, declarations, default_space, named, opened, text_under, texts_under}
 use Rattle.stanza_tree.specs.declared.node.Element.{Element}

@@ -2,16 +2,12 @@
 #![tactic(auto)]
 
 pub mod children;
-#[cfg(test)]
-mod children_tests;
 pub mod frame;
 pub mod measure;
 pub mod node;
 pub mod several;
 pub mod spell;
 pub mod stamp;
-#[cfg(test)]
-mod tests;
 pub mod text;
 
 pub use frame::{Entry, Origin, append, append_value, append_words, frame_length, push_frame};
