@@ -43,3 +43,4 @@ pub mod OneFault
 pub mod ScopeFaults
 pub mod OpenItems
 pub mod ProperItems
+pub mod ItemListLemmas
