@@ -44,3 +44,4 @@ pub mod ScopeFaults
 pub mod OpenItems
 pub mod ProperItems
 pub mod ItemListLemmas
+pub mod TakenLemmas

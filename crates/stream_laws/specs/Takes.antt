@@ -1,0 +1,21 @@
+-- How many bytes of a piece are taken.
+use Rattle.std.specs.Prelude.{◌≡◌, ℕ, ◌+◌, ◌⊎◌, List, [], ◌∷◌, ◌++◌, length}
+use Rattle.stream_grammar.specs.declared.FrameFault.{FrameFault}
+use Rattle.stream_grammar.specs.declared.item.Item.{Item}
+use Rattle.stream_grammar.specs.declared.item.Limits.{Limits}
+use Rattle.stream_grammar.specs.Parts.{IsItem, IsByteFault}
+use Rattle.stream_grammar.specs.Reading.{rules_of}
+
+-- the byte after these ends an item, or it has a fault
+abbrev pub IsStop : Limits → List ℕ → ℕ → Type 0
+IsStop l bytes b = ((i : Item) × IsItem (rules_of l) (bytes ++ b ∷ []) i) ⊎ ((f : FrameFault) × IsByteFault l bytes b f)
+
+-- after these bytes no byte of the piece does either
+abbrev pub HasNoStop : Limits → List ℕ → List ℕ → Type 0
+HasNoStop l before piece = (xs ys : List ℕ) (b : ℕ) → piece ≡ xs ++ (b ∷ ys) → IsStop l (before ++ xs) b → ⊥
+
+-- After these bytes a piece is read up to its first byte that ends an item or has a fault, and that byte too; and else to its end.
+abbrev pub IsTaken : Limits → List ℕ → List ℕ → ℕ → Type 0
+IsTaken l before piece n =
+    (HasNoStop l before piece × (n ≡ length piece))
+    ⊎ ((xs : List ℕ) × (b : ℕ) × (ys : List ℕ) × (piece ≡ xs ++ (b ∷ ys)) × HasNoStop l before xs × IsStop l (before ++ xs) b × (n ≡ length xs + 1))
