@@ -45,3 +45,4 @@ pub mod OpenItems
 pub mod ProperItems
 pub mod ItemListLemmas
 pub mod TakenLemmas
+pub mod CallLemmas

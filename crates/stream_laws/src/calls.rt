@@ -3,14 +3,15 @@
 //! A framer that was made or begun again stands at `first_reading`. The contracts of its calls say what each does to the reading; these laws say what
 //! that comes to, so that nobody has to follow the fold over the bytes.
 
-ghost use Rattle.std.specs.Prelude.{◌≡◌, ℕ, ◌<◌, List, length};
+ghost use Rattle.std.specs.Prelude.{◌≡◌, ℕ, ◌<◌, List, Option, [], ◌∷◌, ◌++◌, length, None, option_to_list};
 ghost use Rattle.stream_grammar.specs.declared.FrameFault.{FrameFault};
 ghost use Rattle.stream_grammar.specs.declared.item.Item.{Item};
 ghost use Rattle.stream_grammar.specs.declared.item.Limits.{Limits};
 ghost use Rattle.stream_grammar.specs.Parts.{AreFaultless, IsFault};
-ghost use Rattle.stream_grammar.specs.Reading.{first_reading, handed, taken, went};
+ghost use Rattle.stream_grammar.specs.Reading.{Reading, first_reading, handed, taken, waiting, went};
 ghost use Rattle.stream_laws.specs.ItemLists.{AreItems, items_from};
 ghost use Rattle.stream_laws.specs.Takes.{IsTaken};
+ghost use Rattle.stream_laws.specs.CallLists.{Call, hands, Fed, bytes_taken, IsFedBy, to_fault};
 
 /// Given bytes have one list of items: those of the grammar that end with them, in their order, and the fault last where one of them has a fault.
 /// The fold over the bytes brings just this list, where each item is handed out before the next byte and a fault once.
@@ -29,4 +30,21 @@ pub fn pieces_are_taken_up_to_an_item()
     ensures some { (l : Limits) (before piece : List ℕ) (n : ℕ) → IsTaken l before piece n → 0 < length piece → 0 < n }
     ensures after_fault { (l : Limits) (before piece : List ℕ) (k : ℕ) (f : FrameFault)
         → IsFault l before k f → taken l (handed (went l first_reading before)) piece ≡ length piece }
+{}
+
+/// Of whatever pieces the bytes of a stream are made, the rest of a piece being fed again, and with however many calls that had no memory: what `next`
+/// handed out in all, and what still waits, are the items of the bytes that were taken. A fault, which `next` answers at every call, counts once.
+pub fn cut_anywhere_all_items_are_handed_out()
+    ensures all { (l : Limits) (calls : List Call) (items : List Item) (t : Reading)
+        → Fed l first_reading calls items t → AreItems l (bytes_taken calls) (to_fault (items ++ option_to_list (waiting t))) }
+    ensures asked { (l : Limits) (calls : List Call) (next : Option Item) (items : List Item) (t : Reading)
+        → Fed l first_reading (calls ++ hands next ∷ []) items t → AreItems l (bytes_taken calls) (to_fault items) }
+    ensures none_left { (l : Limits) (calls : List Call) (items : List Item) (t : Reading)
+        → Fed l first_reading calls items t → waiting t ≡ None → AreItems l (bytes_taken calls) items }
+    ensures joined { (l : Limits) (calls : List Call) (items : List Item) (t : Reading) (bytes rest : List ℕ)
+        → Fed l first_reading calls items t → IsFedBy bytes calls rest → bytes ≡ bytes_taken calls ++ rest }
+    ensures whole { (l : Limits) (calls : List Call) (items : List Item) (t : Reading) (bytes : List ℕ)
+        → Fed l first_reading calls items t → IsFedBy bytes calls [] → AreItems l bytes (to_fault (items ++ option_to_list (waiting t))) }
+    ensures stands { (l : Limits) (calls : List Call) (items : List Item) (t : Reading)
+        → Fed l first_reading calls items t → handed t ≡ handed (went l first_reading (bytes_taken calls)) }
 {}
