@@ -1,5 +1,6 @@
-//! The outside in memory, and connections, from the syntax of a stream to a server of several workers: tests of `outside`,
-//! `stream_frames`, `conn_asks`, `conn_flow`, `conn_serve`, `conn_staff`, `serve_run` and `serve_words` by their public calls. They
+//! The outside in memory, values that no script shows, and connections, from the syntax of a stream to a server of several workers:
+//! tests of `outside`, `stanza_model`, `stanza_router`, `stream_frames`, `conn_asks`, `conn_flow`, `conn_serve`, `conn_staff`,
+//! `serve_run` and `serve_words` by their public calls. They
 //! stand apart from these crates, since a crate with tests is proved twice.
 #![tactic(auto)]
 
@@ -31,5 +32,7 @@ mod syntax;
 mod texts;
 #[cfg(test)]
 mod trials;
+#[cfg(test)]
+mod values;
 #[cfg(test)]
 mod words;

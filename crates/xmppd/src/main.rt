@@ -4,8 +4,6 @@
 mod account;
 #[cfg(test)]
 mod account_tests;
-#[cfg(test)]
-mod form_tests;
 mod laws;
 mod run;
 #[cfg(test)]
