@@ -9,8 +9,6 @@ mod flag;
 mod folder;
 mod folders;
 pub mod order;
-#[cfg(test)]
-mod tests;
 
 pub use address::{bare_of, local_user, user_of};
 pub use book::Book;

@@ -2,13 +2,7 @@
 #![tactic(auto)]
 
 pub mod item;
-#[cfg(test)]
-mod limit_tests;
 pub mod refusal;
 pub mod request;
-#[cfg(test)]
-mod set_tests;
-#[cfg(test)]
-mod tests;
 
 pub use request::{removed_by, roster_get, roster_set};

@@ -104,8 +104,3 @@ pub with_session_changed : (s : ℕ) (f : SessionRecord → SessionRecord) (t : 
 with_session_changed s f t x rises at =
     ap (λ (es : List (ℕ × SessionRecord)). record t { sessions = es })
     (changed_alike s 0 t.made (λ _. f x) f t.sessions x rises at refl)
-
-pub changed_nowhere : (s : ℕ) (f : SessionRecord → SessionRecord) (t : TableRecord) → session_of s t ≡ None
-    → changed s f t ≡ t
-changed_nowhere s f t absent =
-    ap (λ (es : List (ℕ × SessionRecord)). record t { sessions = es }) (changed_absent s f t.sessions absent)

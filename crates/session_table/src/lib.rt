@@ -11,8 +11,6 @@ mod line;
 mod search;
 mod session;
 mod table;
-#[cfg(test)]
-mod tests;
 
 pub use life::Life;
 pub use line::Line;

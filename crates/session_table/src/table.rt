@@ -206,13 +206,6 @@ impl Table {
         self.opened
     }
 
-    /// How many sessions are there.
-    pub fn len(&self) -> usize
-        ensures { result ≡ length self.now.sessions }
-    {
-        self.sessions.len()
-    }
-
     /// What is at line w.
     pub fn line(&self, w: u32) -> &Line
         requires { w < length self.now.lines }

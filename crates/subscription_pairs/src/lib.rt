@@ -5,17 +5,9 @@ pub mod change;
 pub mod delivery;
 pub mod laws;
 pub mod limit;
-#[cfg(test)]
-mod limit_tests;
 pub mod outcome;
-#[cfg(test)]
-mod outcome_tests;
 pub mod party;
 pub mod removing;
-#[cfg(test)]
-mod tests;
-#[cfg(test)]
-mod users_tests;
 
 pub use change::subscription;
 pub use outcome::{outbound, state};
