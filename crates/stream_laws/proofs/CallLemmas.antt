@@ -21,7 +21,7 @@ use Rattle.stream_laws.proofs.TakenLemmas.{handed-ready, going-ready, going-none
 
 -- Some bytes of a piece, as many at most as are taken at once: an item ends with the last of them, or none.
 
-abbrev Reached : Limits → Reading → List ℕ → Type 0
+abbrev pub Reached : Limits → Reading → List ℕ → Type 0
 Reached l s bs = (reading_after l s bs ≡ went l s bs) × (items_from l s bs ≡ option_to_list (waiting (went l s bs)))
 
 none-reached : (l : Limits) (f : Reading) → is_stopped f ≡ false → waiting f ≡ None → Reached l f []
@@ -39,7 +39,7 @@ going-brought : (s : Reading) (o : Option Item) → is_stopped s ≡ false → b
 going-brought (reads f b n k) o h = refl
 going-brought (stopped f k) o h = false-true (sym h)
 
-reached : (bs : List ℕ) (l : Limits) (s : Reading) (n : ℕ) → is_stopped s ≡ false → is_ready s ≡ true → n ≤ taken_reading l s bs → Reached l s (take n bs)
+pub reached : (bs : List ℕ) (l : Limits) (s : Reading) (n : ℕ) → is_stopped s ≡ false → is_ready s ≡ true → n ≤ taken_reading l s bs → Reached l s (take n bs)
 reached bs l s zero o h few = none-reached l s o (ready-none s o h)
 reached [] l s (suc n) o h few = none-reached l s o (ready-none s o h)
 reached (b ∷ bs) l s (suc n) o h few = by (is_done (reading_next l s b)) refl few (λ p q r. reached bs l (reading_next l s b) n p q r)

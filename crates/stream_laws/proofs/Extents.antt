@@ -77,7 +77,7 @@ IsCounted r bytes n = ((bytes ≡ []) × (n ≡ 0)) ⊎ IsBegun r bytes n
 pub after-last : (r : Rules) (xs : List ℕ) (b : ℕ) → frame_after r first_frame (xs ++ b ∷ []) ≡ frame_next r (frame_after r first_frame xs) b
 after-last r xs b = frames-more r first_frame xs (b ∷ [])
 
-sound-at : (r : Rules) (xs : List ℕ) → Sound r (frame_after r first_frame xs)
+pub sound-at : (r : Rules) (xs : List ℕ) → Sound r (frame_after r first_frame xs)
 sound-at r xs = after-sound r first_frame xs (first-sound r)
 
 -- before anything no tag opens

@@ -46,3 +46,7 @@ pub mod ProperItems
 pub mod ItemListLemmas
 pub mod TakenLemmas
 pub mod CallLemmas
+pub mod OpenRuns
+pub mod OpenFrames
+pub mod WrittenLemmas
+pub mod HandedLemmas

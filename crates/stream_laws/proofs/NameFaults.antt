@@ -44,7 +44,7 @@ not-end : (ys : List Token) (y : Token) → ys ++ y ∷ [] ≡ [] → ⊥
 not-end [] y e = no_token y [] e
 not-end (v ∷ ys) y e = no_token v (ys ++ y ∷ []) e
 
-init-same : (xs ys : List Token) (x y : Token) → xs ++ x ∷ [] ≡ ys ++ y ∷ [] → xs ≡ ys
+pub init-same : (xs ys : List Token) (x y : Token) → xs ++ x ∷ [] ≡ ys ++ y ∷ [] → xs ≡ ys
 init-same [] [] x y e = refl
 init-same [] (v ∷ ys) x y e = absurd (not-end ys y (sym (token_tail x v [] (ys ++ y ∷ []) e)))
 init-same (u ∷ xs) [] x y e = absurd (not-end xs x (token_tail u y (xs ++ x ∷ []) [] e))
@@ -55,7 +55,7 @@ regroup-tag : (d p f b x : List Token) → d ++ (p ++ (f ++ (b ++ x))) ≡ ((d +
 regroup-tag d p f b x = simp append_assoc
 
 -- up to the `>`
-tokens-split : (d : Bool) (path : List Step) (f : Content) (t : RawTag) (e : Bool) → tokens_to d path f t e ≡ (tokens_in d path f ++ tag-body t) ++ token.TagEnds e ∷ []
+pub tokens-split : (d : Bool) (path : List Step) (f : Content) (t : RawTag) (e : Bool) → tokens_to d path f t e ≡ (tokens_in d path f ++ tag-body t) ++ token.TagEnds e ∷ []
 tokens-split d path f t e =
     ap (λ (l : List Token). declaration_tokens d ++ (path_tokens path ++ (content_tokens f ++ l))) (body-then t e)
     ∙ regroup-tag (declaration_tokens d) (path_tokens path) (content_tokens f) (tag-body t) (token.TagEnds e ∷ [])

@@ -168,7 +168,7 @@ frame-done r (open_at st n) b h k w = by (turn st b) refl k w
     by (leads to us) e k w = all to us (turn-few st to b us e) k w
     by (fails x) e k w = absurd (not-both true refl w)
 
-goes-whole : (r : Rules) (bytes : List ℕ) → Begins r bytes → is_broken (frame_after r first_frame bytes) ≡ false
+pub goes-whole : (r : Rules) (bytes : List ℕ) → Begins r bytes → is_broken (frame_after r first_frame bytes) ≡ false
 goes-whole r bytes begins = by (is_broken (frame_after r first_frame bytes)) refl
   where
     by : (t : Bool) → is_broken (frame_after r first_frame bytes) ≡ t → t ≡ false
@@ -287,7 +287,7 @@ come-open r bytes b d root f front t split h told short whole =
       λ k. after-open r m t (build_all nothing_built (head_tokens d root f)) h (placed-item r s (nest r m t) (ap in_item (sym next) ∙ k)) levels (ap (λ (y : Building). y.opened) is),
     )
 
-come-whole : (r : Rules) (bytes : List ℕ) (root : RawTag) (f : Content) → HasCome r bytes root f → is_broken (frame_after r first_frame bytes) ≡ false
+pub come-whole : (r : Rules) (bytes : List ℕ) (root : RawTag) (f : Content) → HasCome r bytes root f → is_broken (frame_after r first_frame bytes) ≡ false
 come-whole r bytes root f come = let (d, spells) = come-ends r bytes root f come in goes-whole r bytes (end_tag_of root, record { declared = d; root = root; content = f }, spells)
 
 pub item_was_open : (r : Rules) (bytes : List ℕ) (b : ℕ) → EndsHeader r (bytes ++ b ∷ []) ⊎ EndsTop r (bytes ++ b ∷ []) → HasOpenItem r bytes × (HasOpenItem r (bytes ++ b ∷ []) → ⊥)

@@ -246,7 +246,7 @@ reading-waits l bytes byte (reads f b n k) x (p, q) w e g = by (byte_judged l f 
     by None j w e = byte-waits l bytes byte f b x p q (or-none _ _ (or-none _ _ j).1).0 e (subst (λ (y : Frame). AreJudged nothing_built (told_all (rules_of l) first_frame bytes ++ told_at y byte)) (sym p) g)
     by (Some y) j w e = absurd (let bad : true ≡ false = w in cc)
 
-told-more : (r : Rules) (f : Frame) (xs ys : List ℕ) → told_all r f (xs ++ ys) ≡ told_all r f xs ++ told_all r (frame_after r f xs) ys
+pub told-more : (r : Rules) (f : Frame) (xs ys : List ℕ) → told_all r f (xs ++ ys) ≡ told_all r f xs ++ told_all r (frame_after r f xs) ys
 told-more r f [] ys = refl
 told-more r f (x ∷ xs) ys = ap (λ (l : List Token). told_at f x ++ l) (told-more r (frame_next r f x) xs ys) ∙ sym (append_assoc (told_at f x) (told_all r (frame_next r f x) xs) (told_all r (frame_after r (frame_next r f x) xs) ys))
 

@@ -1,3 +1,4 @@
 pub mod ItemLists
 pub mod Takes
 pub mod CallLists
+pub mod Written

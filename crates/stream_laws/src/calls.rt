@@ -1,19 +1,27 @@
 //! What the public calls of a framer do, one after the other, in the words of the grammar.
 //!
-//! A framer that was made or begun again stands at `first_reading`. The contracts of its calls say what each does to the reading; these laws say what
-//! that comes to, so that nobody has to follow the fold over the bytes.
+//! A framer that was made or begun again stands at `first_reading`. The contracts of its calls say what each does to the reading; these
+//! laws say what that comes to, so that nobody has to follow the fold over the bytes.
 
-ghost use Rattle.std.specs.Prelude.{◌≡◌, ℕ, ◌<◌, List, Option, [], ◌∷◌, ◌++◌, length, None, option_to_list};
+ghost use Rattle.std.specs.Prelude.{◌≡◌, ℕ, ◌<◌, List, Option, [], ◌∷◌, ◌++◌, length, map, All, Some, None, option_to_list};
+ghost use Rattle.stanza_tree.specs.declared.node.Element.{Element};
+ghost use Rattle.stanza_tree.specs.Spelling.{text, client_space};
 ghost use Rattle.stream_grammar.specs.declared.FrameFault.{FrameFault};
 ghost use Rattle.stream_grammar.specs.declared.item.Item.{Item};
+ghost use Rattle.stream_grammar.specs.declared.item.Item.TheVariants as item;
 ghost use Rattle.stream_grammar.specs.declared.item.Limits.{Limits};
+ghost use Rattle.stream_grammar.specs.Elements.{default_of, IsNamed};
+ghost use Rattle.stream_grammar.specs.Items.{HasCome};
 ghost use Rattle.stream_grammar.specs.Parts.{AreFaultless, IsFault};
-ghost use Rattle.stream_grammar.specs.Reading.{Reading, first_reading, handed, taken, waiting, went};
+ghost use Rattle.stream_grammar.specs.Reading.{Reading, first_reading, handed, rules_of, taken, waiting, went};
+ghost use Rattle.stream_grammar.specs.RoundTrips.{texts_of};
+ghost use Rattle.stream_grammar.specs.Trees.{RawTag, Content};
 ghost use Rattle.stream_laws.specs.ItemLists.{AreItems, items_from};
 ghost use Rattle.stream_laws.specs.Takes.{IsTaken};
 ghost use Rattle.stream_laws.specs.CallLists.{Call, hands, Fed, bytes_taken, IsFedBy, to_fault};
+ghost use Rattle.stream_laws.specs.Written.{IsWithin};
 
-/// Given bytes have one list of items: those of the grammar that end with them, in their order, and the fault last where one of them has a fault.
+/// Given bytes have one list of items: those of the grammar that end with them, in their order, and the fault last where a byte has one.
 /// The fold over the bytes brings just this list, where each item is handed out before the next byte and a fault once.
 pub fn items_come_in_order()
     ensures brought { (l : Limits) (bytes : List ℕ) → AreItems l bytes (items_from l first_reading bytes) }
@@ -21,8 +29,9 @@ pub fn items_come_in_order()
     ensures one { (l : Limits) (bytes : List ℕ) (xs ys : List Item) → AreItems l bytes xs → AreItems l bytes ys → xs ≡ ys }
 {}
 
-/// What `feed` takes of a piece, where the bytes before it have no fault and their items were handed out: all of it where none of its bytes ends
-/// an item or has a fault, and else as far as the first that does, and that byte too. Of a piece that has bytes it takes one at least. After a fault it takes all.
+/// What `feed` takes of a piece, where the bytes before it have no fault and their items were handed out: all of it where none of its bytes
+/// ends an item or has a fault, and else as far as the first that does, and that byte too. Of a piece that has bytes it takes one at least.
+/// After a fault it takes all.
 pub fn pieces_are_taken_up_to_an_item()
     ensures taken { (l : Limits) (before piece : List ℕ)
         → AreFaultless l before → IsTaken l before piece (taken l (handed (went l first_reading before)) piece) }
@@ -32,8 +41,9 @@ pub fn pieces_are_taken_up_to_an_item()
         → IsFault l before k f → taken l (handed (went l first_reading before)) piece ≡ length piece }
 {}
 
-/// Of whatever pieces the bytes of a stream are made, the rest of a piece being fed again, and with however many calls that had no memory: what `next`
-/// handed out in all, and what still waits, are the items of the bytes that were taken. A fault, which `next` answers at every call, counts once.
+/// Whatever the pieces in which the bytes of a stream are fed, the rest of a piece being fed again, and however many calls had no memory:
+/// what `next` handed out in all, and what still waits, are the items of the bytes that were taken. Where `next` was the last call, it handed
+/// all of them out. A fault, which `next` answers at every call, counts once. The framer stands where the bytes lead.
 pub fn cut_anywhere_all_items_are_handed_out()
     ensures all { (l : Limits) (calls : List Call) (items : List Item) (t : Reading)
         → Fed l first_reading calls items t → AreItems l (bytes_taken calls) (to_fault (items ++ option_to_list (waiting t))) }
@@ -47,4 +57,25 @@ pub fn cut_anywhere_all_items_are_handed_out()
         → Fed l first_reading calls items t → IsFedBy bytes calls [] → AreItems l bytes (to_fault (items ++ option_to_list (waiting t))) }
     ensures stands { (l : Limits) (calls : List Call) (items : List Item) (t : Reading)
         → Fed l first_reading calls items t → handed t ≡ handed (went l first_reading (bytes_taken calls)) }
+{}
+
+/// After the start of a stream whose default namespace is `jabber:client`, in which no byte has a fault, a framer that reads the text of a
+/// proper element within its limits has that element waiting after the last byte, and nothing waits after an earlier one. No byte of the
+/// text has a fault, and `feed` takes the text, whatever comes after it. The items of several texts, one after another, are their elements.
+pub fn what_is_written_is_handed_out()
+    ensures waits { (l : Limits) (bytes : List ℕ) (root : RawTag) (f : Content) (e : Element)
+        → HasCome (rules_of l) bytes root f → IsNamed root f → default_of root ≡ client_space → AreFaultless l bytes → IsWithin l e
+        → waiting (went l first_reading (bytes ++ text e)) ≡ Some (item.Top e) }
+    ensures none_before { (l : Limits) (bytes : List ℕ) (root : RawTag) (f : Content) (e : Element) (xs ys : List ℕ)
+        → HasCome (rules_of l) bytes root f → IsNamed root f → default_of root ≡ client_space → AreFaultless l bytes → IsWithin l e
+        → text e ≡ xs ++ ys → (xs ≡ [] → ⊥) → (ys ≡ [] → ⊥) → waiting (went l first_reading (bytes ++ xs)) ≡ None }
+    ensures faultless { (l : Limits) (bytes : List ℕ) (root : RawTag) (f : Content) (e : Element)
+        → HasCome (rules_of l) bytes root f → IsNamed root f → default_of root ≡ client_space → AreFaultless l bytes → IsWithin l e
+        → AreFaultless l (bytes ++ text e) }
+    ensures taken { (l : Limits) (bytes : List ℕ) (root : RawTag) (f : Content) (e : Element) (more : List ℕ)
+        → HasCome (rules_of l) bytes root f → IsNamed root f → default_of root ≡ client_space → AreFaultless l bytes → IsWithin l e
+        → taken l (handed (went l first_reading bytes)) (text e ++ more) ≡ length (text e) }
+    ensures items { (l : Limits) (bytes : List ℕ) (root : RawTag) (f : Content) (es : List Element) (before : List Item)
+        → HasCome (rules_of l) bytes root f → IsNamed root f → default_of root ≡ client_space → AreFaultless l bytes → All (IsWithin l) es
+        → AreItems l bytes before → AreItems l (bytes ++ texts_of es) (before ++ map item.Top es) }
 {}
