@@ -31,7 +31,7 @@ fn feed_both(framer: &mut Framer, front: &[u8], bytes: &[u8]) -> Result<Option<I
 }
 
 /// The item that ends with the bytes, after those in front.
-fn item(alloc: Global, front: &[u8], bytes: &[u8]) -> Result<Option<Item>, Fail> {
+pub(crate) fn item(alloc: Global, front: &[u8], bytes: &[u8]) -> Result<Option<Item>, Fail> {
     let mut framer = Framer::new(alloc, LIMITS)?;
     feed_both(&mut framer, front, bytes)
 }
