@@ -12,3 +12,4 @@ pub mod RunWords
 pub mod RunValues
 pub mod RunNames
 pub mod RunEnds
+pub mod MarkupLemmas

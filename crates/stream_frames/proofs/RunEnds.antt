@@ -39,7 +39,7 @@ end-placed r h x ms [] = refl
 end-placed r h x ms (c ∷ m) = refl
 
 end-quiet : (l : Limits) (h : Half) (x : RawName) (ms : List RawName) (m : List ℕ) (b : Building) (c : ℕ)
-    → is_name_byte c ≡ true → Quiet l (end_in h x ms (c ∷ m)) b c (token.NameByte c) (end_in h x ms m) (named b (b.tag.name ++ c ∷ []))
+    → is_name_byte c ≡ true → Quiet l (end_in h x ms (c ∷ m)) b c (token.NameByte c ∷ []) (end_in h x ms m) (named b (b.tag.name ++ c ∷ []))
 end-quiet l h x ms m b c e = record {
   framed = ap (framed (rules_of l) (closing (x ∷ ms) (c ∷ m))) (turn-name EndTag h c e)
       ∙ (ap (placed (rules_of l) (name_at EndTag h)) (end-nest (rules_of l) (x ∷ ms) c m) ∙ end-placed (rules_of l) h x ms m);
@@ -58,7 +58,7 @@ end-run (c ∷ xs) h x ms m b plain =
     let p = and_parts (is_name_byte c) (are_plain is_name_byte xs) plain in
     let b1 : Building = named b (b.tag.name ++ c ∷ []) in
     subst (λ (w : List ℕ). Leads (end_in h x ms (c ∷ (xs ++ m))) b (c ∷ xs) (end_in h x ms m) (named b w)) (append_assoc b.tag.name (c ∷ []) xs)
-    (more_led (end_in h x ms (c ∷ (xs ++ m))) (end_in h x ms (xs ++ m)) (end_in h x ms m) b b1 (named b ((b.tag.name ++ c ∷ []) ++ xs)) c (token.NameByte c) xs (λ l. end-quiet l h x ms (xs ++ m) b c p.0) (end-run xs h x ms m b1 p.1))
+    (more_led (end_in h x ms (c ∷ (xs ++ m))) (end_in h x ms (xs ++ m)) (end_in h x ms m) b b1 (named b ((b.tag.name ++ c ∷ []) ++ xs)) c (token.NameByte c ∷ []) xs (λ l. end-quiet l h x ms (xs ++ m) b c p.0) (end-run xs h x ms m b1 p.1))
 
 end-state : (st : State) → (is_end_stage st.stage && is_between_characters st) ≡ true → (h : Half) × (st ≡ name_at EndTag h)
 end-state st e =

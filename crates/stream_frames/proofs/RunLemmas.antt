@@ -1,9 +1,9 @@
 -- What holds of all runs.
-use Rattle.std.proofs.Common.{◌≡◌, ℕ, suc, ◌+◌, ◌-◌, ◌<◌, ◌≤◌, ◌^◌, min, List, [], ◌∷◌, ◌++◌, length, take, drop, refl, sym, ap, ◌∙◌, subst, Bool, true, false, not, cond, ◌||◌, ◌&&◌, ◌==◌, nat_lt, arith}
+use Rattle.std.proofs.Common.{◌≡◌, ℕ, suc, ◌+◌, ◌-◌, ◌<◌, ◌≤◌, ◌^◌, min, List, [], ◌∷◌, ◌++◌, append_assoc, length, take, drop, refl, sym, ap, ◌∙◌, subst, Bool, true, false, not, cond, ◌||◌, ◌&&◌, ◌==◌, nat_lt, arith}
 use Rattle.std.specs.Prelude.{Option, None, Some, if◌then◌else◌}
 use Rattle.std.specs.Option.{is_some}
 use Rattle.std.proofs.lemmas.Bool.{and_from, and_parts, and_right, not-true, lt-leb}
-use Rattle.std.proofs.lemmas.List.{drop-drop, take_rest, take-append-drop, take-take, length-take, length-take-le}
+use Rattle.std.proofs.lemmas.List.{length-append, drop-drop, take_rest, take-append-drop, take-take, length-take, length-take-le}
 use Rattle.std.proofs.Math.Seq.{take-add}
 use Rattle.stream_lex.specs.declared.Token.{Token}
 use Rattle.stream_lex.specs.declared.characters.Pending.{Pending}
@@ -27,6 +27,7 @@ use Rattle.stream_grammar.specs.Building.{Building, build, build_all, told_judge
 use Rattle.stream_grammar.specs.Reading.{Reading, reads, or_else, fault_if, concluded, is_past, extent_after, is_large_item, told_number, rules_of, byte_judged, reading_next, reading_after, taken_reading, is_done, is_none}
 use Rattle.stream_grammar.proofs.FeedLemmas.{after_more}
 use Rattle.stream_frames.specs.Fed.{reading_of}
+use Rattle.stream_frames.specs.Markup.{LeadsBy}
 use Rattle.stream_frames.specs.Runs.{are_plain, is_between_characters, IsRun, Leads}
 
 -- A byte that ends nothing and has no fault.
@@ -40,19 +41,19 @@ judged-none p t j q e1 e2 e3 e4 =
 untold : (r : Rules) (f : Frame) (b : ℕ) → is_broken f ≡ false → is_broken (frame_next r f b) ≡ false → fault_told r f b ≡ None
 untold r f b e1 e2 = ap (λ (x : Bool). cond x None (cond (is_broken (frame_next r f b)) (Some (fault_at r f b)) None)) e1 ∙ ap (λ (x : Bool). cond x (Some (fault_at r f b)) None) e2
 
--- what it does, where it tells this token
-pub record Quiet (l : Limits) (f : Frame) (b : Building) (byte : ℕ) (t : Token) (g : Frame) (c : Building) : Type 0 where
+-- what it does, where it tells these tokens
+pub record Quiet (l : Limits) (f : Frame) (b : Building) (byte : ℕ) (ts : List Token) (g : Frame) (c : Building) : Type 0 where
   pub framed : frame_next (rules_of l) f byte ≡ g
-  pub told : told_at f byte ≡ t ∷ []
-  pub built : build b t ≡ c
-  pub named : tag_judged b t ≡ None
+  pub told : told_at f byte ≡ ts
+  pub built : build_all b ts ≡ c
+  pub named : told_judged b ts ≡ None
   pub unbroken : is_broken f ≡ false
   pub still : is_broken g ≡ false
   pub within : in_item g ≡ true
   pub same : c.item ≡ b.item
 
-quiet-next : (l : Limits) (f g : Frame) (b c : Building) (byte : ℕ) (t : Token) (n k : ℕ) → Quiet l f b byte t g c → n < l.bytes → b.item ≡ None → reading_next l (reads f b n k) byte ≡ reads g c (n + 1) (told_number (k + 1))
-quiet-next l f g b c byte t n k q short none =
+quiet-next : (l : Limits) (f g : Frame) (b c : Building) (byte : ℕ) (ts : List Token) (n k : ℕ) → Quiet l f b byte ts g c → n < l.bytes → b.item ≡ None → reading_next l (reads f b n k) byte ≡ reads g c (n + 1) (told_number (k + 1))
+quiet-next l f g b c byte ts n k q short none =
     let none_judged : byte_judged l f b n byte ≡ None =
     judged-none (is_past l f (frame_next (rules_of l) f byte) n) (fault_told (rules_of l) f byte) (told_judged b (told_at f byte)) (is_large_item l (build_all b (told_at f byte)).item)
     (and_right _ _ (lt-leb l.bytes n short)) (untold (rules_of l) f byte q.unbroken (ap is_broken q.framed ∙ q.still)) (ap (told_judged b) q.told ∙ q.named)
@@ -92,23 +93,53 @@ going-on l s t b bs n m e going h =
     shift : (n m : ℕ) → 1 + (n + m) ≡ suc n + m
     shift n m = omega arith
 
-pub more_led : (f g h : Frame) (b c d : Building) (byte : ℕ) (t : Token) (xs : List ℕ) → ((l : Limits) → Quiet l f b byte t g c) → Leads g c xs h d → Leads f b (byte ∷ xs) h d
-more_led f g h b c d byte t xs q led = record {
-  run = λ l n k ys going small fits.
-      let room : n + suc (length xs) ≤ l.bytes = fits in
-      let none : b.item ≡ None = no-item b.item going in
-      let first = quiet-next l f g b c byte t n k (q l) (omega (arith, room)) none in
-      let goes : is_done (reads g c (n + 1) (told_number (k + 1))) ≡ false = ap (λ (i : Option Item). not (is_none i)) ((q l).same ∙ none) in
-      let more = led.run l (n + 1) (told_number (k + 1)) ys goes (let e : told_number (k + 1) < 2 ^ 64 = omega arith in e) (omega (arith, room)) in
-      let to : reads h d ((n + 1) + length xs) (told_number (told_number (k + 1) + length xs)) ≡ reads h d (n + suc (length xs)) (told_number (k + suc (length xs))) =
-      ap (λ (i : ℕ). reads h d i (told_number (told_number (k + 1) + length xs))) (let e : (n + 1) + length xs ≡ n + suc (length xs) = omega arith in e)
-      ∙ ap (reads h d (n + suc (length xs))) (let e : told_number (told_number (k + 1) + length xs) ≡ told_number (k + suc (length xs)) = omega arith in e) in record {
-        read = ap (λ (s : Reading). reading_after l s xs) first ∙ (more.read ∙ to);
-        going = more.going;
-        rest = going-on l (reads f b n k) (reads g c (n + 1) (told_number (k + 1))) byte (xs ++ ys) (length xs) (taken_reading l (reads h d (n + suc (length xs)) (told_number (k + suc (length xs)))) ys) first goes
-            (more.rest ∙ ap (λ (s : Reading). length xs + taken_reading l s ys) to);
+more-run : (l : Limits) (f g h : Frame) (b c d : Building) (byte : ℕ) (ts : List Token) (xs ys : List ℕ) (n k : ℕ) → Quiet l f b byte ts g c → Leads g c xs h d
+    → is_done (reads f b n k) ≡ false → k < 2 ^ 64 → n + length (byte ∷ xs) ≤ l.bytes → IsRun l (reads f b n k) (byte ∷ xs) ys (reads h d (n + length (byte ∷ xs)) (told_number (k + length (byte ∷ xs))))
+more-run l f g h b c d byte ts xs ys n k q led going small fits =
+    let room : n + suc (length xs) ≤ l.bytes = fits in
+    let none : b.item ≡ None = no-item b.item going in
+    let first = quiet-next l f g b c byte ts n k q (omega (arith, room)) none in
+    let goes : is_done (reads g c (n + 1) (told_number (k + 1))) ≡ false = ap (λ (i : Option Item). not (is_none i)) (q.same ∙ none) in
+    let more = led.run l (n + 1) (told_number (k + 1)) ys goes (let e : told_number (k + 1) < 2 ^ 64 = omega arith in e) (omega (arith, room)) in
+    let to : reads h d ((n + 1) + length xs) (told_number (told_number (k + 1) + length xs)) ≡ reads h d (n + suc (length xs)) (told_number (k + suc (length xs))) =
+    ap (λ (i : ℕ). reads h d i (told_number (told_number (k + 1) + length xs))) (let e : (n + 1) + length xs ≡ n + suc (length xs) = omega arith in e)
+    ∙ ap (reads h d (n + suc (length xs))) (let e : told_number (told_number (k + 1) + length xs) ≡ told_number (k + suc (length xs)) = omega arith in e) in record {
+      read = ap (λ (s : Reading). reading_after l s xs) first ∙ (more.read ∙ to);
+      going = more.going;
+      rest = going-on l (reads f b n k) (reads g c (n + 1) (told_number (k + 1))) byte (xs ++ ys) (length xs) (taken_reading l (reads h d (n + suc (length xs)) (told_number (k + suc (length xs)))) ys) first goes
+          (more.rest ∙ ap (λ (s : Reading). length xs + taken_reading l s ys) to);
+    }
+
+pub more_led : (f g h : Frame) (b c d : Building) (byte : ℕ) (ts : List Token) (xs : List ℕ) → ((l : Limits) → Quiet l f b byte ts g c) → Leads g c xs h d → Leads f b (byte ∷ xs) h d
+more_led f g h b c d byte ts xs q led = record { run = λ l n k ys going small fits. more-run l f g h b c d byte ts xs ys n k (q l) led going small fits }
+
+-- one byte, under the rules
+pub mark_led : (r : Rules) (f g : Frame) (b c : Building) (byte : ℕ) (ts : List Token) → ((l : Limits) → rules_of l ≡ r → Quiet l f b byte ts g c) → LeadsBy r f b (byte ∷ []) g c
+mark_led r f g b c byte ts q = record { run = λ l n k ys by going small fits. more-run l f g g b c c byte ts [] ys n k (q l by) (no_bytes_led g c c refl) going small fits }
+
+pub led_by : (r : Rules) (f g : Frame) (b c : Building) (xs : List ℕ) → Leads f b xs g c → LeadsBy r f b xs g c
+led_by r f g b c xs led = record { run = λ l n k ys by going small fits. led.run l n k ys going small fits }
+
+-- bytes and then others
+pub led_then : (r : Rules) (f g h : Frame) (b c d : Building) (xs ms : List ℕ) → LeadsBy r f b xs g c → LeadsBy r g c ms h d → LeadsBy r f b (xs ++ ms) h d
+led_then r f g h b c d xs ms led more = record {
+  run = λ l n k ys by going small fits.
+      let long : length (xs ++ ms) ≡ length xs + length ms = length-append xs ms in
+      let first = led.run l n k (ms ++ ys) by going small (omega (arith, long, fits)) in
+      let second = more.run l (n + length xs) (told_number (k + length xs)) ys by first.going (let e : told_number (k + length xs) < 2 ^ 64 = omega arith in e) (omega (arith, long, fits)) in
+      let to : reads h d ((n + length xs) + length ms) (told_number (told_number (k + length xs) + length ms)) ≡ reads h d (n + length (xs ++ ms)) (told_number (k + length (xs ++ ms))) =
+      ap (λ (i : ℕ). reads h d i (told_number (told_number (k + length xs) + length ms))) (let e : (n + length xs) + length ms ≡ n + length (xs ++ ms) = omega (arith, long) in e)
+      ∙ ap (reads h d (n + length (xs ++ ms))) (let e : told_number (told_number (k + length xs) + length ms) ≡ told_number (k + length (xs ++ ms)) = omega (arith, long) in e) in record {
+        read = after_more l (reads f b n k) xs ms ∙ (ap (λ (s : Reading). reading_after l s ms) first.read ∙ (second.read ∙ to));
+        going = ap is_done (sym to) ∙ second.going;
+        rest = ap (taken_reading l (reads f b n k)) (append_assoc xs ms ys)
+            ∙ (first.rest ∙ (ap (λ (i : ℕ). length xs + i) (second.rest ∙ ap (λ (s : Reading). length ms + taken_reading l s ys) to)
+            ∙ shift (length xs) (length ms) (length (xs ++ ms)) (taken_reading l (reads h d (n + length (xs ++ ms)) (told_number (k + length (xs ++ ms)))) ys) long));
       };
 }
+  where
+    shift : (n m i j : ℕ) → i ≡ n + m → n + (m + j) ≡ i + j
+    shift n m i j e = omega (arith, e)
 
 -- where no byte is read, nothing changes
 pub none_led : (f g : Frame) (b c : Building) (bytes : List ℕ) → g ≡ f → c ≡ b → Leads f b (take 0 bytes) g c
@@ -128,11 +159,14 @@ implied true false r h e = absurd (let bad : false ≡ true = e in cc)
 implied false q r h e = absurd (let bad : false ≡ true = h in cc)
 
 -- between two characters, a byte below 128 that isn't a carriage return does what its kind does
-pub turned : (s : Stage) (b : ℕ) (ts : List Token) → nat_lt b 128 ≡ true → (b == 13) ≡ false → ascii s (ascii_kind b) b ≡ tells_and_goes ts s → turn (at s pending.Nothing false) b ≡ leads (at s pending.Nothing false) ts
+pub turned_to : (s t : Stage) (b : ℕ) (ts : List Token) → nat_lt b 128 ≡ true → (b == 13) ≡ false → ascii s (ascii_kind b) b ≡ tells_and_goes ts t → turn (at s pending.Nothing false) b ≡ leads (at t pending.Nothing false) ts
 unfolding turn_ascii
-turned s b ts low no_return e =
+turned_to s t b ts low no_return e =
     ap (λ (x : Bool). cond x (turn_ascii (at s pending.Nothing false) b) (turn_wide (at s pending.Nothing false) b (reach pending.Nothing b))) low
     ∙ (ap (λ (x : Bool). cond x (settled true (ascii s (ascii_kind 10) 10)) (settled false (ascii s (ascii_kind b) b))) no_return ∙ ap (settled false) e)
+
+pub turned : (s : Stage) (b : ℕ) (ts : List Token) → nat_lt b 128 ≡ true → (b == 13) ≡ false → ascii s (ascii_kind b) b ≡ tells_and_goes ts s → turn (at s pending.Nothing false) b ≡ leads (at s pending.Nothing false) ts
+turned s b ts low no_return e = turned_to s s b ts low no_return e
 
 nothing-pends : (p : Pending) → is_nothing p ≡ true → p ≡ pending.Nothing
 nothing-pends pending.Nothing h = refl
@@ -147,12 +181,12 @@ between-state st h =
 
 pub run_skipped : (o : Option FrameFault) (l : Limits) (s : Reading) (f g : Frame) (b c : Building) (n k k1 m w : ℕ) (bytes : List ℕ)
     → is_some o ≡ false → s ≡ reading_of o f b n k → is_done s ≡ false → m ≤ length (take w bytes) → k < 2 ^ 64 → n + m ≤ l.bytes → k1 ≡ told_number (k + m)
-    → Leads f b (take m (take w bytes)) g c → IsRun l s (take m bytes) (drop m bytes) (reading_of o g c (n + m) k1)
+    → LeadsBy (rules_of l) f b (take m (take w bytes)) g c → IsRun l s (take m bytes) (drop m bytes) (reading_of o g c (n + m) k1)
 run_skipped (Some x) l s f g b c n k k1 m w bytes not_stopped is going fits small short told led = absurd (let bad : true ≡ false = not_stopped in cc)
 run_skipped None l s f g b c n k k1 m w bytes not_stopped is going fits small short told led =
     let within : take m (take w bytes) ≡ take m bytes = take-take m w bytes (let e : length (take w bytes) ≡ min w (length bytes) = length-take w bytes in omega (arith, e, fits)) in
     let long : length (take m (take w bytes)) ≡ m = length-take-le m (take w bytes) fits in
-    let run = led.run l n k (drop m bytes) (ap is_done (sym is) ∙ going) small (subst (λ (i : ℕ). n + i ≤ l.bytes) (sym long) short) in
+    let run = led.run l n k (drop m bytes) refl (ap is_done (sym is) ∙ going) small (subst (λ (i : ℕ). n + i ≤ l.bytes) (sym long) short) in
     let to : reads g c (n + length (take m (take w bytes))) (told_number (k + length (take m (take w bytes)))) ≡ reads g c (n + m) k1 = ap (λ (i : ℕ). reads g c (n + i) (told_number (k + i))) long ∙ ap (reads g c (n + m)) (sym told) in
     subst (λ (xs : List ℕ). IsRun l s xs (drop m bytes) (reads g c (n + m) k1)) within
     (subst (λ (t : Reading). IsRun l s (take m (take w bytes)) (drop m bytes) t) to

@@ -85,7 +85,7 @@ abbrev attributed : Building → List ℕ → Building
 attributed b attribute = record b { tag = record b.tag { attribute = attribute } }
 
 attribute-quiet : (l : Limits) (h : Half) (ms : List RawName) (m : RawName) (i : ℕ) (b : Building) (c : ℕ)
-    → is_name_byte c ≡ true → Quiet l (attribute_in h ms m i) b c (token.AttrByte c) (attribute_in h ms m i) (attributed b (b.tag.attribute ++ c ∷ []))
+    → is_name_byte c ≡ true → Quiet l (attribute_in h ms m i) b c (token.AttrByte c ∷ []) (attribute_in h ms m i) (attributed b (b.tag.attribute ++ c ∷ []))
 attribute-quiet l h ms m i b c e = record {
   framed = ap (framed (rules_of l) (naming_attribute ms m i)) (turn-name Attribute h c e) ∙ ap (placed (rules_of l) (name_at Attribute h)) (attribute-nest (rules_of l) ms m i c);
   told = ap tokens_told (turn-name Attribute h c e);
@@ -105,7 +105,7 @@ attribute-run (c ∷ xs) h ms m i b plain =
     let f : Frame = attribute_in h ms m i in
     let b1 : Building = attributed b (b.tag.attribute ++ c ∷ []) in
     subst (λ (w : List ℕ). Leads f b (c ∷ xs) f (attributed b w)) (append_assoc b.tag.attribute (c ∷ []) xs)
-    (more_led f f f b b1 (attributed b ((b.tag.attribute ++ c ∷ []) ++ xs)) c (token.AttrByte c) xs (λ l. attribute-quiet l h ms m i b c p.0) (attribute-run xs h ms m i b1 p.1))
+    (more_led f f f b b1 (attributed b ((b.tag.attribute ++ c ∷ []) ++ xs)) c (token.AttrByte c ∷ []) xs (λ l. attribute-quiet l h ms m i b c p.0) (attribute-run xs h ms m i b1 p.1))
 
 attribute-state : (st : State) → (is_attribute_stage st.stage && is_between_characters st) ≡ true → (h : Half) × (st ≡ name_at Attribute h)
 attribute-state st e =
@@ -142,7 +142,7 @@ abbrev pub named : Building → List ℕ → Building
 named b name = record b { tag = record b.tag { name = name } }
 
 start-quiet : (l : Limits) (h : Half) (ms : List RawName) (m : RawName) (b : Building) (c : ℕ)
-    → is_name_byte c ≡ true → Quiet l (start_in h ms m) b c (token.NameByte c) (start_in h ms (m.0, m.1 ++ c ∷ [])) (named b (b.tag.name ++ c ∷ []))
+    → is_name_byte c ≡ true → Quiet l (start_in h ms m) b c (token.NameByte c ∷ []) (start_in h ms (m.0, m.1 ++ c ∷ [])) (named b (b.tag.name ++ c ∷ []))
 start-quiet l h ms m b c e = record {
   framed = ap (framed (rules_of l) (naming ms m)) (turn-name StartTag h c e)
       ∙ (ap (placed (rules_of l) (name_at StartTag h)) (start-nest (rules_of l) ms m c) ∙ start-placed (rules_of l) h ms (m.0, m.1 ++ c ∷ []));
@@ -165,7 +165,7 @@ start-run (c ∷ xs) h ms m b plain =
     let b1 : Building = named b (b.tag.name ++ c ∷ []) in
     subst (λ (w : List ℕ). Leads (start_in h ms m) b (c ∷ xs) (start_in h ms (m.0, m.1 ++ (c ∷ xs))) (named b w)) (append_assoc b.tag.name (c ∷ []) xs)
     (subst (λ (w : List ℕ). Leads (start_in h ms m) b (c ∷ xs) (start_in h ms (m.0, w)) (named b ((b.tag.name ++ c ∷ []) ++ xs))) (append_assoc m.1 (c ∷ []) xs)
-    (more_led (start_in h ms m) (start_in h ms m1) (start_in h ms (m.0, (m.1 ++ c ∷ []) ++ xs)) b b1 (named b ((b.tag.name ++ c ∷ []) ++ xs)) c (token.NameByte c) xs (λ l. start-quiet l h ms m b c p.0) (start-run xs h ms m1 b1 p.1)))
+    (more_led (start_in h ms m) (start_in h ms m1) (start_in h ms (m.0, (m.1 ++ c ∷ []) ++ xs)) b b1 (named b ((b.tag.name ++ c ∷ []) ++ xs)) c (token.NameByte c ∷ []) xs (λ l. start-quiet l h ms m b c p.0) (start-run xs h ms m1 b1 p.1)))
 
 start-state : (st : State) → (is_start_stage st.stage && is_between_characters st) ≡ true → (h : Half) × (st ≡ name_at StartTag h)
 start-state st e =

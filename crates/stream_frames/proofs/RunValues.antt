@@ -67,7 +67,7 @@ value-low Single b h = (and_parts (nat_lt 32 b) (nat_lt b 128) (and_parts (nat_l
 value-of : (q : Quote) (b : ℕ) → is_plain_value q b ≡ true → (is_value_kind q (ascii_kind b) ≡ true) × ((b == 13) ≡ false)
 value-of q b h = implied (is_plain_value q b) (is_value_kind q (ascii_kind b)) (b == 13) h (value-fits q b (ltb-true b 128 (value-low q b h)))
 
-abbrev value_at : Quote → State
+abbrev pub value_at : Quote → State
 value_at q = at (stage.Text (Value q)) pending.Nothing false
 
 ascii-value : (q : Quote) (b : ℕ) → is_plain_value q b ≡ true → ascii (stage.Text (Value q)) (ascii_kind b) b ≡ tells_and_goes (token.Value b ∷ []) (stage.Text (Value q))
@@ -82,7 +82,7 @@ value_more q bs i d h e p = ap (are_plain (is_plain_value q)) (take_more bs i d 
 
 -- In a tag.
 
-abbrev value_in : Quote → List RawName → RawName → ℕ → Frame
+abbrev pub value_in : Quote → List RawName → RawName → ℕ → Frame
 value_in q ms m i = open_at (value_at q) (valuing ms m i)
 
 value-nest : (r : Rules) (ms : List RawName) (m : RawName) (i b : ℕ) → nest r (valuing ms m i) (token.Value b) ≡ valuing ms m i
@@ -96,7 +96,7 @@ value-framed r q ms m i b h = ap (framed r (valuing ms m i)) (turn-value q b h) 
 abbrev valued : Building → List ℕ → Building
 valued b value = record b { tag = record b.tag { value = value } }
 
-value-quiet : (l : Limits) (q : Quote) (ms : List RawName) (m : RawName) (i : ℕ) (b : Building) (c : ℕ) → is_plain_value q c ≡ true → Quiet l (value_in q ms m i) b c (token.Value c) (value_in q ms m i) (valued b (b.tag.value ++ c ∷ []))
+value-quiet : (l : Limits) (q : Quote) (ms : List RawName) (m : RawName) (i : ℕ) (b : Building) (c : ℕ) → is_plain_value q c ≡ true → Quiet l (value_in q ms m i) b c (token.Value c ∷ []) (value_in q ms m i) (valued b (b.tag.value ++ c ∷ []))
 value-quiet l q ms m i b c h = record {
   framed = value-framed (rules_of l) q ms m i c h;
   told = ap tokens_told (turn-value q c h);
@@ -115,9 +115,9 @@ value-run (c ∷ xs) q ms m i b plain =
     let f : Frame = value_in q ms m i in
     let b1 : Building = valued b (b.tag.value ++ c ∷ []) in
     subst (λ (w : List ℕ). Leads f b (c ∷ xs) f (valued b w)) (append_assoc b.tag.value (c ∷ []) xs)
-    (more_led f f f b b1 (valued b ((b.tag.value ++ c ∷ []) ++ xs)) c (token.Value c) xs (λ l. value-quiet l q ms m i b c p.0) (value-run xs q ms m i b1 p.1))
+    (more_led f f f b b1 (valued b ((b.tag.value ++ c ∷ []) ++ xs)) c (token.Value c ∷ []) xs (λ l. value-quiet l q ms m i b c p.0) (value-run xs q ms m i b1 p.1))
 
-value-state : (st : State) (q : Quote) → (if is_between_characters st then value_quote st.stage else None) ≡ Some q → st ≡ value_at q
+pub value-state : (st : State) (q : Quote) → (if is_between_characters st then value_quote st.stage else None) ≡ Some q → st ≡ value_at q
 value-state st q e = by (is_between_characters st) refl e
   where
     value-stage : (s : Stage) (q : Quote) → value_quote s ≡ Some q → s ≡ stage.Text (Value q)

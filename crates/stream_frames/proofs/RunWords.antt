@@ -86,7 +86,7 @@ word-framed : (r : Rules) (m x : RawName) (ms : List RawName) (b : ℕ) → is_p
 word-framed r m x ms b h = ap (framed r (inside (m ∷ x ∷ ms))) (turn-word b h) ∙ ap (placed r words_at) (word-nest r m x ms b)
 
 word-quiet : (l : Limits) (m x : RawName) (ms : List RawName) (b : Building) (o : Opened) (os : List Opened) (c : ℕ)
-    → b.opened ≡ o ∷ os → is_plain_word c ≡ true → Quiet l (words_in m x ms) b c (token.Word c) (words_in m x ms) (record b { words = b.words ++ c ∷ [] })
+    → b.opened ≡ o ∷ os → is_plain_word c ≡ true → Quiet l (words_in m x ms) b c (token.Word c ∷ []) (words_in m x ms) (record b { words = b.words ++ c ∷ [] })
 word-quiet l m x ms b o os c opens h = record {
   framed = word-framed (rules_of l) m x ms c h;
   told = ap tokens_told (turn-word c h);
@@ -106,7 +106,7 @@ words-run (c ∷ xs) m x ms b o os opens plain =
     let f : Frame = words_in m x ms in
     let b1 : Building = record b { words = b.words ++ c ∷ [] } in
     subst (λ (w : List ℕ). Leads f b (c ∷ xs) f (record b { words = w })) (append_assoc b.words (c ∷ []) xs)
-    (more_led f f f b b1 (record b { words = (b.words ++ c ∷ []) ++ xs }) c (token.Word c) xs (λ l. word-quiet l m x ms b o os c opens p.0) (words-run xs m x ms b1 o os opens p.1))
+    (more_led f f f b b1 (record b { words = (b.words ++ c ∷ []) ++ xs }) c (token.Word c ∷ []) xs (λ l. word-quiet l m x ms b o os c opens p.0) (words-run xs m x ms b1 o os opens p.1))
 
 words-opened : (m x : RawName) (ms : List RawName) (b : Building) (os : List Opened) (xs : List ℕ)
     → b.opened ≡ os → has_opened os ≡ true → are_plain is_plain_word xs ≡ true → Leads (words_in m x ms) b xs (words_in m x ms) (record b { words = b.words ++ xs })

@@ -27,10 +27,11 @@ use std::mem;
 use stream_grammar::{Binding, Item, Written};
 use stream_lex::Token;
 
-fn one_byte(alloc: Global, byte: u8) -> Result<Vec<u8>, NoMemory>
+/// A vector of one byte, with room for the rest of a short name.
+pub(crate) fn one_byte(alloc: Global, byte: u8) -> Result<Vec<u8>, NoMemory>
     ensures { IfOk result (λ v. v.items ≡ byte ∷ []) }
 {
-    let mut bytes = Vec::new(alloc);
+    let mut bytes = Vec::with_capacity(alloc, 16)?;
     bytes.push(byte)?;
     Ok(bytes)
 }
@@ -433,7 +434,7 @@ impl Builder {
     }
 
     /// Begins a tag of this name.
-    fn open_tag(&mut self, name: Vec<u8>)
+    pub(crate) fn open_tag(&mut self, name: Vec<u8>)
         ensures { building self.new ≡ record (building self.old) { tag = record { name = name.items; attributes = []; attribute = []; value = [] } } }
     {
         self.empty_tag();
@@ -441,7 +442,7 @@ impl Builder {
     }
 
     /// Begins an attribute of this name.
-    fn open_attribute(&mut self, name: Vec<u8>)
+    pub(crate) fn open_attribute(&mut self, name: Vec<u8>)
         ensures { building self.new ≡ record (building self.old) { tag = record (tag_of self.old) { attribute = name.items; value = [] } } }
     {
         self.attribute = name;
@@ -449,7 +450,7 @@ impl Builder {
     }
 
     /// Ends the attribute that is being read.
-    fn end_value(&mut self)
+    pub(crate) fn end_value(&mut self)
         requires { vec_len self.old.attributes < vec_capacity self.old.attributes }
         ensures { building self.new ≡ record (building self.old) { tag = gather (tag_of self.old) token.ValueEnds } }
     {

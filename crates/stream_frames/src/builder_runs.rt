@@ -1,6 +1,6 @@
 //! What a run adds to the elements that are being made. Each call answers whether there was memory, and else changes nothing.
 
-ghost use Rattle.std.specs.Prelude.{◌≡◌, ◌≤◌, ◌++◌, take, length, true, false};
+ghost use Rattle.std.specs.Prelude.{◌≡◌, ◌<◌, ◌≤◌, ◌++◌, take, length, true, false, vec_len, vec_capacity};
 ghost use Rattle.stream_frames.specs.Builds.{tag_of, building};
 ghost use Rattle.stream_frames.specs.Runs.{has_opened, named_on, closing_left, closing_on};
 
@@ -33,6 +33,14 @@ impl Builder {
             Ok(text) => self.value.push_str(text).is_ok(),
             Err(_) => false,
         }
+    }
+
+    /// Makes room for an attribute more.
+    pub(crate) fn reserve_attribute(&mut self) -> bool
+        ensures kept { building self.new ≡ building self.old }
+        ensures room { result ≡ true → vec_len self.new.attributes < vec_capacity self.new.attributes }
+    {
+        self.attributes.reserve(1).is_ok()
     }
 
     /// Adds to the name of the attribute that is being read.

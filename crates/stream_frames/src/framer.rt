@@ -175,6 +175,7 @@ impl Framer {
     }
 
     /// Reads a byte, or has its fault.
+    #[inline(never)]
     fn step(&mut self, byte: u8) -> Result<(), NoMemory>
         requires { is_stopped self.old.reading ≡ false }
         ensures ok { OnOk result (self.new ≡ record self.old { reading = reading_next self.old.limits self.old.reading byte }) }
@@ -281,7 +282,9 @@ impl Framer {
             Some(fault) => Some(Item::Broken(fault, self.offset)),
             None => {
                 let item = self.work.take_item();
-                self.work.release();
+                if item.is_some() {
+                    self.work.release();
+                }
                 item
             }
         }

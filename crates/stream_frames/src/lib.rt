@@ -6,6 +6,7 @@ mod builder_runs;
 mod built;
 mod expanded;
 mod framer;
+mod markup;
 mod names;
 mod namespaces;
 mod places;
@@ -14,6 +15,7 @@ mod runs;
 mod scan;
 mod tags;
 mod tracker;
+mod tracker_markup;
 mod tracker_runs;
 mod work;
 

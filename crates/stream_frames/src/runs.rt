@@ -3,10 +3,12 @@
 
 ghost use Rattle.std.specs.Prelude.{◌≡◌, ◌≤◌, take, length};
 ghost use Rattle.stream_frames.specs.Builds.{building};
+ghost use Rattle.stream_frames.specs.Markup.{LeadsBy};
 ghost use Rattle.stream_frames.specs.Runs.{Leads};
 ghost use Rattle.stream_frames.specs.Works.{work_of};
 
 use crate::built::Builder;
+use crate::markup::mark;
 use crate::plain::{plain_name, plain_value, plain_words};
 use crate::tracker::Tracker;
 use crate::work::Work;
@@ -118,15 +120,37 @@ fn run(tracker: &mut Tracker, builder: &mut Builder, bytes: &[u8]) -> usize
     }
 }
 
+/// Runs and markup that ends no tag, as long as they come.
+#[tactic(auto, using(crate::proofs::MarkupLemmas::nothing_led_by, crate::proofs::MarkupLemmas::mark_then, crate::proofs::MarkupLemmas::run_then))]
+fn runs(tracker: &mut Tracker, builder: &mut Builder, bytes: &[u8]) -> usize
+    ensures fits { result ≤ length bytes.now }
+    ensures rules { tracker.new.rules ≡ tracker.old.rules }
+    ensures run { LeadsBy tracker.old.rules tracker.old.frame (building builder.old) (take result bytes.now) tracker.new.frame (building builder.new) }
+{
+    let mut at = 0;
+    while at < bytes.len() {
+        if mark(tracker, builder, bytes[at]) {
+            at += 1;
+        } else {
+            let count = run(tracker, builder, &bytes[at..]);
+            at += count;
+            if count == 0 {
+                return at;
+            }
+        }
+    }
+    at
+}
+
 /// The same with what is being made of a stream.
-#[tactic(auto, using(crate::proofs::RunLemmas::none_led))]
+#[tactic(auto, using(crate::proofs::MarkupLemmas::nothing_led_by))]
 pub(crate) fn work_run(tracker: &mut Tracker, work: &mut Work, bytes: &[u8]) -> usize
     ensures fits { result ≤ length bytes.now }
     ensures rules { tracker.new.rules ≡ tracker.old.rules }
-    ensures run { Leads tracker.old.frame (work_of work.old) (take result bytes.now) tracker.new.frame (work_of work.new) }
+    ensures run { LeadsBy tracker.old.rules tracker.old.frame (work_of work.old) (take result bytes.now) tracker.new.frame (work_of work.new) }
 {
     match &mut work.builder {
-        Some(builder) => run(tracker, builder, bytes),
+        Some(builder) => runs(tracker, builder, bytes),
         None => 0,
     }
 }

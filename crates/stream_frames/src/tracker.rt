@@ -232,8 +232,8 @@ fn read(rules: Rules, place: Place, open: &Names, turned: &Turned) -> Result<Mov
 /// It keeps the names of the elements that are open.
 #[derive(Drop)]
 pub struct Tracker {
-    alloc: Global,
-    rules: Rules,
+    pub(crate) alloc: Global,
+    pub(crate) rules: Rules,
     pub(crate) state: State,
     pub(crate) standing: Standing,
     pub(crate) open: Names,

@@ -42,7 +42,7 @@ fn is_at_end(stage: Stage) -> bool
 }
 
 /// Whether no character and no line end has come in part.
-fn is_between(state: State) -> bool
+pub(crate) fn is_between(state: State) -> bool
     ensures { result ≡ is_between_characters state }
 {
     matches!(state.pending, Pending::Nothing) && !state.returned
