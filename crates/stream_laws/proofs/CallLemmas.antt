@@ -212,7 +212,7 @@ stands_there l calls items t fed = fed-stands calls l first_reading t items fed
 
 -- The bytes that were fed are those that were taken, and the rest.
 
-taken-fits : (l : Limits) (s : Reading) (bs : List ℕ) → taken l s bs ≤ length bs
+pub taken-fits : (l : Limits) (s : Reading) (bs : List ℕ) → taken l s bs ≤ length bs
 taken-fits l (stopped f k) bs = omega arith
 taken-fits l (reads f b n k) bs = fits bs (reads f b n k)
   where

@@ -50,3 +50,4 @@ pub mod OpenRuns
 pub mod OpenFrames
 pub mod WrittenLemmas
 pub mod HandedLemmas
+pub mod PiecesLemmas

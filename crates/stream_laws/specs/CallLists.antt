@@ -42,3 +42,23 @@ is_fault i = false
 abbrev pub to_fault : List Item → List Item
 to_fault [] = []
 to_fault (i ∷ items) = i ∷ (if is_fault i then [] else to_fault items)
+
+-- Pieces.
+
+abbrev pub joined : List (List ℕ) → List ℕ
+joined [] = []
+joined (piece ∷ pieces) = piece ++ joined pieces
+
+-- what is left of a piece, and those after it
+abbrev pub left_before : List ℕ → List (List ℕ) → List (List ℕ)
+left_before [] pieces = pieces
+left_before (b ∷ bs) pieces = (b ∷ bs) ∷ pieces
+
+-- the calls are fed these pieces to the end, one after the other: of a piece that was not taken whole what is left is fed again
+abbrev pub AreFed : List (List ℕ) → List Call → Type 0
+AreFed pieces [] = pieces ≡ []
+AreFed pieces (hands next ∷ calls) = AreFed pieces calls
+AreFed [] (feeds fed n ∷ calls) = ⊥
+AreFed (piece ∷ pieces) (feeds fed n ∷ calls) = (fed ≡ piece) × AreFed (left_before (drop n piece) pieces) calls
+AreFed [] (falls_short fed n ∷ calls) = ⊥
+AreFed (piece ∷ pieces) (falls_short fed n ∷ calls) = (fed ≡ piece) × AreFed (left_before (drop n piece) pieces) calls

@@ -3,7 +3,7 @@
 //! A framer that was made or begun again stands at `first_reading`. The contracts of its calls say what each does to the reading; these
 //! laws say what that comes to, so that nobody has to follow the fold over the bytes.
 
-ghost use Rattle.std.specs.Prelude.{◌≡◌, ℕ, ◌<◌, List, Option, [], ◌∷◌, ◌++◌, length, map, All, Some, None, option_to_list};
+ghost use Rattle.std.specs.Prelude.{◌≡◌, ℕ, ◌<◌, List, Option, [], ◌∷◌, ◌++◌, length, map, All, Some, None, true, option_to_list};
 ghost use Rattle.stanza_tree.specs.declared.node.Element.{Element};
 ghost use Rattle.stanza_tree.specs.Spelling.{text, client_space};
 ghost use Rattle.stream_grammar.specs.declared.FrameFault.{FrameFault};
@@ -13,12 +13,12 @@ ghost use Rattle.stream_grammar.specs.declared.item.Limits.{Limits};
 ghost use Rattle.stream_grammar.specs.Elements.{default_of, IsNamed};
 ghost use Rattle.stream_grammar.specs.Items.{HasCome};
 ghost use Rattle.stream_grammar.specs.Parts.{AreFaultless, IsFault};
-ghost use Rattle.stream_grammar.specs.Reading.{Reading, first_reading, handed, rules_of, taken, waiting, went};
+ghost use Rattle.stream_grammar.specs.Reading.{Reading, first_reading, handed, is_ready, rules_of, taken, waiting, went};
 ghost use Rattle.stream_grammar.specs.RoundTrips.{texts_of};
 ghost use Rattle.stream_grammar.specs.Trees.{RawTag, Content};
 ghost use Rattle.stream_laws.specs.ItemLists.{AreItems, items_from};
 ghost use Rattle.stream_laws.specs.Takes.{IsTaken};
-ghost use Rattle.stream_laws.specs.CallLists.{Call, hands, Fed, bytes_taken, IsFedBy, to_fault};
+ghost use Rattle.stream_laws.specs.CallLists.{Call, hands, Fed, bytes_taken, IsFedBy, to_fault, joined, AreFed};
 ghost use Rattle.stream_laws.specs.Written.{IsWithin};
 
 /// Given bytes have one list of items: those of the grammar that end with them, in their order, and the fault last where a byte has one.
@@ -57,6 +57,15 @@ pub fn cut_anywhere_all_items_are_handed_out()
         → Fed l first_reading calls items t → IsFedBy bytes calls [] → AreItems l bytes (to_fault (items ++ option_to_list (waiting t))) }
     ensures stands { (l : Limits) (calls : List Call) (items : List Item) (t : Reading)
         → Fed l first_reading calls items t → handed t ≡ handed (went l first_reading (bytes_taken calls)) }
+{}
+
+/// Any pieces can be fed to the end, one after the other, what is left of a piece being fed again. What `next` handed out in all, and what
+/// still waits, are then the items of the joined bytes.
+pub fn pieces_hand_out_the_items_of_the_joined_bytes()
+    ensures items { (l : Limits) (pieces : List (List ℕ)) (calls : List Call) (items : List Item) (t : Reading)
+        → Fed l first_reading calls items t → AreFed pieces calls → AreItems l (joined pieces) (to_fault (items ++ option_to_list (waiting t))) }
+    ensures can { (l : Limits) (pieces : List (List ℕ))
+        → (calls : List Call) × (items : List Item) × (t : Reading) × Fed l first_reading calls items t × AreFed pieces calls × (is_ready t ≡ true) }
 {}
 
 /// After the start of a stream whose default namespace is `jabber:client`, in which no byte has a fault, a framer that reads the text of a
