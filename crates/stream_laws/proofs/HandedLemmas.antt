@@ -164,23 +164,24 @@ handed-brings l (stopped f k) piece = refl
 handed-brings l (reads f b n k) [] = refl
 handed-brings l (reads f b n k) (c ∷ cs) = refl
 
-handed-goes : (l : Limits) (s : Reading) (piece : List ℕ) → (piece ≡ [] → ⊥) → went l (handed s) piece ≡ went l s piece
+pub handed-goes : (l : Limits) (s : Reading) (piece : List ℕ) → (piece ≡ [] → ⊥) → went l (handed s) piece ≡ went l s piece
 handed-goes l s [] some = absurd (some refl)
 handed-goes l (stopped f k) (c ∷ cs) some = refl
 handed-goes l (reads f b n k) (c ∷ cs) some = refl
+
+pub text-some : (l : Limits) (bytes : List ℕ) (root : RawTag) (f : Content) (e : Element) → HasBegun l bytes root f → IsWithin l e → text e ≡ [] → ⊥
+text-some l bytes root f e begun within h = let a : IsAdding (rules_of l) bytes e = added l bytes root f e begun within in not-nil a.front a.byte (a.text_is ∙ h)
+  where
+    not-nil : (front : List ℕ) (byte : ℕ) → front ++ byte ∷ [] ≡ [] → ⊥
+    not-nil [] byte h = cons_not_nil byte [] h
+    not-nil (x ∷ front) byte h = cons_not_nil x (front ++ byte ∷ []) h
 
 one-text : (l : Limits) (bytes : List ℕ) (root : RawTag) (f : Content) (e : Element) → HasBegun l bytes root f → IsWithin l e → items_from l (went l first_reading bytes) (text e) ≡ item.Top e ∷ []
 one-text l bytes root f e begun within =
     let s : Reading = went l first_reading bytes in
     let count : taken l (handed s) (text e) ≡ length (text e) = ap (taken l (handed s)) (sym (append-nil (text e))) ∙ written_taken l bytes root f e [] begun within in
-    let a : IsAdding (rules_of l) bytes e = added l bytes root f e begun within in
-    let some : text e ≡ [] → ⊥ = λ h. not-nil a.front a.byte (a.text_is ∙ h) in
-    let there : waiting (went l (handed s) (text e)) ≡ Some (item.Top e) = ap waiting (handed-goes l s (text e) some ∙ sym (went-more l first_reading bytes (text e))) ∙ written_waits l bytes root f e begun within in
+    let there : waiting (went l (handed s) (text e)) ≡ Some (item.Top e) = ap waiting (handed-goes l s (text e) (text-some l bytes root f e begun within) ∙ sym (went-more l first_reading bytes (text e))) ∙ written_waits l bytes root f e begun within in
     sym (handed-brings l s (text e)) ∙ (going-reached l s (text e) (faultless_goes l bytes begun.3) (let e : length (text e) ≤ taken l (handed s) (text e) = omega (arith, count) in e) ∙ ap option_to_list there)
-  where
-    not-nil : (front : List ℕ) (byte : ℕ) → front ++ byte ∷ [] ≡ [] → ⊥
-    not-nil [] byte h = cons_not_nil byte [] h
-    not-nil (x ∷ front) byte h = cons_not_nil x (front ++ byte ∷ []) h
 
 -- an element as an item
 abbrev top : Element → Item

@@ -51,3 +51,4 @@ pub mod OpenFrames
 pub mod WrittenLemmas
 pub mod HandedLemmas
 pub mod PiecesLemmas
+pub mod NextCallLemmas

@@ -18,7 +18,7 @@ ghost use Rattle.stream_grammar.specs.RoundTrips.{texts_of};
 ghost use Rattle.stream_grammar.specs.Trees.{RawTag, Content};
 ghost use Rattle.stream_laws.specs.ItemLists.{AreItems, items_from};
 ghost use Rattle.stream_laws.specs.Takes.{IsTaken};
-ghost use Rattle.stream_laws.specs.CallLists.{Call, hands, Fed, bytes_taken, IsFedBy, to_fault, joined, AreFed};
+ghost use Rattle.stream_laws.specs.CallLists.{Call, feeds, hands, Fed, bytes_taken, IsFedBy, to_fault, joined, AreFed};
 ghost use Rattle.stream_laws.specs.Written.{IsWithin};
 
 /// Given bytes have one list of items: those of the grammar that end with them, in their order, and the fault last where a byte has one.
@@ -87,4 +87,18 @@ pub fn what_is_written_is_handed_out()
     ensures items { (l : Limits) (bytes : List ℕ) (root : RawTag) (f : Content) (es : List Element) (before : List Item)
         → HasCome (rules_of l) bytes root f → IsNamed root f → default_of root ≡ client_space → AreFaultless l bytes → All (IsWithin l) es
         → AreItems l bytes before → AreItems l (bytes ++ texts_of es) (before ++ map item.Top es) }
+{}
+
+/// Where calls took bytes that have no fault, and their items were handed out, the next `feed` takes of its piece as far as the first byte that
+/// ends an item or has a fault, and else all of it. Where these bytes are the start of a stream whose default namespace is `jabber:client`, and
+/// the text of a proper element within the limits comes next, it takes that text, and `next` then hands the element out.
+pub fn the_next_call_goes_on_from_the_bytes()
+    ensures taken { (l : Limits) (calls : List Call) (items later : List Item) (t u : Reading) (piece : List ℕ) (n : ℕ)
+        → Fed l first_reading calls items t → AreFaultless l (bytes_taken calls)
+        → Fed l t (feeds piece n ∷ []) later u → IsTaken l (bytes_taken calls) piece n }
+    ensures text { (l : Limits) (calls : List Call) (items later : List Item) (t u : Reading)
+        (root : RawTag) (f : Content) (e : Element) (more : List ℕ) (n : ℕ) (next : Option Item)
+        → Fed l first_reading calls items t → AreFaultless l (bytes_taken calls)
+        → HasCome (rules_of l) (bytes_taken calls) root f → IsNamed root f → default_of root ≡ client_space → IsWithin l e
+        → Fed l t (feeds (text e ++ more) n ∷ hands next ∷ []) later u → (n ≡ length (text e)) × (next ≡ Some (item.Top e)) }
 {}
