@@ -79,9 +79,6 @@ told_on l s bs = option_to_list (waiting s) ++ items_from l s bs
 told-stopped : (l : Limits) (f : FrameFault) (k : ℕ) (bs : List ℕ) → told_on l (stopped f k) bs ≡ item.Broken f k ∷ []
 told-stopped l f k bs = ap (λ (x : List Item). item.Broken f k ∷ x) (stopped-brings l f k bs)
 
-fault-last : (f : FrameFault) (k : ℕ) (xs : List Item) → to_fault (item.Broken f k ∷ xs) ≡ item.Broken f k ∷ []
-fault-last f k xs = refl
-
 -- a feed, whole or cut short
 abbrev IsFew : Limits → Reading → List ℕ → ℕ → Type 0
 IsFew l s piece n = n ≤ taken l s piece

@@ -220,9 +220,6 @@ close-ends r st (closing s (y ∷ m)) h = inr refl
 close-ends r st lost h = inr refl
 close-ends r st n h = absurd h
 
-pub end-split : (n : RawName) → end_tokens n ≡ end-body n ++ token.CloseEnds ∷ []
-end-split n = refl
-
 end-leads : (r : Rules) (k x : RawName) (st : List RawName) (n : RawName) → Leads r (inside (k ∷ x ∷ st)) (end_tokens n) (inside (x ∷ st))
 end-leads r k x st n =
     subst (λ (m : Nest). OrLost m (inside (x ∷ st))) (sym (all-more r (inside (k ∷ x ∷ st)) (end-body n) (token.CloseEnds ∷ [])))

@@ -159,7 +159,7 @@ head-more d root f t b =
     sym (ap (λ (l : List Token). declaration_tokens d ++ (tag_tokens root false ++ l)) (then-tokens f (front t b nothing) ∙ ap (λ (l : List Token). content_tokens f ++ l) (front-tokens t b nothing ∙ append-nil (front_tokens t b)))
     ∙ regroup-head (declaration_tokens d) (tag_tokens root false) (content_tokens f) (front_tokens t b))
 
-pub live-first : (r : Rules) → is_live first_state ≡ true
+live-first : (r : Rules) → is_live first_state ≡ true
 live-first r = (first-sound r).live
 
 pub come-runs : (r : Rules) (bytes : List ℕ) (d : Bool) (root : RawTag) (f : Content) → Reads bytes (head_tokens d root f) → (g : Gap) × (c : Bool) × Runs first_state bytes (gap_state g c) (head_tokens d root f)
