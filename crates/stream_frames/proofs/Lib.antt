@@ -13,3 +13,6 @@ pub mod RunValues
 pub mod RunNames
 pub mod RunEnds
 pub mod MarkupLemmas
+pub mod EndLemmas
+pub mod PlainLemmas
+pub mod DeclareLemmas

@@ -42,64 +42,64 @@ use Rattle.stream_frames.specs.Runs.{is_between_characters, open_quote, value_qu
 use Rattle.stream_frames.proofs.RunLemmas.{Quiet, none_led, mark_led, led_by, led_then, implied, turned_to, between-state}
 use Rattle.stream_frames.proofs.RunValues.{value_at, value-state}
 
-abbrev rest_at : Stage → State
-rest_at s = at s pending.Nothing false
+abbrev pub stage_at : Stage → State
+stage_at s = at s pending.Nothing false
 
-state-at : (st : State) (s : Stage) → is_between_characters st ≡ true → st.stage ≡ s → st ≡ rest_at s
-state-at st s h e = between-state st h ∙ ap rest_at e
+pub state_at : (st : State) (s : Stage) → is_between_characters st ≡ true → st.stage ≡ s → st ≡ stage_at s
+state_at st s h e = between-state st h ∙ ap stage_at e
 
 -- Bytes that tell nothing.
 
-only-turn : (s u t : Stage) (b k : ℕ) → turn (rest_at s) k ≡ leads (rest_at u) [] → only_at k u b ≡ Some t → turn (rest_at s) b ≡ leads (rest_at t) []
+only-turn : (s u t : Stage) (b k : ℕ) → turn (stage_at s) k ≡ leads (stage_at u) [] → only_at k u b ≡ Some t → turn (stage_at s) b ≡ leads (stage_at t) []
 only-turn s u t b k e h = by (b == k) refl h
   where
-    by : (x : Bool) → (b == k) ≡ x → (if x then Some u else None) ≡ Some t → turn (rest_at s) b ≡ leads (rest_at t) []
-    by true is h = ap (λ (i : ℕ). turn (rest_at s) i) (eqb-true b k is) ∙ (e ∙ ap (λ (v : Stage). leads (rest_at v) []) (let e1 : Some u ≡ Some t = h in cc))
+    by : (x : Bool) → (b == k) ≡ x → (if x then Some u else None) ≡ Some t → turn (stage_at s) b ≡ leads (stage_at t) []
+    by true is h = ap (λ (i : ℕ). turn (stage_at s) i) (eqb-true b k is) ∙ (e ∙ ap (λ (v : Stage). leads (stage_at v) []) (let e1 : Some u ≡ Some t = h in cc))
     by false is h = absurd (let bad : None ≡ Some t = h in cc)
 
-part-turn : (s t : Stage) (b : ℕ) → turn (rest_at s) 32 ≡ leads (rest_at stage.InTag) [] → turn (rest_at s) 47 ≡ leads (rest_at stage.EmptyTagMark) [] → after_part b ≡ Some t → turn (rest_at s) b ≡ leads (rest_at t) []
+part-turn : (s t : Stage) (b : ℕ) → turn (stage_at s) 32 ≡ leads (stage_at stage.InTag) [] → turn (stage_at s) 47 ≡ leads (stage_at stage.EmptyTagMark) [] → after_part b ≡ Some t → turn (stage_at s) b ≡ leads (stage_at t) []
 part-turn s t b e1 e2 h = by (b == 32) refl h
   where
-    by : (x : Bool) → (b == 32) ≡ x → (if x then Some stage.InTag else if b == 47 then Some stage.EmptyTagMark else None) ≡ Some t → turn (rest_at s) b ≡ leads (rest_at t) []
-    by true is h = ap (λ (i : ℕ). turn (rest_at s) i) (eqb-true b 32 is) ∙ (e1 ∙ ap (λ (v : Stage). leads (rest_at v) []) (let e : Some stage.InTag ≡ Some t = h in cc))
+    by : (x : Bool) → (b == 32) ≡ x → (if x then Some stage.InTag else if b == 47 then Some stage.EmptyTagMark else None) ≡ Some t → turn (stage_at s) b ≡ leads (stage_at t) []
+    by true is h = ap (λ (i : ℕ). turn (stage_at s) i) (eqb-true b 32 is) ∙ (e1 ∙ ap (λ (v : Stage). leads (stage_at v) []) (let e : Some stage.InTag ≡ Some t = h in cc))
     by false is h = only-turn s stage.EmptyTagMark t b 47 e2 h
 
-less-slash : turn (rest_at stage.Less) 47 ≡ leads (rest_at stage.EndTagMark) []
+less-slash : turn (stage_at stage.Less) 47 ≡ leads (stage_at stage.EndTagMark) []
 unfolding turn_ascii ascii_kind ascii in_tag_turn
 less-slash = refl
 
-words-less : turn (rest_at (stage.Text Words)) 60 ≡ leads (rest_at stage.Less) []
+words-less : turn (stage_at (stage.Text Words)) 60 ≡ leads (stage_at stage.Less) []
 unfolding turn_ascii ascii_kind ascii
 words-less = refl
 
-start-space : (h : _) → turn (rest_at (stage.Name StartTag h)) 32 ≡ leads (rest_at stage.InTag) []
+start-space : (h : _) → turn (stage_at (stage.Name StartTag h)) 32 ≡ leads (stage_at stage.InTag) []
 unfolding turn_ascii ascii_kind ascii in_name
 start-space Prefix = refl
 start-space Local = refl
 
-start-slash : (h : _) → turn (rest_at (stage.Name StartTag h)) 47 ≡ leads (rest_at stage.EmptyTagMark) []
+start-slash : (h : _) → turn (stage_at (stage.Name StartTag h)) 47 ≡ leads (stage_at stage.EmptyTagMark) []
 unfolding turn_ascii ascii_kind ascii in_name
 start-slash Prefix = refl
 start-slash Local = refl
 
-attribute-equals : (h : _) → turn (rest_at (stage.Name Attribute h)) 61 ≡ leads (rest_at stage.ValueAwaited) []
+attribute-equals : (h : _) → turn (stage_at (stage.Name Attribute h)) 61 ≡ leads (stage_at stage.ValueAwaited) []
 unfolding turn_ascii ascii_kind ascii in_name
 attribute-equals Prefix = refl
 attribute-equals Local = refl
 
-ended-space : turn (rest_at stage.ValueEnded) 32 ≡ leads (rest_at stage.InTag) []
+ended-space : turn (stage_at stage.ValueEnded) 32 ≡ leads (stage_at stage.InTag) []
 unfolding turn_ascii ascii_kind ascii in_tag_turn
 ended-space = refl
 
-ended-slash : turn (rest_at stage.ValueEnded) 47 ≡ leads (rest_at stage.EmptyTagMark) []
+ended-slash : turn (stage_at stage.ValueEnded) 47 ≡ leads (stage_at stage.EmptyTagMark) []
 unfolding turn_ascii ascii_kind ascii in_tag_turn
 ended-slash = refl
 
-tag-slash : turn (rest_at stage.InTag) 47 ≡ leads (rest_at stage.EmptyTagMark) []
+tag-slash : turn (stage_at stage.InTag) 47 ≡ leads (stage_at stage.EmptyTagMark) []
 unfolding turn_ascii ascii_kind ascii in_tag_turn
 tag-slash = refl
 
-silent-turn : (s t : Stage) (b : ℕ) → silent_stage s b ≡ Some t → turn (rest_at s) b ≡ leads (rest_at t) []
+silent-turn : (s t : Stage) (b : ℕ) → silent_stage s b ≡ Some t → turn (stage_at s) b ≡ leads (stage_at t) []
 silent-turn (stage.Text Words) t b h = only-turn (stage.Text Words) stage.Less t b 60 words-less h
 silent-turn stage.Less t b h = only-turn stage.Less stage.EndTagMark t b 47 less-slash h
 silent-turn (stage.Name StartTag i) t b h = part-turn (stage.Name StartTag i) t b (start-space i) (start-slash i) h
@@ -117,10 +117,10 @@ silent-open : (r : Rules) (st : State) (n : Nest) (byte : ℕ) (b : Building) �
     → ((r : Rules) (u : State) → placed r u n ≡ open_at u n) → in_item_nest n ≡ true → LeadsBy r (open_at st n) b (byte ∷ []) (silenced (open_at st n) byte) b
 silent-open r st n byte b between is goes within =
     let t : Stage = stage_or st.stage (silent_stage st.stage byte) in
-    let turns : turn (rest_at st.stage) byte ≡ leads (rest_at t) [] = silent-turn st.stage t byte (some-of st.stage (silent_stage st.stage byte) is) in
-    subst (λ (x : State). LeadsBy r (open_at x n) b (byte ∷ []) (open_at (rest_at t) n) b) (sym (between-state st between))
-    (mark_led r (open_at (rest_at st.stage) n) (open_at (rest_at t) n) b b byte [] (λ l by. record {
-      framed = ap (framed (rules_of l) n) turns ∙ goes (rules_of l) (rest_at t);
+    let turns : turn (stage_at st.stage) byte ≡ leads (stage_at t) [] = silent-turn st.stage t byte (some-of st.stage (silent_stage st.stage byte) is) in
+    subst (λ (x : State). LeadsBy r (open_at x n) b (byte ∷ []) (open_at (stage_at t) n) b) (sym (between-state st between))
+    (mark_led r (open_at (stage_at st.stage) n) (open_at (stage_at t) n) b b byte [] (λ l by. record {
+      framed = ap (framed (rules_of l) n) turns ∙ goes (rules_of l) (stage_at t);
       told = ap tokens_told turns;
       built = refl;
       named = refl;
@@ -170,20 +170,20 @@ head-of b h =
     let q = and_parts (is_name_start (ascii_kind b)) (nat_lt b 128) p.0 in (q.0, q.1, p.1)
 
 head-turn : (s : Stage) (owner : NameOwner) (b : ℕ) (other : Turn) → is_name_head b ≡ true → ascii s (ascii_kind b) b ≡ cond (is_name_start (ascii_kind b)) (tells_and_goes (first_name_token owner b ∷ []) (stage.Name owner Prefix)) other
-    → turn (rest_at s) b ≡ leads (rest_at (stage.Name owner Prefix)) (first_name_token owner b ∷ [])
+    → turn (stage_at s) b ≡ leads (stage_at (stage.Name owner Prefix)) (first_name_token owner b ∷ [])
 head-turn s owner b other h e =
     turned_to s (stage.Name owner Prefix) b (first_name_token owner b ∷ []) (head-of b h).1 (head-of b h).2
     (e ∙ ap (λ (t : Bool). cond t (tells_and_goes (first_name_token owner b ∷ []) (stage.Name owner Prefix)) other) (head-of b h).0)
 
-less-head : (b : ℕ) → is_name_head b ≡ true → turn (rest_at stage.Less) b ≡ leads (rest_at (stage.Name StartTag Prefix)) (token.TagOpens b ∷ [])
+less-head : (b : ℕ) → is_name_head b ≡ true → turn (stage_at stage.Less) b ≡ leads (stage_at (stage.Name StartTag Prefix)) (token.TagOpens b ∷ [])
 unfolding ascii in_tag_turn
 less-head b h = head-turn stage.Less StartTag b (after_less (ascii_kind b)) h refl
 
-mark-head : (b : ℕ) → is_name_head b ≡ true → turn (rest_at stage.EndTagMark) b ≡ leads (rest_at (stage.Name EndTag Prefix)) (token.CloseOpens b ∷ [])
+mark-head : (b : ℕ) → is_name_head b ≡ true → turn (stage_at stage.EndTagMark) b ≡ leads (stage_at (stage.Name EndTag Prefix)) (token.CloseOpens b ∷ [])
 unfolding ascii in_tag_turn
 mark-head b h = head-turn stage.EndTagMark EndTag b turn_fault h refl
 
-tag-head : (b : ℕ) → is_name_head b ≡ true → turn (rest_at stage.InTag) b ≡ leads (rest_at (stage.Name Attribute Prefix)) (token.AttrOpens b ∷ [])
+tag-head : (b : ℕ) → is_name_head b ≡ true → turn (stage_at stage.InTag) b ≡ leads (stage_at (stage.Name Attribute Prefix)) (token.AttrOpens b ∷ [])
 unfolding ascii in_tag_turn
 tag-head b h = head-turn stage.InTag Attribute b (in_tag_end (ascii_kind b)) h refl
 
@@ -204,10 +204,10 @@ awaited-is stage.ValueAwaited h = refl
 awaited-is s h = absurd (let bad : false ≡ true = h in cc)
 
 -- a byte that tells one token
-told-led : (r : Rules) (st s : State) (n m : Nest) (byte : ℕ) (t : Token) (b c : Building)
+pub told_led : (r : Rules) (st s : State) (n m : Nest) (byte : ℕ) (t : Token) (b c : Building)
     → turn st byte ≡ leads s (t ∷ []) → nest r n t ≡ m → placed r s m ≡ open_at s m → in_item_nest m ≡ true → build b t ≡ c → tag_judged b t ≡ None → c.item ≡ b.item
     → LeadsBy r (open_at st n) b (byte ∷ []) (open_at s m) c
-told-led r st s n m byte t b c turns nests goes within made judged same =
+told_led r st s n m byte t b c turns nests goes within made judged same =
     mark_led r (open_at st n) (open_at s m) b c byte (t ∷ []) (λ l by. record {
       framed = ap (λ (x : Rules). framed x n (turn st byte)) by ∙ (ap (framed r n) turns ∙ (ap (placed r s) nests ∙ goes));
       told = ap tokens_told turns;
@@ -225,7 +225,7 @@ closing-nest : (r : Rules) (m x : RawName) (ms : List RawName) (b : ℕ) → (b 
 unfolding nest
 closing-nest r m x ms b e = ap (λ (t : Bool). cond t (closing (x ∷ ms) m.1) lost) e
 
-closing-placed : (r : Rules) (x : RawName) (ms : List RawName) (left : List ℕ) → placed r (rest_at (stage.Name EndTag Prefix)) (closing (x ∷ ms) left) ≡ open_at (rest_at (stage.Name EndTag Prefix)) (closing (x ∷ ms) left)
+closing-placed : (r : Rules) (x : RawName) (ms : List RawName) (left : List ℕ) → placed r (stage_at (stage.Name EndTag Prefix)) (closing (x ∷ ms) left) ≡ open_at (stage_at (stage.Name EndTag Prefix)) (closing (x ∷ ms) left)
 closing-placed r x ms [] = refl
 closing-placed r x ms (c ∷ left) = refl
 
@@ -234,8 +234,8 @@ closing-at r (open_at st (inside (m ∷ x ∷ ms))) byte b h =
     let p = and_parts (is_end_mark st.stage && is_between_characters st) (nat_lt 1 (length (m ∷ x ∷ ms)) && ((byte == m.0) && is_name_head byte)) h in
     let q = and_parts (is_end_mark st.stage) (is_between_characters st) p.0 in
     let u = and_parts (byte == m.0) (is_name_head byte) (and_parts (nat_lt 1 (length (m ∷ x ∷ ms))) ((byte == m.0) && is_name_head byte) p.1).1 in
-    subst (λ (y : State). LeadsBy r (open_at y (inside (m ∷ x ∷ ms))) b (byte ∷ []) (open_at (rest_at (stage.Name EndTag Prefix)) (closing (x ∷ ms) m.1)) b) (sym (state-at st stage.EndTagMark q.1 (end-mark-is st.stage q.0)))
-    (told-led r (rest_at stage.EndTagMark) (rest_at (stage.Name EndTag Prefix)) (inside (m ∷ x ∷ ms)) (closing (x ∷ ms) m.1) byte (token.CloseOpens byte) b b
+    subst (λ (y : State). LeadsBy r (open_at y (inside (m ∷ x ∷ ms))) b (byte ∷ []) (open_at (stage_at (stage.Name EndTag Prefix)) (closing (x ∷ ms) m.1)) b) (sym (state_at st stage.EndTagMark q.1 (end-mark-is st.stage q.0)))
+    (told_led r (stage_at stage.EndTagMark) (stage_at (stage.Name EndTag Prefix)) (inside (m ∷ x ∷ ms)) (closing (x ∷ ms) m.1) byte (token.CloseOpens byte) b b
     (mark-head byte u.1) (closing-nest r m x ms byte u.0) (closing-placed r x ms m.1) refl refl refl refl)
 closing-at r (open_at st (inside [])) byte b h = absurd (let bad : false ≡ true = sym (and_right (is_end_mark st.stage && is_between_characters st) false refl) ∙ h in cc)
 closing-at r (open_at st (inside (m ∷ []))) byte b h = absurd (let bad : false ≡ true = sym (and_right (is_end_mark st.stage && is_between_characters st) false refl) ∙ h in cc)
@@ -246,25 +246,25 @@ closing_led r f g byte h is b = subst (λ (x : Frame). LeadsBy r f b (byte ∷ [
 
 -- The quote before a value.
 
-opens-single : turn (rest_at stage.ValueAwaited) 39 ≡ leads (rest_at (stage.Text (Value Single))) (token.ValueOpens ∷ [])
+opens-single : turn (stage_at stage.ValueAwaited) 39 ≡ leads (stage_at (stage.Text (Value Single))) (token.ValueOpens ∷ [])
 unfolding turn_ascii ascii_kind ascii in_tag_turn
 opens-single = refl
 
-opens-double : turn (rest_at stage.ValueAwaited) 34 ≡ leads (rest_at (stage.Text (Value Double))) (token.ValueOpens ∷ [])
+opens-double : turn (stage_at stage.ValueAwaited) 34 ≡ leads (stage_at (stage.Text (Value Double))) (token.ValueOpens ∷ [])
 unfolding turn_ascii ascii_kind ascii in_tag_turn
 opens-double = refl
 
-opens-turn : (b : ℕ) (q : Quote) → quote_of b ≡ Some q → turn (rest_at stage.ValueAwaited) b ≡ leads (rest_at (stage.Text (Value q))) (token.ValueOpens ∷ [])
+opens-turn : (b : ℕ) (q : Quote) → quote_of b ≡ Some q → turn (stage_at stage.ValueAwaited) b ≡ leads (stage_at (stage.Text (Value q))) (token.ValueOpens ∷ [])
 opens-turn b q h = by (b == 39) refl h
   where
-    at-quote : (k : ℕ) (u : Quote) → b ≡ k → turn (rest_at stage.ValueAwaited) k ≡ leads (rest_at (stage.Text (Value u))) (token.ValueOpens ∷ []) → Some u ≡ Some q → turn (rest_at stage.ValueAwaited) b ≡ leads (rest_at (stage.Text (Value q))) (token.ValueOpens ∷ [])
-    at-quote k u is e h = ap (λ (i : ℕ). turn (rest_at stage.ValueAwaited) i) is ∙ (e ∙ ap (λ (v : Quote). leads (rest_at (stage.Text (Value v))) (token.ValueOpens ∷ [])) (let e1 : Some u ≡ Some q = h in cc))
+    at-quote : (k : ℕ) (u : Quote) → b ≡ k → turn (stage_at stage.ValueAwaited) k ≡ leads (stage_at (stage.Text (Value u))) (token.ValueOpens ∷ []) → Some u ≡ Some q → turn (stage_at stage.ValueAwaited) b ≡ leads (stage_at (stage.Text (Value q))) (token.ValueOpens ∷ [])
+    at-quote k u is e h = ap (λ (i : ℕ). turn (stage_at stage.ValueAwaited) i) is ∙ (e ∙ ap (λ (v : Quote). leads (stage_at (stage.Text (Value v))) (token.ValueOpens ∷ [])) (let e1 : Some u ≡ Some q = h in cc))
 
-    double : (x : Bool) → (b == 34) ≡ x → (if x then Some Double else None) ≡ Some q → turn (rest_at stage.ValueAwaited) b ≡ leads (rest_at (stage.Text (Value q))) (token.ValueOpens ∷ [])
+    double : (x : Bool) → (b == 34) ≡ x → (if x then Some Double else None) ≡ Some q → turn (stage_at stage.ValueAwaited) b ≡ leads (stage_at (stage.Text (Value q))) (token.ValueOpens ∷ [])
     double true is h = at-quote 34 Double (eqb-true b 34 is) opens-double h
     double false is h = absurd (let bad : None ≡ Some q = h in cc)
 
-    by : (x : Bool) → (b == 39) ≡ x → (if x then Some Single else if b == 34 then Some Double else None) ≡ Some q → turn (rest_at stage.ValueAwaited) b ≡ leads (rest_at (stage.Text (Value q))) (token.ValueOpens ∷ [])
+    by : (x : Bool) → (b == 39) ≡ x → (if x then Some Single else if b == 34 then Some Double else None) ≡ Some q → turn (stage_at stage.ValueAwaited) b ≡ leads (stage_at (stage.Text (Value q))) (token.ValueOpens ∷ [])
     by true is h = at-quote 39 Single (eqb-true b 39 is) opens-single h
     by false is h = double (b == 34) refl h
 
@@ -275,8 +275,8 @@ value-nest r ms m i = refl
 value-at : (r : Rules) (f : Frame) (q : Quote) (byte : ℕ) (b : Building) → awaits_value f ≡ true → quote_of byte ≡ Some q → LeadsBy r f b (byte ∷ []) (now_in_value f q) b
 value-at r (open_at st (naming_attribute ms m i)) q byte b h is =
     let p = and_parts (is_value_awaited st.stage) (is_between_characters st) h in
-    subst (λ (y : State). LeadsBy r (open_at y (naming_attribute ms m i)) b (byte ∷ []) (open_at (value_at q) (valuing ms m i)) b) (sym (state-at st stage.ValueAwaited p.1 (awaited-is st.stage p.0)))
-    (told-led r (rest_at stage.ValueAwaited) (value_at q) (naming_attribute ms m i) (valuing ms m i) byte token.ValueOpens b b (opens-turn byte q is) (value-nest r ms m i) refl refl refl refl refl)
+    subst (λ (y : State). LeadsBy r (open_at y (naming_attribute ms m i)) b (byte ∷ []) (open_at (value_at q) (valuing ms m i)) b) (sym (state_at st stage.ValueAwaited p.1 (awaited-is st.stage p.0)))
+    (told_led r (stage_at stage.ValueAwaited) (value_at q) (naming_attribute ms m i) (valuing ms m i) byte token.ValueOpens b b (opens-turn byte q is) (value-nest r ms m i) refl refl refl refl refl)
 value-at r f q byte b h is = absurd (let bad : false ≡ true = h in cc)
 
 pub value_opened_led : (r : Rules) (f g : Frame) (q : Quote) (byte : ℕ) → awaits_value f ≡ true → quote_of byte ≡ Some q → g ≡ now_in_value f q → (b : Building) → LeadsBy r f b (byte ∷ []) g b
@@ -284,7 +284,7 @@ value_opened_led r f g q byte h e is b = subst (λ (x : Frame). LeadsBy r f b (b
 
 -- The quote after it.
 
-ends-turn : (q : Quote) → turn (value_at q) (quote_byte q) ≡ leads (rest_at stage.ValueEnded) (token.ValueEnds ∷ [])
+ends-turn : (q : Quote) → turn (value_at q) (quote_byte q) ≡ leads (stage_at stage.ValueEnded) (token.ValueEnds ∷ [])
 unfolding turn_ascii ascii_kind ascii
 ends-turn Double = refl
 ends-turn Single = refl
@@ -293,14 +293,14 @@ ended-nest : (r : Rules) (ms : List RawName) (m : RawName) (i : ℕ) → nest r 
 unfolding nest
 ended-nest r ms m i = refl
 
-ended-placed : (r : Rules) (ms : List RawName) (m : RawName) (i : ℕ) → placed r (rest_at stage.ValueEnded) (in_tag ms m i) ≡ open_at (rest_at stage.ValueEnded) (in_tag ms m i)
+ended-placed : (r : Rules) (ms : List RawName) (m : RawName) (i : ℕ) → placed r (stage_at stage.ValueEnded) (in_tag ms m i) ≡ open_at (stage_at stage.ValueEnded) (in_tag ms m i)
 ended-placed r [] m i = refl
 ended-placed r (x ∷ ms) m i = refl
 
 ended-at : (r : Rules) (f : Frame) (q : Quote) (b : Building) → open_quote f ≡ Some q → LeadsBy r f b (quote_byte q ∷ []) (now_in_tag f) (record b { tag = gather b.tag token.ValueEnds })
 ended-at r (open_at st (valuing ms m i)) q b h =
-    subst (λ (y : State). LeadsBy r (open_at y (valuing ms m i)) b (quote_byte q ∷ []) (open_at (rest_at stage.ValueEnded) (in_tag ms m i)) (record b { tag = gather b.tag token.ValueEnds })) (sym (value-state st q h))
-    (told-led r (value_at q) (rest_at stage.ValueEnded) (valuing ms m i) (in_tag ms m i) (quote_byte q) token.ValueEnds b (record b { tag = gather b.tag token.ValueEnds }) (ends-turn q) (ended-nest r ms m i) (ended-placed r ms m i) refl refl refl refl)
+    subst (λ (y : State). LeadsBy r (open_at y (valuing ms m i)) b (quote_byte q ∷ []) (open_at (stage_at stage.ValueEnded) (in_tag ms m i)) (record b { tag = gather b.tag token.ValueEnds })) (sym (value-state st q h))
+    (told_led r (value_at q) (stage_at stage.ValueEnded) (valuing ms m i) (in_tag ms m i) (quote_byte q) token.ValueEnds b (record b { tag = gather b.tag token.ValueEnds }) (ends-turn q) (ended-nest r ms m i) (ended-placed r ms m i) refl refl refl refl)
 ended-at r f q b h = absurd (let bad : None ≡ Some q = h in cc)
 
 pub value_ended_led : (r : Rules) (f g : Frame) (q : Quote) (byte : ℕ) (b c : Building)
@@ -321,8 +321,8 @@ begun-at r (open_at st (inside (m ∷ ms))) byte b h =
     let p = and_parts (is_less st.stage && is_between_characters st) (nat_le (length (m ∷ ms)) r.depth && is_name_head byte) h in
     let q = and_parts (is_less st.stage) (is_between_characters st) p.0 in
     let u = and_parts (nat_le (length (m ∷ ms)) r.depth) (is_name_head byte) p.1 in
-    subst (λ (y : State). LeadsBy r (open_at y (inside (m ∷ ms))) b (byte ∷ []) (open_at (rest_at (stage.Name StartTag Prefix)) (naming (m ∷ ms) (byte, []))) (record b { tag = gather b.tag (token.TagOpens byte) })) (sym (state-at st stage.Less q.1 (less-is st.stage q.0)))
-    (told-led r (rest_at stage.Less) (rest_at (stage.Name StartTag Prefix)) (inside (m ∷ ms)) (naming (m ∷ ms) (byte, [])) byte (token.TagOpens byte) b (record b { tag = gather b.tag (token.TagOpens byte) })
+    subst (λ (y : State). LeadsBy r (open_at y (inside (m ∷ ms))) b (byte ∷ []) (open_at (stage_at (stage.Name StartTag Prefix)) (naming (m ∷ ms) (byte, []))) (record b { tag = gather b.tag (token.TagOpens byte) })) (sym (state_at st stage.Less q.1 (less-is st.stage q.0)))
+    (told_led r (stage_at stage.Less) (stage_at (stage.Name StartTag Prefix)) (inside (m ∷ ms)) (naming (m ∷ ms) (byte, [])) byte (token.TagOpens byte) b (record b { tag = gather b.tag (token.TagOpens byte) })
     (less-head byte u.1) (begun-nest r m ms byte u.0) refl refl refl refl refl)
 begun-at r (open_at st (inside [])) byte b h = absurd (let bad : false ≡ true = sym (and_right (is_less st.stage && is_between_characters st) false refl) ∙ h in cc)
 begun-at r f byte b h = absurd (let bad : false ≡ true = h in cc)
@@ -347,13 +347,13 @@ next-nest r ms m i b e = ap (λ (t : Bool). cond t (naming_attribute ms m (i + 1
 attributed-in : (r : Rules) (st : State) (n : Nest) (ms : List RawName) (m : RawName) (i j byte : ℕ) (b : Building)
     → ((is_in_tag st.stage && is_between_characters st) && (nat_lt i r.attributes && is_name_head byte)) ≡ true
     → (nat_lt i r.attributes ≡ true → nest r n (token.AttrOpens byte) ≡ naming_attribute ms m j)
-    → LeadsBy r (open_at st n) b (byte ∷ []) (open_at (rest_at (stage.Name Attribute Prefix)) (naming_attribute ms m j)) (record b { tag = gather b.tag (token.AttrOpens byte) })
+    → LeadsBy r (open_at st n) b (byte ∷ []) (open_at (stage_at (stage.Name Attribute Prefix)) (naming_attribute ms m j)) (record b { tag = gather b.tag (token.AttrOpens byte) })
 attributed-in r st n ms m i j byte b h nests =
     let p = and_parts (is_in_tag st.stage && is_between_characters st) (nat_lt i r.attributes && is_name_head byte) h in
     let q = and_parts (is_in_tag st.stage) (is_between_characters st) p.0 in
     let u = and_parts (nat_lt i r.attributes) (is_name_head byte) p.1 in
-    subst (λ (y : State). LeadsBy r (open_at y n) b (byte ∷ []) (open_at (rest_at (stage.Name Attribute Prefix)) (naming_attribute ms m j)) (record b { tag = gather b.tag (token.AttrOpens byte) })) (sym (state-at st stage.InTag q.1 (in-tag-is st.stage q.0)))
-    (told-led r (rest_at stage.InTag) (rest_at (stage.Name Attribute Prefix)) n (naming_attribute ms m j) byte (token.AttrOpens byte) b (record b { tag = gather b.tag (token.AttrOpens byte) })
+    subst (λ (y : State). LeadsBy r (open_at y n) b (byte ∷ []) (open_at (stage_at (stage.Name Attribute Prefix)) (naming_attribute ms m j)) (record b { tag = gather b.tag (token.AttrOpens byte) })) (sym (state_at st stage.InTag q.1 (in-tag-is st.stage q.0)))
+    (told_led r (stage_at stage.InTag) (stage_at (stage.Name Attribute Prefix)) n (naming_attribute ms m j) byte (token.AttrOpens byte) b (record b { tag = gather b.tag (token.AttrOpens byte) })
     (tag-head byte u.1) (nests u.0) refl refl refl refl refl)
 
 attributed-at : (r : Rules) (f : Frame) (byte : ℕ) (b : Building) → attributed_by r f byte ≡ true → LeadsBy r f b (byte ∷ []) (now_attributed f) (record b { tag = gather b.tag (token.AttrOpens byte) })

@@ -3,8 +3,8 @@ use Rattle.std.specs.Prelude.{◌≡◌, ◌<◌, ◌≤◌, ℕ, ◌+◌, ◌^�
 use Rattle.std.specs.Option.{is_some}
 use Rattle.stream_grammar.specs.declared.item.Limits.{Limits}
 use Rattle.stream_grammar.specs.declared.rules.Rules.{Rules}
-use Rattle.stream_grammar.specs.Building.{Building}
-use Rattle.stream_grammar.specs.Framing.{Frame, open_at}
+use Rattle.stream_grammar.specs.Building.{Building, Opened}
+use Rattle.stream_grammar.specs.Framing.{Frame, open_at, is_empty_mark}
 use Rattle.stream_grammar.specs.Nesting.{Nest, inside, naming, in_tag, naming_attribute, in_value, closing}
 use Rattle.stream_grammar.specs.Reading.{reads, told_number, rules_of, is_done}
 use Rattle.stream_lex.specs.declared.characters.Pending.TheVariants as pending
@@ -17,8 +17,8 @@ use Rattle.stream_lex.specs.declared.stages.Stage.{Stage}
 use Rattle.stream_lex.specs.declared.stages.Stage.TheVariants as stage
 use Rattle.stream_lex.specs.Turns.{at}
 use Rattle.stream_frames.specs.Moves.{is_none}
-use Rattle.stream_frames.specs.Stacks.{outer, left_of, begins_so}
-use Rattle.stream_frames.specs.Runs.{is_between_characters, IsRun}
+use Rattle.stream_frames.specs.Stacks.{outer, left_of, begins_so, is_all}
+use Rattle.stream_frames.specs.Runs.{is_between_characters, is_end_stage, has_opened, IsRun}
 
 -- As `Leads`, under rules on depth and attributes.
 pub record LeadsBy (r : Rules) (f : Frame) (b : Building) (xs : List ℕ) (g : Frame) (c : Building) : Type 0 where
@@ -134,3 +134,48 @@ abbrev pub now_attributed : Frame → Frame
 now_attributed (open_at st (naming ms m)) = open_at (at (stage.Name Attribute Prefix) pending.Nothing false) (naming_attribute ms m 1)
 now_attributed (open_at st (in_tag ms m i)) = open_at (at (stage.Name Attribute Prefix) pending.Nothing false) (naming_attribute ms m (i + 1))
 now_attributed f = f
+
+-- Bytes that end a tag in an item that goes on.
+
+-- an element is open in one of the stream's
+abbrev pub has_parent : List Opened → Bool
+has_parent [] = false
+has_parent (x ∷ xs) = has_opened xs
+
+-- a start tag ends at a `>` from here
+abbrev pub ends_start : Stage → Bool
+ends_start (stage.Name StartTag h) = true
+ends_start stage.InTag = true
+ends_start stage.ValueEnded = true
+ends_start s = false
+
+-- the end of a start tag, but for the stream's
+abbrev pub enters_by : Frame → ℕ → Bool
+enters_by (open_at st (naming ms m)) b = (ends_start st.stage && is_between_characters st) && (not (is_none ms) && (b == 62))
+enters_by (open_at st (in_tag ms m i)) b = (ends_start st.stage && is_between_characters st) && (not (is_none ms) && (b == 62))
+enters_by f b = false
+
+abbrev pub now_entered : Frame → Frame
+now_entered (open_at st (naming ms m)) = open_at (at (stage.Text Words) pending.Nothing false) (inside (m ∷ ms))
+now_entered (open_at st (in_tag ms m i)) = open_at (at (stage.Text Words) pending.Nothing false) (inside (m ∷ ms))
+now_entered f = f
+
+-- the end of an empty-element tag in an element of the stream's
+abbrev pub hollows_by : Frame → ℕ → Bool
+hollows_by (open_at st (naming ms m)) b = (is_empty_mark st.stage && is_between_characters st) && (nat_lt 1 (length ms) && (b == 62))
+hollows_by (open_at st (in_tag ms m i)) b = (is_empty_mark st.stage && is_between_characters st) && (nat_lt 1 (length ms) && (b == 62))
+hollows_by f b = false
+
+abbrev pub now_hollow : Frame → Frame
+now_hollow (open_at st (naming ms m)) = open_at (at (stage.Text Words) pending.Nothing false) (inside ms)
+now_hollow (open_at st (in_tag ms m i)) = open_at (at (stage.Text Words) pending.Nothing false) (inside ms)
+now_hollow f = f
+
+-- the end of an end tag in an element of the stream's
+abbrev pub leaves_by : Frame → ℕ → Bool
+leaves_by (open_at st (closing ms left)) b = (is_end_stage st.stage && is_between_characters st) && (nat_lt 1 (length ms) && (is_all left && (b == 62)))
+leaves_by f b = false
+
+abbrev pub now_left : Frame → Frame
+now_left (open_at st (closing ms left)) = open_at (at (stage.Text Words) pending.Nothing false) (inside ms)
+now_left f = f

@@ -247,7 +247,7 @@ impl Builder {
     }
 
     /// What a token will do.
-    fn ready_for(&mut self, token: Token) -> Result<Ready, TagFault>
+    pub(crate) fn ready_for(&mut self, token: Token) -> Result<Ready, TagFault>
         ensures kept { building self.new ≡ building self.old }
         ensures applied { IfOk result (λ r. applied r (token ∷ []) (building self.old) ≡ build_all (building self.old) (token ∷ [])) }
         ensures ready { IfOk result (IsReady self.new (token ∷ [])) }

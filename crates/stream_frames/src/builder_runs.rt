@@ -1,16 +1,26 @@
 //! What a run adds to the elements that are being made. Each call answers whether there was memory, and else changes nothing.
 
-ghost use Rattle.std.specs.Prelude.{◌≡◌, ◌<◌, ◌≤◌, ◌++◌, take, length, true, false, vec_len, vec_capacity};
+ghost use Rattle.std.specs.Prelude.{◌≡◌, ◌<◌, ◌≤◌, ◌++◌, ◌==◌, not, take, length, true, false, IsUtf8, vec_len, vec_capacity};
 ghost use Rattle.stream_frames.specs.Builds.{tag_of, building};
+ghost use Rattle.stream_frames.specs.Markup.{has_parent};
 ghost use Rattle.stream_frames.specs.Runs.{has_opened, named_on, closing_left, closing_on};
 
 use crate::built::Builder;
 use crate::tracker::Tracker;
 use std::str;
 
+/// Bytes that are known to be UTF-8 as a text.
+fn text_of(bytes: &[u8]) -> &str
+    requires { IsUtf8 bytes.now }
+    ensures { result.now ≡ bytes.now }
+{
+    unsafe { str::from_utf8_unchecked(bytes) }
+}
+
 impl Builder {
     /// Adds words to the innermost element. Without one it answers no.
     pub(crate) fn add_plain_words(&mut self, run: &[u8]) -> bool
+        requires { IsUtf8 run.now }
         ensures inside { result ≡ true → has_opened (building self.old).opened ≡ true }
         ensures added { result ≡ true → building self.new ≡ record (building self.old) { words = (building self.old).words ++ run.now } }
         ensures kept { result ≡ false → building self.new ≡ building self.old }
@@ -18,21 +28,37 @@ impl Builder {
         if self.innermost.is_none() {
             return false;
         }
-        match str::from_utf8(run) {
-            Ok(text) => self.words.push_str(text).is_ok(),
-            Err(_) => false,
-        }
+        self.words.push_str(text_of(run)).is_ok()
     }
 
     /// Adds to the value that is being read.
     pub(crate) fn add_plain_value(&mut self, run: &[u8]) -> bool
+        requires { IsUtf8 run.now }
         ensures added { result ≡ true → building self.new ≡ record (building self.old) { tag = record (tag_of self.old) { value = (tag_of self.old).value ++ run.now } } }
         ensures kept { result ≡ false → building self.new ≡ building self.old }
     {
-        match str::from_utf8(run) {
-            Ok(text) => self.value.push_str(text).is_ok(),
-            Err(_) => false,
-        }
+        self.value.push_str(text_of(run)).is_ok()
+    }
+
+    /// Whether the header of the stream has come.
+    pub(crate) fn has_header(&self) -> bool
+        ensures { result ≡ not (length (building self.now).layers == 0) }
+    {
+        !self.layers.is_empty()
+    }
+
+    /// Whether an element is open in the stream's.
+    pub(crate) fn has_open(&self) -> bool
+        ensures { result ≡ has_opened (building self.now).opened }
+    {
+        self.innermost.is_some()
+    }
+
+    /// Whether an element is open in one of those.
+    pub(crate) fn has_parent(&self) -> bool
+        ensures { result ≡ true → has_parent (building self.now).opened ≡ true }
+    {
+        self.innermost.is_some() && !self.others.is_empty()
     }
 
     /// Makes room for an attribute more.

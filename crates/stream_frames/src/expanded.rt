@@ -38,7 +38,7 @@ pub(crate) fn expanded_names<'a>(
 ) -> Result<Vec<Expanded<'a>>, NoMemory>
     ensures { IfOk result (λ v. map full_name v.items ≡ map (expanded bindings.entry.now) attributes.entry.now) }
 {
-    let mut names = Vec::new(alloc);
+    let mut names = Vec::with_capacity(alloc, attributes.len())?;
     for attribute in attributes {
         names.push(expand(bindings, attribute))?;
     }

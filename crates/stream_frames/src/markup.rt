@@ -10,6 +10,7 @@ use crate::builder::one_byte;
 use crate::built::Builder;
 use crate::tracker::Tracker;
 use crate::tracker_markup::{quote_byte, quote_of};
+use stream_lex::Token;
 
 /// What markup a byte may be, by the stage alone: whoever reads it looks closer.
 #[derive(Clone, Copy)]
@@ -20,6 +21,9 @@ pub(crate) enum MarkOf {
     AttributeName,
     ValueOpen,
     ValueEnd,
+    StartEnd,
+    HollowEnd,
+    End,
     Nothing,
 }
 
@@ -108,6 +112,67 @@ fn attribute_name_mark(tracker: &mut Tracker, builder: &mut Builder, byte: u8) -
     true
 }
 
+/// The end of a start tag.
+#[tactic(auto, using(crate::proofs::EndLemmas::entered_led))]
+#[inline(never)]
+fn start_end_mark(tracker: &mut Tracker, builder: &mut Builder, byte: u8) -> bool
+    ensures rules { tracker.new.rules ≡ tracker.old.rules }
+    ensures read { result ≡ true → LeadsBy tracker.old.rules tracker.old.frame (building builder.old) (byte ∷ []) tracker.new.frame (building builder.new) }
+    ensures kept { result ≡ false → (tracker.new ≡ tracker.old) × (building builder.new ≡ building builder.old) }
+{
+    if !tracker.may_enter(byte) || !builder.has_header() {
+        return false;
+    }
+    let token = Token::TagEnds { empty: false };
+    let Ok(ready) = builder.ready_for(token) else {
+        return false;
+    };
+    if !tracker.enter() {
+        return false;
+    }
+    builder.apply(ready, &[token]);
+    true
+}
+
+/// The end of an empty-element tag.
+#[tactic(auto, using(crate::proofs::EndLemmas::hollow_led))]
+#[inline(never)]
+fn hollow_end_mark(tracker: &mut Tracker, builder: &mut Builder, byte: u8) -> bool
+    ensures rules { tracker.new.rules ≡ tracker.old.rules }
+    ensures read { result ≡ true → LeadsBy tracker.old.rules tracker.old.frame (building builder.old) (byte ∷ []) tracker.new.frame (building builder.new) }
+    ensures kept { result ≡ false → (tracker.new ≡ tracker.old) × (building builder.new ≡ building builder.old) }
+{
+    if !tracker.is_hollow_end(byte) || !builder.has_open() {
+        return false;
+    }
+    let token = Token::TagEnds { empty: true };
+    let Ok(ready) = builder.ready_for(token) else {
+        return false;
+    };
+    tracker.end_hollow();
+    builder.apply(ready, &[token]);
+    true
+}
+
+/// The end of an end tag.
+#[tactic(auto, using(crate::proofs::EndLemmas::left_led))]
+#[inline(never)]
+fn end_mark(tracker: &mut Tracker, builder: &mut Builder, byte: u8) -> bool
+    ensures rules { tracker.new.rules ≡ tracker.old.rules }
+    ensures read { result ≡ true → LeadsBy tracker.old.rules tracker.old.frame (building builder.old) (byte ∷ []) tracker.new.frame (building builder.new) }
+    ensures kept { result ≡ false → (tracker.new ≡ tracker.old) × (building builder.new ≡ building builder.old) }
+{
+    if !tracker.is_end(byte) || !builder.has_parent() {
+        return false;
+    }
+    let Ok(ready) = builder.ready_for(Token::CloseEnds) else {
+        return false;
+    };
+    tracker.leave();
+    builder.apply(ready, &[Token::CloseEnds]);
+    true
+}
+
 /// Any of these.
 pub(crate) fn mark(tracker: &mut Tracker, builder: &mut Builder, byte: u8) -> bool
     ensures rules { tracker.new.rules ≡ tracker.old.rules }
@@ -121,6 +186,9 @@ pub(crate) fn mark(tracker: &mut Tracker, builder: &mut Builder, byte: u8) -> bo
         MarkOf::AttributeName => attribute_name_mark(tracker, builder, byte),
         MarkOf::ValueOpen => value_open_mark(tracker, byte),
         MarkOf::ValueEnd => value_end_mark(tracker, builder, byte),
+        MarkOf::StartEnd => start_end_mark(tracker, builder, byte),
+        MarkOf::HollowEnd => hollow_end_mark(tracker, builder, byte),
+        MarkOf::End => end_mark(tracker, builder, byte),
         MarkOf::Nothing => false,
     }
 }

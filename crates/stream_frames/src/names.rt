@@ -1,6 +1,6 @@
 //! The names of the elements that are open.
 
-ghost use Rattle.std.specs.Prelude.{◌≡◌, ◌≤◌, ◌+◌, [], ◌∷◌, ◌++◌, take, length, cond, None, Some, OnOk, OnErr};
+ghost use Rattle.std.specs.Prelude.{◌≡◌, ◌≤◌, ◌+◌, [], ◌∷◌, ◌++◌, take, length, cond, nat_lt, None, Some, OnOk, OnErr};
 ghost use Rattle.stream_frames.specs.Stacks.{raw, outer, begins_so, left_of, next_is, is_all};
 ghost use Rattle.stream_frames.specs.Moves.{is_none, is_one};
 
@@ -129,6 +129,13 @@ impl Names {
         ensures { result ≡ is_one (outer self.now) }
     {
         self.count() == 2
+    }
+
+    /// Whether there are more than two.
+    pub(crate) fn has_outer_two(&self) -> bool
+        ensures { result ≡ nat_lt 1 (length (outer self.now)) }
+    {
+        self.count() > 2
     }
 
     /// Whether the innermost name begins with the byte.

@@ -3,6 +3,7 @@
 ghost use Rattle.std.specs.Prelude.{◌≡◌, None, map, IfOk, vec_len, vec_capacity};
 ghost use Rattle.std.specs.Option.{option_copied};
 ghost use Rattle.stream_frames.specs.Expanded.{full_name, fault_of_names};
+ghost use Rattle.stream_frames.specs.Begins.{begins_with_x};
 ghost use Rattle.stream_frames.specs.Spaces.{space_bytes, bound_space};
 ghost use Rattle.stream_grammar.specs.Namespaces.{colon_at, has_prefix, prefix_of, local_of, is_declaration, declared_prefix, may_undo, may_declare, last_space, last_layer, space_of, attribute_space, is_forbidden, has_forbidden, own, space_before};
 
@@ -73,9 +74,23 @@ pub(crate) fn local(name: &[u8]) -> &[u8]
     }
 }
 
+/// Whether a name begins as each that declares does.
+fn begins_with_x(name: &[u8]) -> bool
+    ensures { result ≡ begins_with_x name.now }
+{
+    match name {
+        [first, ..] => *first == b'x',
+        [] => false,
+    }
+}
+
+#[tactic(auto, using(crate::proofs::DeclareLemmas::undeclared))]
 pub(crate) fn declares(name: &[u8]) -> bool
     ensures { result ≡ is_declaration name.now }
 {
+    if !begins_with_x(name) {
+        return false;
+    }
     if has_a_prefix(name) {
         prefix(name) == b"xmlns".as_slice()
     } else {
@@ -253,6 +268,9 @@ pub fn own_bindings(alloc: Global, attributes: &[Written]) -> Result<Several<Bin
     for attribute in attributes {
         let name = attribute.name.slice();
         if declares(name) {
+            if bindings.is_empty() {
+                bindings.reserve_exact(1)?;
+            }
             bindings.push(bind(alloc, declared(name), &attribute.value)?)?;
         }
     }

@@ -25,7 +25,7 @@ pub(crate) enum RunOf {
 }
 
 /// Words in an element.
-#[tactic(auto, using(crate::proofs::RunWords::words_led, crate::proofs::RunLemmas::none_led))]
+#[tactic(auto, using(crate::proofs::RunWords::words_led, crate::proofs::PlainLemmas::word_utf8, crate::proofs::RunLemmas::none_led))]
 fn words_run(tracker: &Tracker, builder: &mut Builder, bytes: &[u8]) -> usize
     ensures fits { result ≤ length bytes.now }
     ensures run { Leads tracker.now.frame (building builder.old) (take result bytes.now) tracker.now.frame (building builder.new) }
@@ -41,7 +41,7 @@ fn words_run(tracker: &Tracker, builder: &mut Builder, bytes: &[u8]) -> usize
 }
 
 /// The value of an attribute.
-#[tactic(auto, using(crate::proofs::RunValues::value_led, crate::proofs::RunLemmas::none_led))]
+#[tactic(auto, using(crate::proofs::RunValues::value_led, crate::proofs::PlainLemmas::value_utf8, crate::proofs::RunLemmas::none_led))]
 fn value_run(tracker: &Tracker, builder: &mut Builder, bytes: &[u8]) -> usize
     ensures fits { result ≤ length bytes.now }
     ensures run { Leads tracker.now.frame (building builder.old) (take result bytes.now) tracker.now.frame (building builder.new) }

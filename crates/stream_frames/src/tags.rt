@@ -36,7 +36,7 @@ impl From<AllocError> for TagFault {
     }
 }
 
-pub(crate) fn text(alloc: Global, bytes: &[u8]) -> Result<Text, TagFault>
+fn some_text(alloc: Global, bytes: &[u8]) -> Result<Text, TagFault>
     ensures ok { IfOk result (λ t. t ≡ bytes.now) }
     ensures utf8 { OnOk result (is_utf8 bytes.now ≡ true) }
     ensures err { IfErr result (IsRefused (is_utf8 bytes.now)) }
@@ -45,6 +45,18 @@ pub(crate) fn text(alloc: Global, bytes: &[u8]) -> Result<Text, TagFault>
         Ok(text) => Ok(text),
         Err(TextFault::NoMemory) => Err(TagFault::NoMemory),
         Err(TextFault::NotUtf8(_)) => Err(TagFault::NotUtf8),
+    }
+}
+
+/// Bytes as a text. Takes no memory for none.
+pub(crate) fn text(alloc: Global, bytes: &[u8]) -> Result<Text, TagFault>
+    ensures ok { IfOk result (λ t. t ≡ bytes.now) }
+    ensures utf8 { OnOk result (is_utf8 bytes.now ≡ true) }
+    ensures err { IfErr result (IsRefused (is_utf8 bytes.now)) }
+{
+    match bytes {
+        [] => Ok(Text::empty(alloc)),
+        _ => some_text(alloc, bytes),
     }
 }
 
@@ -107,7 +119,7 @@ fn attribute_spaces(alloc: Global, names: &[Expanded<'_>]) -> Result<Vec<Text>, 
     ensures utf8 { OnOk result (are_texts (map full_name names.now) ≡ true) }
     ensures err { IfErr result (IsRefused (are_texts (map full_name names.now))) }
 {
-    let mut spaces = Vec::new(alloc);
+    let mut spaces = Vec::with_capacity(alloc, names.len())?;
     for name in names {
         if !declares(name.written.name.slice()) {
             match name_space(alloc, name.space, name.local) {

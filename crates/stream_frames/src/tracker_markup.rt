@@ -4,15 +4,17 @@ ghost use Rattle.std.specs.Prelude.{◌≡◌, true, false, IfSome};
 ghost use Rattle.stream_lex.specs.declared.characters.Pending.TheVariants as pending;
 ghost use Rattle.stream_lex.specs.Live.{is_live, is_live_stage};
 ghost use Rattle.stream_lex.specs.Turns.{at};
+ghost use Rattle.stream_grammar.specs.Framing.{is_empty_mark};
 ghost use Rattle.stream_grammar.specs.Trees.{RawName};
 ghost use Rattle.stream_frames.specs.Tracking.{nest_at};
-ghost use Rattle.stream_frames.specs.Markup.{only_at, after_part, silent_stage, may_be_silent, is_silent, silenced, is_name_head, is_less, is_end_mark, is_in_tag, is_value_awaited, quote_byte, quote_of, closes_by, now_closing, awaits_value, now_in_value, now_in_tag, begins_by, now_naming, attributed_by, now_attributed};
+ghost use Rattle.stream_frames.specs.Markup.{only_at, after_part, silent_stage, may_be_silent, is_silent, silenced, is_name_head, is_less, is_end_mark, is_in_tag, is_value_awaited, quote_byte, quote_of, closes_by, now_closing, awaits_value, now_in_value, now_in_tag, begins_by, now_naming, attributed_by, now_attributed, ends_start, enters_by, now_entered, hollows_by, now_hollow, leaves_by, now_left};
+ghost use Rattle.stream_frames.specs.Stacks.{outer};
 
 use crate::markup::MarkOf;
 use crate::names::{Names, OpenName};
 use crate::places::Place;
 use crate::tracker::{Standing, Tracker};
-use crate::tracker_runs::is_between;
+use crate::tracker_runs::{is_at_end, is_between};
 use stream_lex::{Context, Half, NameOwner, Quote, Stage, State};
 
 /// A stage between two characters.
@@ -125,12 +127,32 @@ pub(crate) fn quote_byte(quote: Quote) -> u8
     }
 }
 
+/// Whether a start tag ends at a `>` from the stage.
+fn ends_start(stage: Stage) -> bool
+    ensures { result ≡ ends_start stage }
+{
+    matches!(
+        stage,
+        Stage::Name(NameOwner::StartTag, _) | Stage::InTag | Stage::ValueEnded
+    )
+}
+
+fn is_empty_mark(stage: Stage) -> bool
+    ensures { result ≡ is_empty_mark stage }
+{
+    matches!(stage, Stage::EmptyTagMark)
+}
+
 impl Tracker {
     /// What markup the byte may be, by the stage alone: whoever reads it looks closer.
     pub(crate) fn mark_of(&self, byte: u8) -> MarkOf {
         match self.state.stage {
             Stage::Text(Context::Value(_)) => MarkOf::ValueEnd,
             Stage::Text(Context::Words) if byte == b'<' => MarkOf::Silent,
+            Stage::Name(NameOwner::EndTag, _) if byte == b'>' => MarkOf::End,
+            Stage::Name(NameOwner::StartTag, _) | Stage::InTag | Stage::ValueEnded
+                if byte == b'>' => { MarkOf::StartEnd }
+            Stage::EmptyTagMark => MarkOf::HollowEnd,
             Stage::Name(_, _) if byte < b'a' => MarkOf::Silent,
             Stage::Less if byte != b'/' => MarkOf::StartName,
             Stage::InTag if byte != b'/' => MarkOf::AttributeName,
@@ -250,6 +272,84 @@ impl Tracker {
             true
         } else {
             false
+        }
+    }
+
+    /// Whether the byte ends a start tag, but for the stream's.
+    pub(crate) fn may_enter(&self, byte: u8) -> bool
+        ensures { result ≡ enters_by self.now.frame byte }
+    {
+        match self.standing {
+            Standing::Open(Place::Naming | Place::InTag(_)) => {
+                (ends_start(self.state.stage) && is_between(self.state))
+                    && (!self.open.is_none() && byte == b'>')
+            }
+            _ => false,
+        }
+    }
+
+    /// Reads the end of a start tag. Answers whether there was memory.
+    pub(crate) fn enter(&mut self) -> bool
+        ensures read { result ≡ true → self.new ≡ record self.old { frame = now_entered self.old.frame } }
+        ensures kept { result ≡ false → self.new ≡ self.old }
+    {
+        match self.standing {
+            Standing::Open(Place::Naming | Place::InTag(_)) => {
+                if self.open.push(&mut self.name).is_err() {
+                    return false;
+                }
+                self.state = between(Stage::Text(Context::Words));
+                self.standing = Standing::Open(Place::Inside);
+                true
+            }
+            _ => false,
+        }
+    }
+
+    /// Whether the byte ends an empty-element tag in an element of the stream's.
+    pub(crate) fn is_hollow_end(&self, byte: u8) -> bool
+        ensures { result ≡ hollows_by self.now.frame byte }
+    {
+        match self.standing {
+            Standing::Open(Place::Naming | Place::InTag(_)) => {
+                (is_empty_mark(self.state.stage) && is_between(self.state))
+                    && (self.open.count() > 1 && byte == b'>')
+            }
+            _ => false,
+        }
+    }
+
+    /// Reads the end of an empty-element tag.
+    pub(crate) fn end_hollow(&mut self)
+        ensures { self.new ≡ record self.old { frame = now_hollow self.old.frame } }
+    {
+        if let Standing::Open(Place::Naming | Place::InTag(_)) = self.standing {
+            self.state = between(Stage::Text(Context::Words));
+            self.standing = Standing::Open(Place::Inside);
+        }
+    }
+
+    /// Whether the byte ends an end tag in an element of the stream's.
+    pub(crate) fn is_end(&self, byte: u8) -> bool
+        ensures { result ≡ leaves_by self.now.frame byte }
+    {
+        match self.standing {
+            Standing::Open(Place::Closing(at)) => {
+                (is_at_end(self.state.stage) && is_between(self.state))
+                    && (self.open.has_outer_two() && (self.open.is_whole(at) && byte == b'>'))
+            }
+            _ => false,
+        }
+    }
+
+    /// Reads the end of an end tag.
+    pub(crate) fn leave(&mut self)
+        ensures { self.new ≡ record self.old { frame = now_left self.old.frame } }
+    {
+        if let Standing::Open(Place::Closing(_)) = self.standing {
+            self.open.pop();
+            self.state = between(Stage::Text(Context::Words));
+            self.standing = Standing::Open(Place::Inside);
         }
     }
 }

@@ -35,7 +35,8 @@ fn is_at_start(stage: Stage) -> bool
     matches!(stage, Stage::Name(NameOwner::StartTag, _))
 }
 
-fn is_at_end(stage: Stage) -> bool
+/// Whether a stage is in the name of an end tag.
+pub(crate) fn is_at_end(stage: Stage) -> bool
     ensures { result ≡ is_end_stage stage }
 {
     matches!(stage, Stage::Name(NameOwner::EndTag, _))
