@@ -16,3 +16,4 @@ pub mod MarkupLemmas
 pub mod EndLemmas
 pub mod PlainLemmas
 pub mod DeclareLemmas
+pub mod WaitLemmas

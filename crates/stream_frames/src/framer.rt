@@ -274,17 +274,19 @@ impl Framer {
     }
 
     /// The item that waits. A fault is answered at every call.
+    #[tactic(auto, using(crate::proofs::WaitLemmas::none_waits, crate::proofs::WaitLemmas::none_handed))]
     pub fn next(&mut self) -> Option<Item>
         ensures item { result ≡ waiting self.old.reading }
         ensures handed { self.new ≡ record self.old { reading = handed self.old.reading } }
     {
+        if !self.is_done() {
+            return None;
+        }
         match self.fault {
             Some(fault) => Some(Item::Broken(fault, self.offset)),
             None => {
                 let item = self.work.take_item();
-                if item.is_some() {
-                    self.work.release();
-                }
+                self.work.release();
                 item
             }
         }
