@@ -2,6 +2,8 @@
 //! (XEP-0004, 3), an error by itself (RFC 6120, 8.3), one push (RFC 6121, 2.1.6), and the receivers of a message by their numbers
 //! (RFC 6121, 8.5).
 
+ghost use Rattle.std.specs.Prelude.{◌<◌, ◌-◌, ◌^◌, IfOk};
+
 use crate::heard::top;
 use jid_core::{Jid, Part};
 use stanza_model::{
@@ -113,7 +115,9 @@ fn errors_are_replied(rt: HostRuntime) -> Result<(), Fail> {
 }
 
 // A session of alice's.
-fn session_of(alloc: Global, session: u64, priority: i16) -> Result<Here, Fail> {
+fn session_of(alloc: Global, session: u64, priority: i16) -> Result<Here, Fail>
+    ensures { IfOk result (λ h. h.pushes < 2 ^ 64 - 1) }
+{
     Ok(Here {
         session,
         address: Jid::read(alloc, b"alice@example.org/desk")?,
