@@ -1,16 +1,16 @@
 //! The elements of a client's stream, for the tests.
 
 ghost use Rattle.std.specs.Prelude.{◌≡◌, true, IfOk};
-ghost use Rattle.stream_grammar.specs.Reading.{is_ready};
+ghost use Rattle.stream_grammar.specs.machine.Reading.{is_ready};
 
-use stanza_tree::{Element, NoMemory, Text};
+use stanza_tree::{Element, NoMemory};
 use std::alloc::Global;
 use std::test::Fail;
 use stream_frames::{Framer, LIMITS};
 use stream_grammar::Item;
 
 /// A header for the domain `example.org`.
-pub(crate) const HEADER: &[u8] =
+const HEADER: &[u8] =
     b"<stream:stream xmlns='jabber:client' xmlns:stream='http://etherx.jabber.org/streams' to='example.org' version='1.0'>";
 
 fn feed(framer: &mut Framer, bytes: &[u8]) -> Result<Option<Item>, Fail>
@@ -31,22 +31,9 @@ fn feed_both(framer: &mut Framer, front: &[u8], bytes: &[u8]) -> Result<Option<I
 }
 
 /// The item that ends with the bytes, after those in front.
-pub(crate) fn item(alloc: Global, front: &[u8], bytes: &[u8]) -> Result<Option<Item>, Fail> {
+fn item(alloc: Global, front: &[u8], bytes: &[u8]) -> Result<Option<Item>, Fail> {
     let mut framer = Framer::new(alloc, LIMITS)?;
     feed_both(&mut framer, front, bytes)
-}
-
-/// The header that bytes are, if they are one, with the default namespace in it.
-pub(crate) fn header(alloc: Global, bytes: &[u8]) -> Result<Option<(Element, Text)>, Fail> {
-    match item(alloc, b"", bytes)? {
-        Some(
-            Item::Header {
-                root,
-                default_space,
-            },
-        ) => Ok(Some((root, default_space))),
-        _ => Ok(None),
-    }
 }
 
 /// The top element that bytes are, if they are one.

@@ -12,8 +12,6 @@ mod standard;
 mod system;
 mod tcp_door;
 mod tcp_link;
-#[cfg(test)]
-mod tests;
 
 pub use net_ports::{NetPorts, TcpPost};
 pub use standard::{ReaderSource, WriterSink};

@@ -11,8 +11,6 @@ ghost use Rattle.sm_counters.specs.Numbers.{count_of, distance, number};
 use std::marker::Model;
 
 pub mod laws;
-#[cfg(test)]
-mod tests;
 
 /// A count of stanzas: the number of those handled or sent, modulo 2^32 (XEP-0198, 4). Contracts see
 /// it as that remainder.

@@ -1,13 +1,15 @@
 //! The queue, and how it moves on by counts (XEP-0198, 4 and 5).
 
-ghost use Rattle.std.specs.Prelude.{◌≡◌, ℕ, ◌+◌, ◌-◌, ◌^◌, ◌<◌, ◌≤◌, ◌++◌, ◌∷◌, [], true, List, length, min, drop, slice_get, IsSome, ◌↔◌, IsOk, OnOk, IfOk, IfErr};
+ghost use Rattle.std.specs.Prelude.{◌≡◌, ℕ, ◌+◌, ◌-◌, ◌^◌, ◌<◌, ◌≤◌, ◌++◌, ◌∷◌, [], true, List, length, min};
+ghost use Rattle.std.specs.Prelude.{drop, slice_get, IsSome, ◌↔◌, IsOk, OnOk, IfOk, IfErr};
 ghost use Rattle.std.specs.Option.{option_copied};
 ghost use Rattle.std.specs.Result.{result_ok};
 ghost use Rattle.std.specs.VecDeque.{deque_capacity};
 ghost use Rattle.stanza_tree.specs.declared.frame.Entry.{Entry};
 ghost use Rattle.stanza_tree.specs.Entries.{frame};
 ghost use Rattle.sm_counters.specs.Numbers.{count_of};
-ghost use Rattle.sm_queue.specs.Queues.{acked, acknowledged, answer, counted_anew, empty, frames_length, has_room, marked_sent, most_bytes, most_waiting, pushed, rewound, sent_count, spare, without, without_sent};
+ghost use Rattle.sm_queue.specs.Queues.{acked, acknowledged, answer, counted_anew, empty, frames_length, has_room, marked_sent};
+ghost use Rattle.sm_queue.specs.Queues.{most_bytes, most_waiting, pushed, rewound, sent_count, spare, without, without_sent};
 ghost use Rattle.sm_queue.specs.Wholes.{Acks, IsPlaceOf, Rewinds, StandsFor};
 
 use sm_counters::{Count, within};

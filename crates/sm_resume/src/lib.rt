@@ -7,8 +7,6 @@
 mod decision;
 mod id;
 pub mod laws;
-#[cfg(test)]
-mod tests;
 
 pub use decision::{Cause, Decision, Facts, decide};
 pub use id::{NoMemory, ResumeId, read_digits, read_number};

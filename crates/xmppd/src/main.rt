@@ -1,18 +1,8 @@
 //! A chat server for one XMPP domain (RFC 6120, RFC 6121).
 #![tactic(auto)]
 
-mod account;
-#[cfg(test)]
-mod account_tests;
-mod laws;
-mod run;
-#[cfg(test)]
-mod serve_tests;
-#[cfg(test)]
-mod tests;
-mod words;
-
-use crate::run::run;
+use commands::run::run;
+use commands::status_line::StatusLine;
 use outside::{Sink, Source};
 use outside_net::{NetPorts, ReaderSource, WriterSink};
 use script_play::Status;
@@ -35,7 +25,8 @@ fn main(rt: HostRuntime) -> ExitCode {
         }
         Err(status) => status,
     };
-    let _told = tell(&rt, status);
+    let line = StatusLine(status);
+    let _told = eprint!(rt; "{line}");
     ExitCode::from(status.number())
 }
 
@@ -72,19 +63,5 @@ fn without_words(kind: io::ErrorKind) -> Status {
     match kind {
         io::ErrorKind::InvalidData => Status::Usage,
         _ => Status::NoMemory,
-    }
-}
-
-/// Writes the line of a status.
-fn tell(rt: &HostRuntime, status: Status) -> io::Result<()> {
-    match status {
-        Status::Done => Ok(()),
-        Status::Usage => eprintln!(rt; "xmppd: bad words"),
-        Status::Accounts(line) => eprintln!(rt; "xmppd: accounts line {line}"),
-        Status::Script(line) => eprintln!(rt; "xmppd: script line {line}"),
-        Status::ReadFault => eprintln!(rt; "xmppd: read fault"),
-        Status::WriteFault => eprintln!(rt; "xmppd: write fault"),
-        Status::ListenFault => eprintln!(rt; "xmppd: listen fault"),
-        Status::NoMemory => eprintln!(rt; "xmppd: no memory"),
     }
 }

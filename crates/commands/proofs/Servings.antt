@@ -1,0 +1,80 @@
+-- How `serve` ends.
+use Rattle.std.proofs.Common.{◌≡◌, ◌≢◌, ◌≤◌, ℕ, List, ◌++◌, length, Some, Ok, Err, refl, sym, ap, subst, true≢false, is_some, ◌∙◌}
+use Rattle.std.specs.Prelude.{◌⊎◌, Option}
+use Rattle.account_book.specs.Entries.{Entry}
+use Rattle.account_book.specs.Lists.{entries_of}
+use Rattle.account_book.specs.declared.fault.LineKind.{LineKind}
+use Rattle.script_play.specs.Runs.{Front}
+use Rattle.script_play.specs.declared.status.Status.{Status}
+use Rattle.script_play.specs.declared.status.Status.TheVariants as status
+use Rattle.serve_run.specs.Services.{GivenBack, HasListened, ReadsList, Served, Tally}
+use Rattle.serve_run.proofs.Endings.{ends_served}
+use Rattle.serve_words.specs.Options.{IsRefusal, Wanted}
+use Rattle.commands.specs.Commands.{Serve, Task}
+use Rattle.commands.specs.Servings.{Concluded}
+
+concluded : (w : Wanted) (left left_now : Option (List ℕ)) (ports now_ports : Tally) (took took_now : Option (List ℕ)) (s : Status)
+    → (s ≡ status.Done → (list : List ℕ) × (line : List ℕ) × ReadsList left left_now list × Served w.domain w.workers w.connections list ports now_ports line
+    × ((taken : List ℕ) → took ≡ Some taken → took_now ≡ Some (taken ++ line)))
+    → (s ≡ status.WriteFault → (list : List ℕ) × (line : List ℕ) × ReadsList left left_now list × Served w.domain w.workers w.connections list ports now_ports line
+    × ((taken : List ℕ) → took ≡ Some taken → Front taken line took_now))
+    → (s ≢ status.Done → s ≢ status.WriteFault → took_now ≡ took)
+    → (HasListened s → GivenBack w.workers ports now_ports)
+    → ((n : ℕ) → s ≡ status.Accounts n → (list : List ℕ) × ReadsList left left_now list × ((kind : LineKind) × (entries_of list ≡ Err (n, kind))))
+    → (s ≢ status.Usage) → ((n : ℕ) → s ≢ status.Script n) → Concluded w left left_now ports now_ports took took_now s
+concluded w left left_now ports now_ports took took_now status.Done served cut silent given accounts usage script = served refl
+concluded w left left_now ports now_ports took took_now status.WriteFault served cut silent given accounts usage script = cut refl
+concluded w left left_now ports now_ports took took_now (status.Accounts n) served cut silent given accounts usage script = (
+  accounts n refl,
+  given tt,
+  silent (λ e. absurd (let k : status.Accounts n ≡ status.Done = e in cc)) (λ e. absurd (let k : status.Accounts n ≡ status.WriteFault = e in cc)),
+)
+concluded w left left_now ports now_ports took took_now status.ReadFault served cut silent given accounts usage script =
+    silent (λ e. absurd (let k : status.ReadFault ≡ status.Done = e in cc)) (λ e. absurd (let k : status.ReadFault ≡ status.WriteFault = e in cc))
+concluded w left left_now ports now_ports took took_now status.ListenFault served cut silent given accounts usage script =
+    silent (λ e. absurd (let k : status.ListenFault ≡ status.Done = e in cc)) (λ e. absurd (let k : status.ListenFault ≡ status.WriteFault = e in cc))
+concluded w left left_now ports now_ports took took_now status.NoMemory served cut silent given accounts usage script =
+    silent (λ e. absurd (let k : status.NoMemory ≡ status.Done = e in cc)) (λ e. absurd (let k : status.NoMemory ≡ status.WriteFault = e in cc))
+concluded w left left_now ports now_ports took took_now status.Usage served cut silent given accounts usage script = absurd (usage refl)
+concluded w left left_now ports now_ports took took_now (status.Script n) served cut silent given accounts usage script = absurd (script n refl)
+
+same-wanted : (v w : Wanted) → Some (Serve v) ≡ Some (Serve w) → v ≡ w
+same-wanted v w e = cc
+
+-- by the words that were read
+pub as_asked : (task : Option Task) (v w : Wanted) (left left_now : Option (List ℕ)) (ports now_ports : Tally) (took took_now : Option (List ℕ)) (s : Status)
+    → task ≡ Some (Serve v)
+    → (s ≡ status.Done → (list : List ℕ) × (line : List ℕ) × ReadsList left left_now list × Served v.domain v.workers v.connections list ports now_ports line
+    × ((taken : List ℕ) → took ≡ Some taken → took_now ≡ Some (taken ++ line)))
+    → (s ≡ status.WriteFault → (list : List ℕ) × (line : List ℕ) × ReadsList left left_now list × Served v.domain v.workers v.connections list ports now_ports line
+    × ((taken : List ℕ) → took ≡ Some taken → Front taken line took_now))
+    → (s ≢ status.Done → s ≢ status.WriteFault → took_now ≡ took)
+    → (HasListened s → GivenBack v.workers ports now_ports)
+    → ((n : ℕ) → s ≡ status.Accounts n → (list : List ℕ) × ReadsList left left_now list × ((kind : LineKind) × (entries_of list ≡ Err (n, kind))))
+    → (s ≢ status.Usage) → ((n : ℕ) → s ≢ status.Script n) → task ≡ Some (Serve w) → Concluded w left left_now ports now_ports took took_now s
+as_asked task v w left left_now ports now_ports took took_now s read served cut silent given accounts usage script asked =
+    subst (λ (x : Wanted). Concluded x left left_now ports now_ports took took_now s) (same-wanted v w (sym read ∙ asked))
+    (concluded v left left_now ports now_ports took took_now s served cut silent given accounts usage script)
+
+-- no words were read
+pub serve_unread : (task : Option Task) (w : Wanted) (left left_now : Option (List ℕ)) (ports now_ports : Tally) (took : Option (List ℕ)) (s : Status)
+    → IsRefusal task s → task ≡ Some (Serve w) → Concluded w left left_now ports now_ports took took s
+serve_unread task w left left_now ports now_ports took status.NoMemory refused is = refl
+serve_unread task w left left_now ports now_ports took status.Usage refused is = absurd (true≢false (ap is_some (sym is) ∙ ap is_some refused))
+serve_unread task w left left_now ports now_ports took status.Done refused is = absurd refused
+serve_unread task w left left_now ports now_ports took (status.Accounts n) refused is = absurd refused
+serve_unread task w left left_now ports now_ports took (status.Script n) refused is = absurd refused
+serve_unread task w left left_now ports now_ports took status.ReadFault refused is = absurd refused
+serve_unread task w left left_now ports now_ports took status.WriteFault refused is = absurd refused
+serve_unread task w left left_now ports now_ports took status.ListenFault refused is = absurd refused
+
+-- a list of accounts without a fault, where nothing fails
+pub ends_concluded : (w : Wanted) (bytes now : List ℕ) (entries : List Entry) (ports now_ports : Tally) (took took_now : Option (List ℕ)) (s : Status)
+    → length bytes ≤ 8388608 → entries_of bytes ≡ Ok entries → Concluded w (Some bytes) (Some now) ports now_ports took took_now s
+    → (s ≡ status.ReadFault → ⊥) → (s ≡ status.WriteFault → ⊥) → (s ≡ status.ListenFault → ⊥) → (s ≡ status.Done) ⊎ (s ≡ status.NoMemory)
+ends_concluded w bytes now entries ports now_ports took took_now s short valid how read written listened =
+    ends_served bytes now entries s short valid (λ n is. (by-status (status.Accounts n) is).0) read written listened (λ is. by-status status.Usage is)
+    (λ n is. by-status (status.Script n) is)
+  where
+    by-status : (t : Status) → s ≡ t → Concluded w (Some bytes) (Some now) ports now_ports took took_now t
+    by-status t is = subst (λ (x : Status). Concluded w (Some bytes) (Some now) ports now_ports took took_now x) is how

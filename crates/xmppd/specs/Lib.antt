@@ -1,4 +1,0 @@
-pub mod Accounts
-pub mod Commands
-pub mod Grammars
-pub mod Servings
