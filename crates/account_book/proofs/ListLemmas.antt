@@ -1,5 +1,6 @@
 -- The first line of a list.
-use Rattle.std.proofs.Common.{◌≡◌, ℕ, suc, ◌+◌, ◌<◌, List, [], ◌∷◌, length, take, drop, Bool, true, false, cond, ◌==◌, Some, None, is_some, refl, sym, ap, ◌∙◌, arith}
+use Rattle.std.proofs.Common.{◌≡◌, ℕ, suc, ◌+◌, ◌<◌, List, [], ◌∷◌, length, take, drop, Bool, true, false}
+use Rattle.std.proofs.Common.{cond, ◌==◌, Some, None, is_some, refl, sym, ap, ◌∙◌, arith}
 use Rattle.jid_core.specs.Cuts.{before, after}
 use Rattle.account_book.specs.Lists.{lines_of, begun}
 

@@ -1,5 +1,6 @@
 -- A line that is read as an account is the account's line.
-use Rattle.std.proofs.Common.{◌≡◌, ℕ, suc, ◌+◌, ◌<◌, nat_le, List, [], ◌∷◌, ◌++◌, length, get_or, Bool, true, false, ◌&&◌, if◌then◌else◌, bytes_eq, Option, Some, None, is_some, Result, Ok, Err, arith, refl, sym, ap, subst, ◌∙◌}
+use Rattle.std.proofs.Common.{◌≡◌, ℕ, suc, ◌+◌, ◌<◌, nat_le, List, [], ◌∷◌, ◌++◌, length, get_or, Bool, true, false, ◌&&◌, if◌then◌else◌}
+use Rattle.std.proofs.Common.{bytes_eq, Option, Some, None, is_some, Result, Ok, Err, arith, refl, sym, ap, subst, ◌∙◌}
 use Rattle.std.proofs.lemmas.Bool.{leb-true, leb-false}
 use Rattle.std.proofs.lemmas.Option.{cond_some}
 use Rattle.std.proofs.lemmas.List.{get_or_append_left, get_or-append-add, get_or_past}
@@ -17,7 +18,8 @@ use Rattle.scram_core.specs.Login.{base64_of}
 use Rattle.account_book.specs.declared.fault.LineKind.{LineKind}
 use Rattle.account_book.specs.declared.fault.LineKind.TheVariants as kind
 use Rattle.account_book.specs.Entries.{Entry, line_text}
-use Rattle.account_book.specs.Fields.{Texts, texts_in, fields_of, cut, on, as_written, name_in, number_of, are_rounds, rounds_in, bytes_in, sized, key_in, salt_in}
+use Rattle.account_book.specs.Fields.{Texts, texts_in, fields_of, cut, on, as_written, name_in, number_of}
+use Rattle.account_book.specs.Fields.{are_rounds, rounds_in, bytes_in, sized, key_in, salt_in}
 use Rattle.account_book.specs.Lines.{need, entry_in, line_of}
 use Rattle.account_book.proofs.NumberLemmas.{number-spelt}
 use Rattle.account_book.proofs.CutLemmas.{cut-joined, none-lacks}

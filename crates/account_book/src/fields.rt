@@ -68,12 +68,18 @@ fn read_decimal(text: &[u8]) -> Option<u64>
     read_number(text)
 }
 
+/// How many rounds an account has at least (RFC 7677, 4).
+const LEAST_ROUNDS: u64 = 4096;
+
+/// How many it may have: with a million a login costs its client about a second.
+const MOST_ROUNDS: u64 = 1_000_000;
+
 /// A decimal from 4096 to 1000000 without leading zeros.
 pub(crate) fn read_rounds(text: &[u8]) -> Option<u32>
     ensures { result ≡ rounds_in text.now }
 {
     let rounds = read_decimal(text)?;
-    if 4096 <= rounds && rounds <= 1_000_000 {
+    if LEAST_ROUNDS <= rounds && rounds <= MOST_ROUNDS {
         Some(rounds as u32)
     } else {
         None

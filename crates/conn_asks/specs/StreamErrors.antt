@@ -12,7 +12,11 @@ use Rattle.conn_asks.specs.declared.ended.HeaderFault.TheVariants as header
 use Rattle.conn_asks.specs.declared.ended.ItemFault.{ItemFault}
 use Rattle.conn_asks.specs.declared.ended.ItemFault.TheVariants as item
 use Rattle.conn_asks.specs.declared.stream_error.StreamError.{StreamError}
-use Rattle.conn_asks.specs.declared.stream_error.StreamError.TheVariants.{BadFormat, BadNamespacePrefix, Conflict, ConnectionTimeout, HostUnknown, InvalidFrom, InvalidNamespace, NotAuthorized, NotWellFormed, PolicyViolation, ResourceConstraint, RestrictedXml, UnsupportedEncoding, UnsupportedStanzaType, UnsupportedVersion, HandledCountTooHigh}
+use Rattle.conn_asks.specs.declared.stream_error.StreamError.TheVariants.{BadFormat, BadNamespacePrefix, Conflict, ConnectionTimeout}
+use Rattle.conn_asks.specs.declared.stream_error.StreamError.TheVariants.{HostUnknown, InvalidFrom, InvalidNamespace, NotAuthorized}
+use Rattle.conn_asks.specs.declared.stream_error.StreamError.TheVariants.{NotWellFormed, PolicyViolation, ResourceConstraint, RestrictedXml}
+use Rattle.conn_asks.specs.declared.stream_error.StreamError.TheVariants.{UnsupportedEncoding, UnsupportedStanzaType, UnsupportedVersion}
+use Rattle.conn_asks.specs.declared.stream_error.StreamError.TheVariants.{HandledCountTooHigh}
 
 -- RFC 6120, 4.9.3: the names of the conditions
 abbrev pub condition_name : StreamError → List ℕ
@@ -44,7 +48,8 @@ application_text e = []
 
 -- RFC 6120, 4.9.2 and 4.9.4
 unfoldable pub error_text : StreamError → List ℕ
-error_text e = codes "<stream:error><" ++ condition_name e ++ codes " xmlns='urn:ietf:params:xml:ns:xmpp-streams'/>" ++ application_text e ++ codes "</stream:error>"
+error_text e = codes "<stream:error><" ++ condition_name e ++ codes " xmlns='urn:ietf:params:xml:ns:xmpp-streams'/>" ++ application_text e
+    ++ codes "</stream:error>"
 
 -- what is wrong with the bytes of a stream
 abbrev pub error_of_fault : FrameFault → StreamError

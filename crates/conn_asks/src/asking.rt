@@ -3,7 +3,8 @@
 ghost use Rattle.std.specs.Prelude.{◌≡◌, IfOk};
 ghost use Rattle.stanza_model.specs.Nonzas.{nonza_of};
 ghost use Rattle.stanza_model.specs.Stanzas.{stanza_of};
-ghost use Rattle.conn_asks.specs.Asking.{AsksBinding, AsksCounting, AsksManagement, AsksResume, AsksSasl, AsksStanza, IsIdIn, LeavesExchange, asked_binding, asked_header, asked_stanza, asked_verdict, garbled, refusal};
+ghost use Rattle.conn_asks.specs.Asking.{AsksBinding, AsksCounting, AsksManagement, AsksResume, AsksSasl, AsksStanza, IsIdIn, LeavesExchange};
+ghost use Rattle.conn_asks.specs.Asking.{asked_binding, asked_header, asked_stanza, asked_verdict, garbled, refusal};
 ghost use Rattle.jid_core.specs.Addresses.{part_of};
 ghost use Rattle.jid_core.specs.Preparation.{resource_of};
 ghost use Rattle.conn_asks.specs.Logins.{sasl_of};

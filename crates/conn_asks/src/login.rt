@@ -5,7 +5,8 @@ ghost use Rattle.std.specs.Option.{option_copied};
 ghost use Rattle.jid_core.specs.Preparation.{local_of};
 ghost use Rattle.scram_core.specs.Login.{IsDecoded, IsNoBase64, base64_of, is_server_nonce};
 ghost use Rattle.scram_core.specs.Exchange.{challenge_of};
-ghost use Rattle.conn_asks.specs.Logins.{Closes, Decodes, IsOutOfTurn, Judged, JudgedAuth, JudgedResponse, Opens, exchange_known, exchange_of, exchange_unknown, failure_of, mechanism_in, mechanism_named, sasl_named, sasl_of};
+ghost use Rattle.conn_asks.specs.Logins.{Closes, Decodes, IsOutOfTurn, Judged, JudgedAuth, JudgedResponse, Opens, exchange_known, exchange_of};
+ghost use Rattle.conn_asks.specs.Logins.{exchange_unknown, failure_of, mechanism_in, mechanism_named, sasl_named, sasl_of};
 ghost use Rattle.conn_asks.specs.Users.{prepared_or, user_of};
 
 use crate::challenged::Challenged;

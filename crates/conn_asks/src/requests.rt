@@ -6,7 +6,8 @@ ghost use Rattle.std.specs.List.{list_all};
 ghost use Rattle.std.specs.Option.{option_copied};
 ghost use Rattle.jid_core.specs.Addresses.{address_of, same_address, same_bare};
 ghost use Rattle.stanza_model.specs.Stanzas.{address_if};
-ghost use Rattle.conn_asks.specs.Requests.{are_digits, has_stream_names, header_fault, host_at, is_from, is_major, is_minor, is_version, is_zero_digit, names_host, user_at};
+ghost use Rattle.conn_asks.specs.Requests.{are_digits, has_stream_names, header_fault, host_at, is_from, is_major};
+ghost use Rattle.conn_asks.specs.Requests.{is_minor, is_version, is_zero_digit, names_host, user_at};
 
 use crate::ended::HeaderFault;
 use jid_core::{Jid, JidFault, Part, cut_at};

@@ -4,7 +4,8 @@ ghost use Rattle.std.specs.Prelude.{◌≡◌, ◌++◌, IfOk, OnOk};
 ghost use Rattle.std.specs.Fmt.{decimal};
 ghost use Rattle.scram_core.specs.Login.{base64_of};
 ghost use Rattle.stanza_tree.specs.Spelling.{value_text};
-ghost use Rattle.conn_asks.specs.Texts.{stream_id, header_text, login_features_text, features_text, challenge_text, invitation_text, success_text, failure_text, close_tag, refused_resource_text};
+ghost use Rattle.conn_asks.specs.Texts.{stream_id, header_text, login_features_text, features_text, challenge_text};
+ghost use Rattle.conn_asks.specs.Texts.{invitation_text, success_text, failure_text, close_tag, refused_resource_text};
 ghost use Rattle.conn_asks.specs.StreamErrors.{application_text, error_text, too_high_text};
 
 use crate::failure::Failure;

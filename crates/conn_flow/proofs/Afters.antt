@@ -3,7 +3,7 @@ use Rattle.std.proofs.Common.{◌≡◌, ℕ, List, Bool, true, false, Option, S
 use Rattle.account_book.specs.Lists.{Book}
 use Rattle.house_model.specs.declared.event.Event.{Event}
 use Rattle.house_model.specs.declared.event.Event.TheVariants as event
-use Rattle.stream_grammar.specs.Reading.{waiting}
+use Rattle.stream_grammar.specs.machine.Reading.{waiting}
 use Rattle.stream_grammar.specs.declared.item.Item.{Item}
 use Rattle.conn_asks.specs.declared.asked.Asked.{Asked}
 use Rattle.conn_asks.specs.declared.asked.Asked.TheVariants as asked
@@ -13,11 +13,14 @@ use Rattle.conn_asks.specs.declared.stage.Purpose.{Purpose}
 use Rattle.conn_asks.specs.declared.stage.Purpose.TheVariants.{Challenge, Bind, Enable}
 use Rattle.conn_asks.specs.Texts.{failure_text}
 use Rattle.conn_flow.specs.declared.phase.Phase.{Phase}
-use Rattle.conn_flow.specs.declared.phase.Phase.TheVariants.{Resting, Heard, Saying, Refusing, Drawing, Drawn, Entering, Entered, LoggingIn, LoggedIn, PullingOnce, Pulling, Sweeping, Parting, Left}
+use Rattle.conn_flow.specs.declared.phase.Phase.TheVariants.{Resting, Heard, Saying, Refusing, Drawing, Drawn, Entering, Entered, LoggingIn}
+use Rattle.conn_flow.specs.declared.phase.Phase.TheVariants.{LoggedIn, PullingOnce, Pulling, Sweeping, Parting, Left}
 use Rattle.conn_flow.specs.declared.talk.Talk.{Talk}
 use Rattle.conn_flow.specs.declared.want.Want.{Want}
 use Rattle.conn_flow.specs.declared.want.Want.TheVariants.{Say, Submit, NeedDice, Await, Finish}
-use Rattle.conn_flow.specs.Flows.{IsAfter, IsLoaded, IsThere, IsTold, IsToldAll, IsWish, Prepares, State, Takes, ToAwait, ToDraw, ToFinish, ToSay, ToSubmit, Wants, Wish, asked_by, counted, drawn_if, event_wish, handled_phase, last_text, login_wish, parting_wish, wish, wish_of, wished}
+use Rattle.conn_flow.specs.Flows.{IsAfter, IsLoaded, IsThere, IsTold, IsToldAll, IsWish, Prepares, State, Takes, ToAwait, ToDraw}
+use Rattle.conn_flow.specs.Flows.{ToFinish, ToSay, ToSubmit, Wants, Wish, asked_by, counted, drawn_if, event_wish, handled_phase}
+use Rattle.conn_flow.specs.Flows.{last_text, login_wish, parting_wish, wish, wish_of, wished}
 
 -- none of these is the wait for more
 abbrev Speaks : Wish → Type 0

@@ -1,10 +1,11 @@
 -- A reply leaves a flow as it may stand.
 use Rattle.std.proofs.Common.{◌≡◌, Bool, true, false, Option, Some, None, if◌then◌else◌}
-use Rattle.stream_grammar.specs.Reading.{Reading, is_ready}
+use Rattle.stream_grammar.specs.machine.Reading.{Reading, is_ready}
 use Rattle.house_model.specs.declared.reply.Reply.{Reply}
 use Rattle.house_model.specs.declared.reply.Reply.TheVariants as reply
 use Rattle.conn_flow.specs.declared.phase.Phase.{Phase}
-use Rattle.conn_flow.specs.declared.phase.Phase.TheVariants.{Resting, Heard, Saying, Refusing, Drawing, Drawn, Entering, Entered, LoggingIn, LoggedIn, PullingOnce, Pulling, Sweeping, Parting, Left}
+use Rattle.conn_flow.specs.declared.phase.Phase.TheVariants.{Resting, Heard, Saying, Refusing, Drawing, Drawn, Entering, Entered, LoggingIn}
+use Rattle.conn_flow.specs.declared.phase.Phase.TheVariants.{LoggedIn, PullingOnce, Pulling, Sweeping, Parting, Left}
 use Rattle.conn_flow.specs.declared.talk.Talk.{Talk}
 use Rattle.conn_flow.specs.Flows.{IsLoaded, IsReadyAt, IsThere, IsTold, IsToldAll, handled_phase, logged_by, told_at}
 

@@ -1,6 +1,6 @@
 -- What is due on a connection: what its items make due, and what the replies of the house do.
 use Rattle.std.specs.Prelude.{◌≡◌, ℕ, ◌+◌, min, nat_lt, List, [], ◌∷◌, ◌++◌, take, Bool, true, false, Option, Some, None, if◌then◌else◌}
-use Rattle.stream_grammar.specs.Reading.{told_number}
+use Rattle.stream_grammar.specs.grammar.Bounds.{told_number}
 use Rattle.stream_grammar.specs.declared.item.Item.{Item}
 use Rattle.scram_core.specs.Exchange.{Exchange, challenge_of}
 use Rattle.account_book.specs.Lists.{Book}
@@ -21,7 +21,8 @@ use Rattle.conn_asks.specs.declared.stage.Stage.TheVariants.{Login, Logged, Boun
 use Rattle.conn_asks.specs.declared.stage.Purpose.{Purpose}
 use Rattle.conn_asks.specs.declared.stage.Purpose.TheVariants.{Challenge, Bind, Enable}
 use Rattle.conn_asks.specs.StreamErrors.{error_of, error_text}
-use Rattle.conn_asks.specs.Texts.{stream_id, next_id, header_text, login_features_text, features_text, invitation_text, challenge_text, success_text, failure_text, close_tag, refused_resource_text}
+use Rattle.conn_asks.specs.Texts.{stream_id, next_id, header_text, login_features_text, features_text, invitation_text}
+use Rattle.conn_asks.specs.Texts.{challenge_text, success_text, failure_text, close_tag, refused_resource_text}
 use Rattle.conn_asks.specs.Logins.{exchange_of}
 use Rattle.conn_asks.specs.Asking.{Asks}
 

@@ -1,7 +1,8 @@
 -- What a flow knows, what it wants, and what the answers to that make of it.
 use Rattle.std.specs.Prelude.{◌≡◌, ℕ, ◌+◌, min, nat_le, nat_lt, List, [], ◌++◌, take, length, Bool, true, false, Option, Some, None, if◌then◌else◌}
 use Rattle.stream_frames.specs.Fed.{Fed}
-use Rattle.stream_grammar.specs.Reading.{Reading, first_reading, handed, is_ready, reading_after, taken, told_number, waiting}
+use Rattle.stream_grammar.specs.machine.Reading.{Reading, first_reading, handed, is_ready, reading_after, taken, waiting}
+use Rattle.stream_grammar.specs.grammar.Bounds.{told_number}
 use Rattle.stream_grammar.specs.declared.item.Item.{Item}
 use Rattle.scram_core.specs.Exchange.{Exchange, challenge_of}
 use Rattle.account_book.specs.Lists.{Book}
@@ -25,7 +26,8 @@ use Rattle.conn_asks.specs.Texts.{stream_id, header_text, invitation_text, chall
 use Rattle.conn_asks.specs.Logins.{exchange_of}
 use Rattle.conn_asks.specs.Asking.{Asks}
 use Rattle.conn_flow.specs.declared.phase.Phase.{Phase}
-use Rattle.conn_flow.specs.declared.phase.Phase.TheVariants.{Resting, Heard, Saying, Refusing, Drawing, Drawn, Entering, Entered, LoggingIn, LoggedIn, PullingOnce, Pulling, Sweeping, Parting, Left}
+use Rattle.conn_flow.specs.declared.phase.Phase.TheVariants.{Resting, Heard, Saying, Refusing, Drawing, Drawn, Entering, Entered, LoggingIn}
+use Rattle.conn_flow.specs.declared.phase.Phase.TheVariants.{LoggedIn, PullingOnce, Pulling, Sweeping, Parting, Left}
 use Rattle.conn_flow.specs.declared.talk.Talk.{Talk}
 use Rattle.conn_flow.specs.declared.want.Want.{Want}
 use Rattle.conn_flow.specs.declared.want.Want.TheVariants.{Say, Submit, NeedDice, Await, Finish}

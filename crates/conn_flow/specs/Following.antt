@@ -11,7 +11,8 @@ use Rattle.conn_asks.specs.declared.login.Exchanging.TheVariants.{Outside}
 use Rattle.conn_asks.specs.declared.stage.Stage.TheVariants.{Login}
 use Rattle.conn_flow.specs.Streams.{cut}
 use Rattle.conn_flow.specs.Moves.{Move, Hears, Waits, Hangs, Fails, Takes, Says, Sends, Enters, Draws, Stops, marks, moments, turns, draws}
-use Rattle.conn_flow.specs.Duties.{Site, Due, Opens, Rest, Text, Id, Dice, Submits, LogsIn, PullsOnce, Pulls, Sweeps, Leaves, Left, Duty, AsksIf, ends, named, drew, answered, answered_login, pulled_once, pulled, swept, last_event}
+use Rattle.conn_flow.specs.Duties.{Site, Due, Opens, Rest, Text, Id, Dice, Submits, LogsIn, PullsOnce, Pulls, Sweeps, Leaves, Left, Duty, AsksIf}
+use Rattle.conn_flow.specs.Duties.{ends, named, drew, answered, answered_login, pulled_once, pulled, swept, last_event}
 
 -- what is due after the items of some bytes: the items of the rest, and where there is none the pulls
 abbrev pub rest_due : List ℕ → List Due

@@ -2,7 +2,7 @@
 use Rattle.std.specs.Prelude.{ℕ, List, [], ◌∷◌, ◌++◌, Option, Some, None}
 use Rattle.stream_grammar.specs.declared.item.Item.{Item}
 use Rattle.stream_grammar.specs.declared.item.Limits.{Limits}
-use Rattle.stream_grammar.specs.Reading.{first_reading, waiting, went}
+use Rattle.stream_grammar.specs.machine.Reading.{first_reading, waiting, went}
 
 -- RFC 6120, 4.9.3.14 and 13.12: what a client's stream is held to
 abbrev pub limits : Limits

@@ -1,11 +1,12 @@
 //! A connection without its socket.
 
 ghost use Rattle.std.specs.Prelude.{◌≡◌, true, IfOk, OnErr, OnOk};
-ghost use Rattle.stream_grammar.specs.Reading.{handed, is_ready, waiting};
+ghost use Rattle.stream_grammar.specs.machine.Reading.{handed, is_ready, waiting};
 ghost use Rattle.conn_asks.specs.declared.ended.Ended.TheVariants as ended;
 ghost use Rattle.conn_asks.specs.Texts.{stream_id};
 ghost use Rattle.conn_flow.specs.declared.phase.Phase.TheVariants as phase;
-ghost use Rattle.conn_flow.specs.Flows.{IsAfter, IsGoing, IsLoaded, IsReadyAt, IsTold, IsToldAll, Prepares, State, Takes, Wants, fresh, gave_at, hears, hung_at, short_at, taken_of, told, waited};
+ghost use Rattle.conn_flow.specs.Flows.{IsAfter, IsGoing, IsLoaded, IsReadyAt, IsTold, IsToldAll, Prepares, State, Takes, Wants};
+ghost use Rattle.conn_flow.specs.Flows.{fresh, gave_at, hears, hung_at, short_at, taken_of, told, waited};
 
 use crate::phase::Phase;
 use crate::talk::Talk;
@@ -63,7 +64,8 @@ fn prepare(
 ) -> Result<(), NoMemory>
     requires ready { IsReadyAt talk.old.phase framer.old.reading }
     requires loaded { IsLoaded talk.old talk.old.phase }
-    ensures prepared { OnOk result (Prepares accounts.now (record { fed = framer.old; talk = talk.old }) talk.old.phase (record { fed = framer.new; talk = talk.new })) }
+    ensures prepared { OnOk result (Prepares accounts.now (record { fed = framer.old; talk = talk.old }) talk.old.phase
+        (record { fed = framer.new; talk = talk.new })) }
     ensures ready { OnOk result (is_ready framer.new.reading ≡ true) }
     ensures loaded { OnOk result (IsLoaded talk.new talk.new.phase) }
     ensures going { OnErr result (IsGoing talk.old talk.old.phase) }
@@ -97,7 +99,8 @@ fn next_want(
 ) -> Result<Want, NoMemory>
     requires ready { IsReadyAt talk.old.phase framer.old.reading }
     requires loaded { IsLoaded talk.old talk.old.phase }
-    ensures wants { IfOk result (λ want. Wants accounts.now (record { fed = framer.old; talk = talk.old }) want (record { fed = framer.new; talk = talk.new })) }
+    ensures wants { IfOk result (λ want. Wants accounts.now (record { fed = framer.old; talk = talk.old }) want
+        (record { fed = framer.new; talk = talk.new })) }
     ensures ready { OnOk result (is_ready framer.new.reading ≡ true) }
     ensures loaded { OnOk result (IsLoaded talk.new talk.new.phase) }
     ensures going { OnErr result (IsGoing talk.old talk.old.phase) }

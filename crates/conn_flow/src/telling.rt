@@ -5,7 +5,9 @@ ghost use Rattle.conn_asks.specs.declared.ended.Ended.TheVariants as ended;
 ghost use Rattle.conn_asks.specs.Texts.{failure_text};
 ghost use Rattle.conn_flow.specs.declared.phase.Phase.TheVariants as phase;
 ghost use Rattle.conn_flow.specs.Duties.{bound, follows};
-ghost use Rattle.conn_flow.specs.Flows.{IsGoing, IsLoaded, IsThere, IsWish, gave_at, handled, handled_phase, heard_at, hung_at, last_text, logged_by, ousts, restarts, short_at, told_at, told_entered, told_login, told_once, told_pull, waited, wish, wished};
+ghost use Rattle.conn_flow.specs.Flows.{IsGoing, IsLoaded, IsThere, IsWish, gave_at, handled, handled_phase, heard_at};
+ghost use Rattle.conn_flow.specs.Flows.{hung_at, last_text, logged_by, ousts, restarts, short_at, told_at, told_entered};
+ghost use Rattle.conn_flow.specs.Flows.{told_login, told_once, told_pull, waited, wish, wished};
 
 use crate::phase::Phase;
 use crate::talk::Talk;

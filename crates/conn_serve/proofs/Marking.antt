@@ -9,7 +9,8 @@ use Rattle.conn_asks.specs.declared.ended.Ended.{Ended}
 use Rattle.conn_asks.specs.declared.ended.Ended.TheVariants as ended
 use Rattle.conn_flow.specs.Moves.{Move, Hears, Waits, Hangs, Fails, Takes, Says, Sends, Enters, Draws, Stops}
 use Rattle.conn_flow.specs.Duties.{Due, Duty, Id, Leaves, Left, Site}
-use Rattle.conn_flow.specs.Following.{DrawsDue, EntersDue, Follows, GoesOn, GoesThrough, SaysDue, Stopped, TakesDue, draws_next, enters_next, goes_on, opening, reply_of}
+use Rattle.conn_flow.specs.Following.{DrawsDue, EntersDue, Follows, GoesOn, GoesThrough, SaysDue, Stopped, TakesDue}
+use Rattle.conn_flow.specs.Following.{draws_next, enters_next, goes_on, opening, reply_of}
 use Rattle.flow_laws.specs.Causes.{IsCaused, Makes}
 use Rattle.flow_laws.proofs.Causing.{CausedFrom, caused, closes, has_cause}
 use Rattle.flow_laws.proofs.DueEnds.{IsDue}

@@ -34,10 +34,13 @@ use Rattle.conn_asks.specs.declared.stream_error.StreamError.{StreamError}
 use Rattle.conn_asks.specs.StreamErrors.{error_of}
 use Rattle.conn_asks.specs.Requests.{binding_of, header_fault, host_at, user_at}
 use Rattle.conn_asks.specs.Logins.{sasl_of}
-use Rattle.conn_asks.specs.Asking.{Asks, AsksBinding, AsksCounting, AsksManagement, AsksResume, AsksSasl, AsksStanza, asked_binding, asked_header, asked_stanza, asked_verdict, is_own}
+use Rattle.conn_asks.specs.Asking.{Asks, AsksBinding, AsksCounting, AsksManagement, AsksResume, AsksSasl, AsksStanza}
+use Rattle.conn_asks.specs.Asking.{asked_binding, asked_header, asked_stanza, asked_verdict, is_own}
 use Rattle.conn_flow.specs.Streams.{cut}
 use Rattle.conn_flow.specs.Moves.{Move, Hears, Waits, Hangs, Fails, Takes, Says, Sends, Enters, Draws, Stops, turns}
-use Rattle.conn_flow.specs.Duties.{AsksIf, Site, Due, Opens, Rest, Text, Id, Dice, Submits, LogsIn, PullsOnce, Pulls, Sweeps, Leaves, Left, Duty, after_failure, answered, answered_login, asked_due, counts_failure, drew, end_due, ends, error_due, follows, numbered, pulled, pulled_once, swept, last_event}
+use Rattle.conn_flow.specs.Duties.{AsksIf, Site, Due, Opens, Rest, Text, Id, Dice, Submits, LogsIn, PullsOnce, Pulls, Sweeps, Leaves}
+use Rattle.conn_flow.specs.Duties.{Left, Duty, after_failure, answered, answered_login, asked_due, counts_failure, drew, end_due, ends}
+use Rattle.conn_flow.specs.Duties.{error_due, follows, numbered, pulled, pulled_once, swept, last_event}
 use Rattle.conn_flow.specs.Following.{DrawsDue, EntersDue, GoesOn, GoesThrough, SaysDue, Stopped, TakesDue, opening, reply_of, rest_due}
 use Rattle.conn_serve.specs.Shifts.{is_opening}
 use Rattle.conn_serve.proofs.Marking.{stays_left, unsaid}

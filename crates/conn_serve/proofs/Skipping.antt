@@ -1,7 +1,7 @@
 -- What is left of what was read, when some of it was heard.
 use Rattle.std.proofs.Common.{◌≡◌, ℕ, ◌≤◌, ◌+◌, ◌-◌, List, [], ◌∷◌, Bool, true, false, suc, length, take, drop, refl, subst, arith, drop-drop}
 use Rattle.std.specs.Prelude.{if◌then◌else◌}
-use Rattle.stream_grammar.specs.Reading.{Reading, is_done, reading_next, reads, stopped, taken, taken_reading}
+use Rattle.stream_grammar.specs.machine.Reading.{Reading, is_done, reading_next, reads, stopped, taken, taken_reading}
 use Rattle.stream_grammar.specs.declared.item.Limits.{Limits}
 use Rattle.conn_flow.specs.Flows.{State, taken_of}
 use Rattle.std.proofs.lemmas.List.{drop-take}

@@ -1,5 +1,6 @@
 -- What is sent of a text, piece by piece.
-use Rattle.std.proofs.Common.{◌≡◌, ◌≢◌, ◌⊎◌, ℕ, ◌≤◌, ◌<◌, ◌+◌, ◌-◌, List, [], ◌∷◌, ◌++◌, true, false, length, take, drop, refl, sym, ap, subst, arith, drop-drop, take_all, length-drop, take-append-drop, ◌∙◌}
+use Rattle.std.proofs.Common.{◌≡◌, ◌≢◌, ◌⊎◌, ℕ, ◌≤◌, ◌<◌, ◌+◌, ◌-◌, List, [], ◌∷◌, ◌++◌, true, false, length, take, drop, refl}
+use Rattle.std.proofs.Common.{sym, ap, subst, arith, drop-drop, take_all, length-drop, take-append-drop, ◌∙◌}
 use Rattle.std.specs.Prelude.{Option}
 use Rattle.std.proofs.lemmas.List.{append-nil}
 use Rattle.std.proofs.lemmas.Grind.{common_steps}

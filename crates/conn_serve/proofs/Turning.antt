@@ -11,13 +11,15 @@ use Rattle.conn_asks.specs.declared.ended.Ended.{Ended}
 use Rattle.conn_asks.specs.declared.ended.Ended.TheVariants as ended
 use Rattle.conn_asks.specs.Texts.{failure_text}
 use Rattle.conn_flow.specs.declared.phase.Phase.{Phase}
-use Rattle.conn_flow.specs.declared.phase.Phase.TheVariants.{Resting, Heard, Saying, Refusing, Drawing, Drawn, Entering, Entered, LoggingIn, LoggedIn, PullingOnce, Pulling, Sweeping, Parting, Left}
+use Rattle.conn_flow.specs.declared.phase.Phase.TheVariants.{Resting, Heard, Saying, Refusing, Drawing, Drawn, Entering, Entered, LoggingIn}
+use Rattle.conn_flow.specs.declared.phase.Phase.TheVariants.{LoggedIn, PullingOnce, Pulling, Sweeping, Parting, Left}
 use Rattle.conn_flow.specs.declared.talk.Talk.{Talk}
 use Rattle.conn_flow.specs.declared.want.Want.{Want}
 use Rattle.conn_flow.specs.Moves.{Move, Hears, Waits, Hangs, Fails, Takes, Says, Sends, Enters, Draws, Stops}
 use Rattle.conn_flow.specs.Duties.{Site, Duty}
 use Rattle.conn_flow.specs.Following.{GoesOn}
-use Rattle.conn_flow.specs.Flows.{IsGoing, IsLoaded, IsThere, IsWish, State, ToAwait, ToDraw, ToFinish, ToSay, ToSubmit, Wants, event_wish, last_text, login_wish, parting_wish, wish, wish_of, wished}
+use Rattle.conn_flow.specs.Flows.{IsGoing, IsLoaded, IsThere, IsWish, State, ToAwait, ToDraw, ToFinish, ToSay, ToSubmit, Wants}
+use Rattle.conn_flow.specs.Flows.{event_wish, last_text, login_wish, parting_wish, wish, wish_of, wished}
 use Rattle.flow_laws.specs.Standing.{IsServed, Place, duty}
 use Rattle.flow_laws.specs.Steps.{AreTakes, Comes, says_at, wishes_at}
 use Rattle.conn_serve.specs.declared.turn.Next.{Next}

@@ -41,8 +41,10 @@ fn answer<W: Wait, D: Desk, L: Link, C: Clock, I: Dice>(
     ensures room { 524288 ≤ vec_capacity frame.new }
     ensures mark { D.marked pass.new ≡ marked_next result (D.marked pass.old) }
     ensures turned { (o : Site) (p : Place) → o.line ≡ D.line pass.old → o.accounts ≡ accounts.now → IsAt o p flow.old ears.old
-        → Turned o (tale (L.tape link.old) (turns_of (D.line pass.old) (D.seen pass.old)) (C.told clock.old) (I.drawn dice.old) (L.faults link.old) (L.ends link.old) (I.faults dice.old)) (duty o p)
-        (tale (L.tape link.new) (turns_of (D.line pass.old) (D.seen pass.new)) (C.told clock.new) (I.drawn dice.new) (L.faults link.new) (L.ends link.new) (I.faults dice.new)) flow.new ears.new result }
+        → Turned o (tale (L.tape link.old) (turns_of (D.line pass.old) (D.seen pass.old)) (C.told clock.old) (I.drawn dice.old) (L.faults link.old)
+        (L.ends link.old) (I.faults dice.old)) (duty o p)
+        (tale (L.tape link.new) (turns_of (D.line pass.old) (D.seen pass.new)) (C.told clock.new) (I.drawn dice.new) (L.faults link.new) (L.ends link.new)
+        (I.faults dice.new)) flow.new ears.new result }
 {
     let moment = flow.moment();
     match flow.next(accounts) {
@@ -77,8 +79,10 @@ pub(crate) fn converse<W: Wait, D: Desk, L: Link, C: Clock, I: Dice>(
     ensures room { 524288 ≤ vec_capacity frame.new }
     ensures mark { D.marked pass.new ≡ marked_end result (D.marked pass.old) }
     ensures ended { (o : Site) (p : Place) → o.line ≡ D.line pass.old → o.accounts ≡ accounts.now → IsAt o p flow.old ears.old
-        → Concluded o (tale (L.tape link.old) (turns_of (D.line pass.old) (D.seen pass.old)) (C.told clock.old) (I.drawn dice.old) (L.faults link.old) (L.ends link.old) (I.faults dice.old)) (duty o p)
-        (tale (L.tape link.new) (turns_of (D.line pass.old) (D.seen pass.new)) (C.told clock.new) (I.drawn dice.new) (L.faults link.new) (L.ends link.new) (I.faults dice.new)) result }
+        → Concluded o (tale (L.tape link.old) (turns_of (D.line pass.old) (D.seen pass.old)) (C.told clock.old) (I.drawn dice.old) (L.faults link.old)
+        (L.ends link.old) (I.faults dice.old)) (duty o p)
+        (tale (L.tape link.new) (turns_of (D.line pass.old) (D.seen pass.new)) (C.told clock.new) (I.drawn dice.new) (L.faults link.new) (L.ends link.new)
+        (I.faults dice.new)) result }
 {
     for _ in rt.forever() {
         match answer(

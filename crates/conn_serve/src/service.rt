@@ -62,8 +62,10 @@ fn begin<W: Wait, D: Desk, L: Link, C: Clock, I: Dice>(
     ensures history { StartsWith (D.seen pass.new) (D.seen pass.old) }
     ensures mark { D.marked pass.new ≡ marked_end result (D.marked pass.old) }
     ensures ended { (o : Site) (v : Duty) → o ≡ site_of (D.line pass.old) (D.opening desk.now).head.domain.domain accounts.now → IsOpened o opened v
-        → Concluded o (tale (L.tape link.old) (turns_of (D.line pass.old) (D.seen pass.old)) (C.told clock.old) (I.drawn dice.old) (L.faults link.old) (L.ends link.old) (I.faults dice.old)) v
-        (tale (L.tape link.new) (turns_of (D.line pass.old) (D.seen pass.new)) (C.told clock.new) (I.drawn dice.new) (L.faults link.new) (L.ends link.new) (I.faults dice.new)) result }
+        → Concluded o (tale (L.tape link.old) (turns_of (D.line pass.old) (D.seen pass.old)) (C.told clock.old) (I.drawn dice.old) (L.faults link.old)
+        (L.ends link.old) (I.faults dice.old)) v
+        (tale (L.tape link.new) (turns_of (D.line pass.old) (D.seen pass.new)) (C.told clock.new) (I.drawn dice.new) (L.faults link.new) (L.ends link.new)
+        (I.faults dice.new)) result }
 {
     let mut first = [0u8; 16];
     match dice.fill(&mut first) {
@@ -152,7 +154,8 @@ pub fn serve<W: Wait, D: Desk, L: Link, C: Clock, I: Dice>(
         (told (L.tape link.old) (turns_of (D.line pass.old) (D.seen pass.old)) (C.told clock.old) (I.drawn dice.old))
         (told (L.tape link.new) (turns_of (D.line pass.old) (D.seen pass.new)) (C.told clock.new) (I.drawn dice.new)) result }
     ensures mark { D.marked pass.new ≡ marked_at result (D.marked pass.old) }
-    ensures cause { Caused result (counts_of (L.faults link.old) (L.ends link.old) (I.faults dice.old)) (counts_of (L.faults link.new) (L.ends link.new) (I.faults dice.new)) }
+    ensures cause { Caused result (counts_of (L.faults link.old) (L.ends link.old) (I.faults dice.old))
+        (counts_of (L.faults link.new) (L.ends link.new) (I.faults dice.new)) }
     ensures safe { ∥ Safe (D.opening desk.now) (D.earlier desk.now ++ D.seen pass.new) ∥₁ }
 {
     let opened = clock.moment();

@@ -45,8 +45,10 @@ pub(crate) fn submit<W: Wait, D: Desk, L: Link, C: Clock>(
     ensures mark { D.marked pass.new ≡ marked_next result (D.marked pass.old) }
     ensures turned { (o : Site) (p : Place) (ahead : List ℕ) (drawn : Option (List (List ℕ))) (dice : ℕ)
         → IsServed o p → p.owed ≡ [] → p.ahead ≡ ahead → wish_of p.flow ≡ ToSubmit event.now → flow.old ≡ wishes_at p.flow → o.line ≡ D.line pass.old
-        → Turned o (tale (L.tape link.old) (turns_of (D.line pass.old) (D.seen pass.old)) (C.told clock.old) drawn (L.faults link.old) (L.ends link.old) dice) (duty o p)
-        (tale (L.tape link.new) (turns_of (D.line pass.old) (D.seen pass.new)) (C.told clock.new) drawn (L.faults link.new) (L.ends link.new) dice) flow.new ahead result }
+        → Turned o (tale (L.tape link.old) (turns_of (D.line pass.old) (D.seen pass.old)) (C.told clock.old) drawn (L.faults link.old) (L.ends link.old) dice)
+        (duty o p)
+        (tale (L.tape link.new) (turns_of (D.line pass.old) (D.seen pass.new)) (C.told clock.new) drawn (L.faults link.new)
+        (L.ends link.new) dice) flow.new ahead result }
 {
     match enter(rt, desk, pass, event, frame) {
         Ok(reply) => {

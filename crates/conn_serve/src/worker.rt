@@ -43,8 +43,10 @@ fn attend<W: Wait, D: Desk, G: Door, C: Clock, I: Dice>(
     ensures kept { G.faults post.old.door ≤ G.faults post.new.door }
     ensures ends { EndsNow result (reached (G.quota post.new.door) (G.links post.new.door)) (G.faults post.old.door) (G.faults post.new.door) }
     ensures attended { Attended (site_of (D.line pass.old) (D.opening desk.now).head.domain.domain accounts.now)
-        (shift (G.tapes post.old.door) (turns_of (D.line pass.old) (D.seen pass.old)) (C.told post.old.clock) (I.drawn post.old.dice) (G.links post.old.door) (I.faults post.old.dice) (D.marked pass.old))
-        (shift (G.tapes post.new.door) (turns_of (D.line pass.old) (D.seen pass.new)) (C.told post.new.clock) (I.drawn post.new.dice) (G.links post.new.door) (I.faults post.new.dice) (D.marked pass.new)) result }
+        (shift (G.tapes post.old.door) (turns_of (D.line pass.old) (D.seen pass.old)) (C.told post.old.clock) (I.drawn post.old.dice) (G.links post.old.door)
+        (I.faults post.old.dice) (D.marked pass.old))
+        (shift (G.tapes post.new.door) (turns_of (D.line pass.old) (D.seen pass.new)) (C.told post.new.clock) (I.drawn post.new.dice) (G.links post.new.door)
+        (I.faults post.new.dice) (D.marked pass.new)) result }
 {
     match post.door.accept(rt) {
         Came::Link(mut link) => {
@@ -80,8 +82,10 @@ pub fn work<W: Wait, D: Desk, G: Door, C: Clock, I: Dice>(
     ensures kept { G.faults post.old.door ≤ G.faults post.new.door }
     ensures ends { Ends result (reached (G.quota post.new.door) (G.links post.new.door)) (G.faults post.old.door) (G.faults post.new.door) }
     ensures serves { Attends (site_of (D.line pass.old) (D.opening desk.now).head.domain.domain accounts.now)
-        (shift (G.tapes post.old.door) (turns_of (D.line pass.old) (D.seen pass.old)) (C.told post.old.clock) (I.drawn post.old.dice) (G.links post.old.door) (I.faults post.old.dice) (D.marked pass.old))
-        (shift (G.tapes post.new.door) (turns_of (D.line pass.old) (D.seen pass.new)) (C.told post.new.clock) (I.drawn post.new.dice) (G.links post.new.door) (I.faults post.new.dice) (D.marked pass.new)) }
+        (shift (G.tapes post.old.door) (turns_of (D.line pass.old) (D.seen pass.old)) (C.told post.old.clock) (I.drawn post.old.dice) (G.links post.old.door)
+        (I.faults post.old.dice) (D.marked pass.old))
+        (shift (G.tapes post.new.door) (turns_of (D.line pass.old) (D.seen pass.new)) (C.told post.new.clock) (I.drawn post.new.dice) (G.links post.new.door)
+        (I.faults post.new.dice) (D.marked pass.new)) }
     ensures safe { ∥ Safe (D.opening desk.now) (D.earlier desk.now ++ D.seen pass.new) ∥₁ }
 {
     for _ in rt.forever() {

@@ -39,7 +39,8 @@ at_line a turns marked = shift a.tapes turns a.moments a.drawn a.links a.dice ma
 abbrev pub Attended : State → Book → List Turn → ℕ → (before now : List Telling) → Type 0
 Attended o accounts h n [] [] = Unit {0}
 Attended o accounts h n (a ∷ before) (b ∷ now) =
-    ((marked : Bool) × (marked ≡ true → 2 ^ 63 ≤ length h) × Attends (site_of n o.head.domain.domain accounts) (at_line a [] false) (at_line b (turns_of n h) marked))
+    ((marked : Bool) × (marked ≡ true → 2 ^ 63 ≤ length h)
+    × Attends (site_of n o.head.domain.domain accounts) (at_line a [] false) (at_line b (turns_of n h) marked))
     × Attended o accounts h (n + 1) before now
 Attended o accounts h n before now = ⊥
 

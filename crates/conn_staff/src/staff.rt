@@ -37,8 +37,10 @@ where
     requires threads { 0 < threads }
     requires came { All (λ w. CameFrom hall.now w.pass) workers.old }
     ensures { AllTended hall.now accounts.now
-        (map (λ w. seat w.pass (telling (G.tapes w.post.door) (C.told w.post.clock) (I.drawn w.post.dice) (G.links w.post.door) (G.faults w.post.door) (G.quota w.post.door) (I.faults w.post.dice)) w.failed) workers.old)
-        (map (λ w. seat w.pass (telling (G.tapes w.post.door) (C.told w.post.clock) (I.drawn w.post.dice) (G.links w.post.door) (G.faults w.post.door) (G.quota w.post.door) (I.faults w.post.dice)) w.failed) workers.new) }
+        (map (λ w. seat w.pass (telling (G.tapes w.post.door) (C.told w.post.clock) (I.drawn w.post.dice) (G.links w.post.door) (G.faults w.post.door)
+        (G.quota w.post.door) (I.faults w.post.dice)) w.failed) workers.old)
+        (map (λ w. seat w.pass (telling (G.tapes w.post.door) (C.told w.post.clock) (I.drawn w.post.dice) (G.links w.post.door) (G.faults w.post.door)
+        (G.quota w.post.door) (I.faults w.post.dice)) w.failed) workers.new) }
 {
     thread::for_each_mut(
         rt,
@@ -47,8 +49,12 @@ where
         &|_, worker: &mut Worker<G, C, I>|
             requires { CameFrom hall.now worker.old.pass }
             ensures { Tended hall.entry.now accounts.entry.now
-                (seat worker.old.pass (telling (G.tapes worker.old.post.door) (C.told worker.old.post.clock) (I.drawn worker.old.post.dice) (G.links worker.old.post.door) (G.faults worker.old.post.door) (G.quota worker.old.post.door) (I.faults worker.old.post.dice)) worker.old.failed)
-                (seat worker.new.pass (telling (G.tapes worker.new.post.door) (C.told worker.new.post.clock) (I.drawn worker.new.post.dice) (G.links worker.new.post.door) (G.faults worker.new.post.door) (G.quota worker.new.post.door) (I.faults worker.new.post.dice)) worker.new.failed) }
+                (seat worker.old.pass (telling (G.tapes worker.old.post.door) (C.told worker.old.post.clock) (I.drawn worker.old.post.dice)
+                (G.links worker.old.post.door) (G.faults worker.old.post.door) (G.quota worker.old.post.door)
+                (I.faults worker.old.post.dice)) worker.old.failed)
+                (seat worker.new.pass (telling (G.tapes worker.new.post.door) (C.told worker.new.post.clock) (I.drawn worker.new.post.dice)
+                (G.links worker.new.post.door) (G.faults worker.new.post.door) (G.quota worker.new.post.door)
+                (I.faults worker.new.post.dice)) worker.new.failed) }
         { tend(rt, alloc, hall, accounts, worker) },
     );
 }
@@ -80,8 +86,10 @@ where
     requires done { (room.passes.items ≡ []) × (length posts.items ≤ vec_capacity room.passes) }
     requires back { (room.posts.items ≡ []) × (length posts.items ≤ vec_capacity room.posts) }
     ensures { Staffed (opening_state hall) accounts.now
-        (map (λ p. telling (G.tapes p.door) (C.told p.clock) (I.drawn p.dice) (G.links p.door) (G.faults p.door) (G.quota p.door) (I.faults p.dice)) posts.items)
-        (map (λ p. telling (G.tapes p.door) (C.told p.clock) (I.drawn p.dice) (G.links p.door) (G.faults p.door) (G.quota p.door) (I.faults p.dice)) result.0.items) result.2 (held result.1) }
+        (map (λ p. telling (G.tapes p.door) (C.told p.clock) (I.drawn p.dice) (G.links p.door) (G.faults p.door) (G.quota p.door)
+        (I.faults p.dice)) posts.items)
+        (map (λ p. telling (G.tapes p.door) (C.told p.clock) (I.drawn p.dice) (G.links p.door) (G.faults p.door) (G.quota p.door)
+        (I.faults p.dice)) result.0.items) result.2 (held result.1) }
 {
     let Room {
         mut workers,
@@ -118,8 +126,10 @@ where
     requires lines { workers ≡ length house.table.lines }
     requires new { (o : State) × StandsFor o [] (held house) }
     ensures staffed { IfOk result.1 (λ left. (o : State) → StandsFor o [] (held house) → Staffed o accounts.now
-        (map (λ p. telling (G.tapes p.door) (C.told p.clock) (I.drawn p.dice) (G.links p.door) (G.faults p.door) (G.quota p.door) (I.faults p.dice)) posts.items)
-        (map (λ p. telling (G.tapes p.door) (C.told p.clock) (I.drawn p.dice) (G.links p.door) (G.faults p.door) (G.quota p.door) (I.faults p.dice)) result.0.items) left.1 (held left.0)) }
+        (map (λ p. telling (G.tapes p.door) (C.told p.clock) (I.drawn p.dice) (G.links p.door) (G.faults p.door) (G.quota p.door)
+        (I.faults p.dice)) posts.items)
+        (map (λ p. telling (G.tapes p.door) (C.told p.clock) (I.drawn p.dice) (G.links p.door) (G.faults p.door) (G.quota p.door)
+        (I.faults p.dice)) result.0.items) left.1 (held left.0)) }
     ensures back { IfErr result.1 (λ _. result.0.items ≡ posts.items) }
 {
     let Ok(room) = room_for(alloc, posts.len()) else {

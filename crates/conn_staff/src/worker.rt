@@ -29,8 +29,10 @@ pub(crate) fn tend<R: Wait, G: Door, C: Clock, I: Dice>(
 )
     requires { CameFrom hall.now worker.old.pass }
     ensures { Tended hall.now accounts.now
-        (seat worker.old.pass (telling (G.tapes worker.old.post.door) (C.told worker.old.post.clock) (I.drawn worker.old.post.dice) (G.links worker.old.post.door) (G.faults worker.old.post.door) (G.quota worker.old.post.door) (I.faults worker.old.post.dice)) worker.old.failed)
-        (seat worker.new.pass (telling (G.tapes worker.new.post.door) (C.told worker.new.post.clock) (I.drawn worker.new.post.dice) (G.links worker.new.post.door) (G.faults worker.new.post.door) (G.quota worker.new.post.door) (I.faults worker.new.post.dice)) worker.new.failed) }
+        (seat worker.old.pass (telling (G.tapes worker.old.post.door) (C.told worker.old.post.clock) (I.drawn worker.old.post.dice)
+        (G.links worker.old.post.door) (G.faults worker.old.post.door) (G.quota worker.old.post.door) (I.faults worker.old.post.dice)) worker.old.failed)
+        (seat worker.new.pass (telling (G.tapes worker.new.post.door) (C.told worker.new.post.clock) (I.drawn worker.new.post.dice)
+        (G.links worker.new.post.door) (G.faults worker.new.post.door) (G.quota worker.new.post.door) (I.faults worker.new.post.dice)) worker.new.failed) }
 {
     let post = &mut worker.post;
     let worked = work(rt, alloc, hall, &mut worker.pass, accounts, post);

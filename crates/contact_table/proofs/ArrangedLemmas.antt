@@ -1,5 +1,7 @@
 -- Sessions with the places of their users, sorted by place, stand in the order of the users.
-use Rattle.std.proofs.Common.{◌≡◌, ℕ, zero, suc, ◌+◌, ◌<◌, ◌≤◌, ◌≢◌, ◌⊎◌, inl, inr, List, [], ◌∷◌, ◌++◌, length, map, Bool, true, false, not, ◌&&◌, cond, bytes_eq, Option, Some, None, Result, Ok, Err, IfOk, filter, flat_map, nat_cmp, nat_eq, is_lt, refl, sym, ap, subst, ◌∙◌, arith, slice_index_or, suc-le-suc, zero-le}
+use Rattle.std.proofs.Common.{◌≡◌, ℕ, zero, suc, ◌+◌, ◌<◌, ◌≤◌, ◌≢◌, ◌⊎◌, inl, inr, List, [], ◌∷◌, ◌++◌, length, map, Bool, true, false}
+use Rattle.std.proofs.Common.{not, ◌&&◌, cond, bytes_eq, Option, Some, None, Result, Ok, Err, IfOk, filter, flat_map, nat_cmp, nat_eq}
+use Rattle.std.proofs.Common.{is_lt, refl, sym, ap, subst, ◌∙◌, arith, slice_index_or, suc-le-suc, zero-le}
 use Rattle.std.proofs.lemmas.Bool.{and_parts, eqb-true, eqb-false}
 use Rattle.std.proofs.lemmas.Bool.Decides.{nat_tests}
 use Rattle.std.proofs.lemmas.Iterator.Adapters.{position_from-zero}

@@ -6,8 +6,10 @@ use Rattle.jid_core.specs.Addresses.{Address, same_address, same_part}
 use Rattle.stanza_model.specs.Subscriptions.{state_by}
 use Rattle.stanza_model.specs.declared.shared.Contact.{Contact}
 use Rattle.stanza_model.specs.declared.shared.Subscription.{Subscription}
-use Rattle.contact_table.specs.Books.{Book, Record, contact_of, contacts_of, has_pair, is_asked, is_contact, local_user, set_in, subscription_to, with_contact, with_pair, without_contact}
-use Rattle.contact_table.specs.Marks.{Sheet, asked_by, asking, flagged, is_user, marked, putting, seeing, seen_by, seen_in, sees_in, set_listed, sheet_of, taking_out, with_listed}
+use Rattle.contact_table.specs.Books.{Book, Record, contact_of, contacts_of, has_pair, is_asked, is_contact, local_user}
+use Rattle.contact_table.specs.Books.{set_in, subscription_to, with_contact, with_pair, without_contact}
+use Rattle.contact_table.specs.Marks.{Sheet, asked_by, asking, flagged, is_user, marked, putting, seeing, seen_by}
+use Rattle.contact_table.specs.Marks.{seen_in, sees_in, set_listed, sheet_of, taking_out, with_listed}
 use Rattle.contact_table.specs.Orders.{with_user}
 use Rattle.contact_table.specs.declared.flag.Flag.{Flag}
 use Rattle.contact_table.specs.declared.flag.Flag.TheVariants.{Sees, Seen, Asked}

@@ -1,12 +1,14 @@
 -- The folders stand for the book, change by change.
-use Rattle.std.proofs.Common.{◌≡◌, ℕ, ◌<◌, List, [], ◌∷◌, map, Bool, true, false, ◌&&◌, ◌||◌, cond, bytes_eq, filter, Option, Some, None, is_some, refl, sym, ap, subst, ◌∙◌, arith}
+use Rattle.std.proofs.Common.{◌≡◌, ℕ, ◌<◌, List, [], ◌∷◌, map, Bool, true, false, ◌&&◌, ◌||◌, cond, bytes_eq, filter}
+use Rattle.std.proofs.Common.{Option, Some, None, is_some, refl, sym, ap, subst, ◌∙◌, arith}
 use Rattle.std.proofs.lemmas.Bool.{and_parts}
 use Rattle.std.specs.List.{list_all}
 use Rattle.jid_core.specs.Addresses.{Address}
 use Rattle.stanza_model.specs.Subscriptions.{state_by}
 use Rattle.stanza_model.specs.declared.shared.Contact.{Contact}
 use Rattle.stanza_model.specs.declared.shared.Subscription.{Subscription}
-use Rattle.contact_table.specs.Books.{Book, Pair, Record, bare_of, contact_of, firsts_of, has_pair, is_asked, is_pair, local_user, subscription_to, who_asked, with_contact, with_pair, without_contact}
+use Rattle.contact_table.specs.Books.{Book, Pair, Record, bare_of, contact_of, firsts_of, has_pair, is_asked, is_pair, local_user}
+use Rattle.contact_table.specs.Books.{subscription_to, who_asked, with_contact, with_pair, without_contact}
 use Rattle.contact_table.specs.Marks.{Sheet, asked_by, asking, putting, seeing, seen_by, sheet_of, taking_out}
 use Rattle.contact_table.specs.Folders.{Edits, Entries, IsOwn, Keeps, asked_in, folder_at, has_user, room_in, sheet_in, subscription_in}
 use Rattle.contact_table.specs.declared.folder.Folder.{Folder}

@@ -1,5 +1,6 @@
 -- The copies of a user's name.
-use Rattle.std.proofs.Common.{◌≡◌, ℕ, ◌+◌, ◌<◌, ◌≤◌, List, [], ◌∷◌, ◌++◌, length, append-nil, append_assoc, length-append, map, drop, true, ◌&&◌, bytes_eq, Option, Some, None, IfSome, IsSome, ◌↔◌, is_some, option_to_list, refl, sym, ap, ◌∙◌, arith}
+use Rattle.std.proofs.Common.{◌≡◌, ℕ, ◌+◌, ◌<◌, ◌≤◌, List, [], ◌∷◌, ◌++◌, length, append-nil, append_assoc, length-append, map, drop, true, ◌&&◌}
+use Rattle.std.proofs.Common.{bytes_eq, Option, Some, None, IfSome, IsSome, ◌↔◌, is_some, option_to_list, refl, sym, ap, ◌∙◌, arith}
 use Rattle.std.proofs.lemmas.Bool.{and_parts}
 use Rattle.std.proofs.lemmas.List.Folds.{list_all-append}
 use Rattle.std.specs.List.{list_all}

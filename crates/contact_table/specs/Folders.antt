@@ -1,5 +1,6 @@
 -- The folders of all users, and the book that they stand for.
-use Rattle.std.specs.Prelude.{◌≡◌, ◌+◌, ◌-◌, ◌/◌, ◌≤◌, ℕ, List, Bool, true, false, cond, min, map, length, bytes_eq, Option, Some, None, is_some, IfSome, vec_len, vec_capacity}
+use Rattle.std.specs.Prelude.{◌≡◌, ◌+◌, ◌-◌, ◌/◌, ◌≤◌, ℕ, List, Bool, true, false, cond, min, map, length}
+use Rattle.std.specs.Prelude.{bytes_eq, Option, Some, None, is_some, IfSome, vec_len, vec_capacity}
 use Rattle.std.specs.List.{list_all, list_any}
 use Rattle.std.specs.Map.{lookup}
 use Rattle.std.specs.declared.alloc.Global.{Global}

@@ -22,7 +22,10 @@ fn set_contact(
 )
     requires room { 0 < room_in (folder_at user.now folders.old.entries) }
     ensures kept { (k : Book) → Keeps domain.now k folders.old.entries
-        → Keeps domain.now (record k { records = with_contact (record { user = user.now; address = address; name = name; groups = groups }) k.records }) folders.new.entries }
+        → Keeps domain.now (record k {
+          records = with_contact
+              (record { user = user.now; address = address; name = name; groups = groups }) k.records;
+        }) folders.new.entries }
     ensures room { (u : List ℕ) → room_in (folder_at u folders.old.entries) ≤ room_in (folder_at u folders.new.entries) + cond (bytes_eq user.now u) 1 0 }
 {
     let subscription = subscription_of(folders, domain, user, &address);

@@ -2,7 +2,7 @@
 use Rattle.std.proofs.Common.{◌≡◌, ℕ, List, [], refl, ap, true, false, Option, Some, None}
 use Rattle.std.specs.Prelude.{if◌then◌else◌}
 use Rattle.stream_frames.specs.Fed.{Fed}
-use Rattle.stream_grammar.specs.Reading.{Reading}
+use Rattle.stream_grammar.specs.machine.Reading.{Reading}
 use Rattle.account_book.specs.Lists.{Book}
 use Rattle.house_model.specs.Histories.{made}
 use Rattle.house_model.specs.declared.event.Event.{Event}
@@ -18,7 +18,8 @@ use Rattle.conn_flow.specs.Following.{GoesOn, rest_due}
 use Rattle.conn_flow.specs.Flows.{ToFinish, ToSay, ToSubmit, handled_phase, parting_wish, told_at, wish_of, wished}
 use Rattle.flow_laws.specs.Standing.{IsDone, IsServed, Place, duty, duty_at, idle, is_some_byte, known}
 use Rattle.flow_laws.specs.Steps.{enters_at}
-use Rattle.flow_laws.proofs.Places.{StandsAt, Suits, end_due_same, entered_due, entered_suits, handled_due, handled_suits, place, served, site, stands, with_event}
+use Rattle.flow_laws.proofs.Places.{StandsAt, Suits, end_due_same, entered_due, entered_suits, handled_due}
+use Rattle.flow_laws.proofs.Places.{handled_suits, place, served, site, stands, with_event}
 
 abbrev pub IsEntered : Event → Reply → List ℕ → Site → Place → Type 0
 IsEntered e r text o p =

@@ -2,7 +2,7 @@
 use Rattle.std.proofs.Common.{◌≡◌, ℕ, List, sym, ap, ◌∙◌, Option, Some, None}
 use Rattle.stream_frames.specs.Fed.{Fed}
 use Rattle.stream_grammar.specs.declared.item.Item.{Item}
-use Rattle.stream_grammar.specs.Reading.{waiting}
+use Rattle.stream_grammar.specs.machine.Reading.{waiting}
 use Rattle.account_book.specs.Lists.{Book}
 use Rattle.house_model.specs.declared.event.Event.{Event}
 use Rattle.conn_asks.specs.declared.asked.Asked.{Asked}
@@ -11,9 +11,11 @@ use Rattle.conn_asks.specs.declared.ended.Ended.{Ended}
 use Rattle.conn_asks.specs.declared.stage.Purpose.{Purpose}
 use Rattle.conn_asks.specs.declared.stage.Purpose.TheVariants.{Challenge, Bind, Enable}
 use Rattle.conn_flow.specs.declared.phase.Phase.{Phase}
-use Rattle.conn_flow.specs.declared.phase.Phase.TheVariants.{Resting, Heard, Saying, Refusing, Drawing, Drawn, Entering, Entered, LoggingIn, LoggedIn, PullingOnce, Pulling, Sweeping, Parting, Left}
+use Rattle.conn_flow.specs.declared.phase.Phase.TheVariants.{Resting, Heard, Saying, Refusing, Drawing, Drawn, Entering, Entered, LoggingIn}
+use Rattle.conn_flow.specs.declared.phase.Phase.TheVariants.{LoggedIn, PullingOnce, Pulling, Sweeping, Parting, Left}
 use Rattle.conn_flow.specs.declared.talk.Talk.{Talk}
-use Rattle.conn_flow.specs.Flows.{IsLoaded, IsThere, Prepares, State, Takes, ToAwait, ToDraw, ToFinish, ToSay, ToSubmit, Wish, asked_by, counted, drawn_if, event_wish, last_text, login_wish, parting_wish, wish, wish_of, IsToldAll}
+use Rattle.conn_flow.specs.Flows.{IsLoaded, IsThere, Prepares, State, Takes, ToAwait, ToDraw, ToFinish, ToSay, ToSubmit, Wish, asked_by}
+use Rattle.conn_flow.specs.Flows.{counted, drawn_if, event_wish, last_text, login_wish, parting_wish, wish, wish_of, IsToldAll}
 
 no_say : {text : List ℕ} → ToSay text ≡ ToAwait → ⊥
 no_say w = cc

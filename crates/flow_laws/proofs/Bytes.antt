@@ -1,9 +1,11 @@
 -- Bytes are read as they are cut.
-use Rattle.std.proofs.Common.{◌≡◌, ℕ, suc, ◌+◌, List, [], ◌∷◌, ◌++◌, take, drop, refl, sym, ap, ◌∙◌, Bool, true, false, not, ◌||◌, Option, Some, None, arith, append_assoc}
+use Rattle.std.proofs.Common.{◌≡◌, ℕ, suc, ◌+◌, List, [], ◌∷◌, ◌++◌, take, drop, refl, sym, ap, ◌∙◌, Bool, true}
+use Rattle.std.proofs.Common.{false, not, ◌||◌, Option, Some, None, arith, append_assoc}
 use Rattle.std.proofs.lemmas.List.{append-nil}
 use Rattle.std.specs.Prelude.{if◌then◌else◌}
 use Rattle.stream_grammar.specs.declared.item.Item.{Item}
-use Rattle.stream_grammar.specs.Reading.{Reading, reads, stopped, first_reading, reading_next, reading_after, taken, taken_reading, is_done, is_stopped, is_ready, is_none, handed, waiting, went}
+use Rattle.stream_grammar.specs.machine.Reading.{Reading, reads, stopped, first_reading, reading_next, reading_after, taken}
+use Rattle.stream_grammar.specs.machine.Reading.{taken_reading, is_done, is_stopped, is_ready, is_none, handed, waiting, went}
 use Rattle.stream_grammar.proofs.FeedLemmas.{piece_went}
 use Rattle.stream_laws.proofs.Handing.{went-more}
 use Rattle.conn_flow.specs.Streams.{limits, item_at, Cut, here_or, cut}

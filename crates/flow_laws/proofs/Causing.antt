@@ -12,7 +12,8 @@ use Rattle.conn_asks.specs.declared.ended.Ended.TheVariants as ended
 use Rattle.conn_asks.specs.declared.stage.Purpose.{Purpose}
 use Rattle.conn_asks.specs.declared.stage.Purpose.TheVariants.{Challenge, Bind, Enable}
 use Rattle.conn_flow.specs.Moves.{Move, Hears, Waits, Hangs, Fails, Takes, Says, Sends, Enters, Draws, Stops}
-use Rattle.conn_flow.specs.Duties.{Site, Due, Opens, Rest, Text, Id, Dice, Submits, LogsIn, PullsOnce, Pulls, Sweeps, Leaves, Left, Duty, answered, answered_login, counts_failure, drew, ends, pulled, pulled_once, swept}
+use Rattle.conn_flow.specs.Duties.{Site, Due, Opens, Rest, Text, Id, Dice, Submits, LogsIn, PullsOnce, Pulls, Sweeps, Leaves, Left, Duty}
+use Rattle.conn_flow.specs.Duties.{answered, answered_login, counts_failure, drew, ends, pulled, pulled_once, swept}
 use Rattle.conn_flow.specs.Following.{DrawsDue, EntersDue, GoesOn, GoesThrough, SaysDue, Stopped, opening, reply_of}
 use Rattle.flow_laws.specs.Causes.{IsCaused, IsForced, Makes, MakesNone}
 use Rattle.flow_laws.proofs.DueEnds.{IsDue, IsThirdTo, end_only, failed_due, only, only_left, takes_now}

@@ -12,7 +12,8 @@ use Rattle.conn_asks.specs.StreamErrors.{error_of}
 use Rattle.conn_asks.specs.Asking.{Asks}
 use Rattle.conn_flow.specs.Streams.{cut}
 use Rattle.conn_flow.specs.Moves.{Takes}
-use Rattle.conn_flow.specs.Duties.{AsksIf, Site, Due, Opens, Rest, Text, Id, Dice, Submits, LogsIn, PullsOnce, Pulls, Sweeps, Leaves, Left, Duty, asked_due, counts_failure, end_due, error_due, follows, numbered}
+use Rattle.conn_flow.specs.Duties.{AsksIf, Site, Due, Opens, Rest, Text, Id, Dice, Submits, LogsIn, PullsOnce, Pulls, Sweeps, Leaves}
+use Rattle.conn_flow.specs.Duties.{Left, Duty, asked_due, counts_failure, end_due, error_due, follows, numbered}
 use Rattle.conn_flow.specs.Following.{TakesDue, rest_due}
 use Rattle.flow_laws.specs.Causes.{AsksEnd, IsThird, Makes}
 use Rattle.flow_laws.proofs.ItemEnds.{IsItemEnd, asks_ends}

@@ -10,11 +10,13 @@ use Rattle.conn_asks.specs.declared.stream_error.StreamError.{StreamError}
 use Rattle.conn_asks.specs.StreamErrors.{error_of}
 use Rattle.conn_asks.specs.Texts.{close_tag, failure_text}
 use Rattle.conn_flow.specs.declared.phase.Phase.{Phase}
-use Rattle.conn_flow.specs.declared.phase.Phase.TheVariants.{Resting, Heard, Saying, Refusing, Drawing, Drawn, Entering, Entered, LoggingIn, LoggedIn, PullingOnce, Pulling, Sweeping, Parting, Left}
+use Rattle.conn_flow.specs.declared.phase.Phase.TheVariants.{Resting, Heard, Saying, Refusing, Drawing, Drawn, Entering, Entered, LoggingIn}
+use Rattle.conn_flow.specs.declared.phase.Phase.TheVariants.{LoggedIn, PullingOnce, Pulling, Sweeping, Parting, Left}
 use Rattle.conn_flow.specs.declared.talk.Talk.{Talk}
 use Rattle.conn_flow.specs.Duties.{Site, Due, Duty, Leaves, end_due, error_due}
 use Rattle.conn_flow.specs.Following.{goes_on, rest_due}
-use Rattle.conn_flow.specs.Flows.{IsGoing, IsThere, ToAwait, ToDraw, ToFinish, ToSay, ToSubmit, error_said, event_wish, last_text, login_wish, parting_wish, wish}
+use Rattle.conn_flow.specs.Flows.{IsGoing, IsThere, ToAwait, ToDraw, ToFinish, ToSay, ToSubmit, error_said}
+use Rattle.conn_flow.specs.Flows.{event_wish, last_text, login_wish, parting_wish, wish}
 use Rattle.flow_laws.specs.Standing.{drew_if, duty_at, event_due, idle, known, login_due, purpose_due}
 
 same_end : {x y : Ended} → ToFinish x ≡ ToFinish y → x ≡ y

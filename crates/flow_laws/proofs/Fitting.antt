@@ -1,5 +1,6 @@
 -- What an item asks for meets the conditions of the house.
-use Rattle.std.proofs.Common.{◌≡◌, ℕ, ◌+◌, ◌≤◌, ◌∙◌, List, [], ◌∷◌, length, refl, sym, ap, subst, inl, Bool, true, false, Option, Some, None, arith, Result, Ok, Err}
+use Rattle.std.proofs.Common.{◌≡◌, ℕ, ◌+◌, ◌≤◌, ◌∙◌, List, [], ◌∷◌, length, refl, sym, ap, subst, inl, Bool}
+use Rattle.std.proofs.Common.{true, false, Option, Some, None, arith, Result, Ok, Err}
 use Rattle.std.proofs.lemmas.Bool.{ltb-false, leb-true}
 use Rattle.std.specs.Prelude.{if◌then◌else◌, nat_le, codes}
 use Rattle.stanza_tree.specs.Attributes.{attr_of}
@@ -14,17 +15,19 @@ use Rattle.stanza_model.specs.Stanzas.{stanza_of}
 use Rattle.stanza_model.specs.declared.nonza.Nonza.{Nonza}
 use Rattle.stanza_model.specs.declared.nonza.Nonza.TheVariants as nonza
 use Rattle.stanza_model.specs.declared.stanza.Stanza.{Stanza}
-use Rattle.stream_grammar.specs.Building.{Building, build_all, told_judged}
-use Rattle.stream_grammar.specs.Framing.{Frame, frame_next}
-use Rattle.stream_grammar.specs.Items.{told_at}
-use Rattle.stream_grammar.specs.Telling.{fault_told}
-use Rattle.stream_grammar.specs.Proper.{IsProper}
+use Rattle.stream_grammar.specs.machine.Building.{Building, build_all, told_judged}
+use Rattle.stream_grammar.specs.machine.Framing.{Frame, frame_next}
+use Rattle.stream_grammar.specs.machine.Ends.{told_at}
+use Rattle.stream_grammar.specs.machine.Telling.{fault_told}
+use Rattle.stream_grammar.specs.grammar.Proper.{IsProper}
 use Rattle.stream_grammar.specs.declared.FrameFault.{FrameFault}
 use Rattle.stream_grammar.specs.declared.FrameFault.TheVariants as fault
 use Rattle.stream_grammar.specs.declared.item.Item.{Item}
 use Rattle.stream_grammar.specs.declared.item.Item.TheVariants as item
 use Rattle.stream_grammar.specs.declared.item.Limits.{Limits}
-use Rattle.stream_grammar.specs.Reading.{Reading, first_reading, went, reads, stopped, handed, reading_next, waiting, concluded, or_else, fault_if, is_past, extent_after, rules_of, is_large, is_large_item, byte_judged, told_number}
+use Rattle.stream_grammar.specs.machine.Reading.{Reading, first_reading, went, reads, stopped, handed, reading_next, waiting}
+use Rattle.stream_grammar.specs.machine.Reading.{concluded, or_else, fault_if, is_past, extent_after, byte_judged}
+use Rattle.stream_grammar.specs.grammar.Bounds.{rules_of, is_large, is_large_item, told_number}
 use Rattle.stream_laws.proofs.ProperItems.{top_proper}
 use Rattle.house_model.specs.Histories.{StanzaFits}
 use Rattle.conn_asks.specs.declared.asked.Asked.{Asked}
@@ -39,7 +42,8 @@ use Rattle.conn_asks.specs.declared.stage.Stage.{Stage}
 use Rattle.conn_asks.specs.declared.stage.Stage.TheVariants.{Login, Logged, Bound}
 use Rattle.conn_asks.specs.Requests.{binding_of, binding_with, bind_space, header_fault, host_at, is_binding_iq, resource_in, user_at}
 use Rattle.conn_asks.specs.Logins.{sasl_of}
-use Rattle.conn_asks.specs.Asking.{Asks, AsksBinding, AsksCounting, AsksManagement, AsksResume, AsksSasl, AsksStanza, asked_binding, asked_header, asked_stanza, asked_verdict, is_own}
+use Rattle.conn_asks.specs.Asking.{Asks, AsksBinding, AsksCounting, AsksManagement, AsksResume, AsksSasl, AsksStanza}
+use Rattle.conn_asks.specs.Asking.{asked_binding, asked_header, asked_stanza, asked_verdict, is_own}
 use Rattle.conn_flow.specs.Streams.{limits, item_at}
 use Rattle.flow_laws.specs.Standing.{IsFitAt, IsFitFor}
 

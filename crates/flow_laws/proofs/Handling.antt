@@ -1,7 +1,8 @@
 -- What a flow handles before it wants something was due.
 use Rattle.std.proofs.Common.{◌≡◌, ℕ, ◌+◌, List, [], ◌∷◌, ◌++◌, take, drop, take-append-drop, refl, sym, ap, ◌∙◌, subst, false, Option, Some, None}
 use Rattle.stream_frames.specs.Fed.{Fed}
-use Rattle.stream_grammar.specs.Reading.{Reading, reads, stopped, first_reading, handed, is_stopped, reading_after, taken, told_number, waiting, went}
+use Rattle.stream_grammar.specs.machine.Reading.{Reading, reads, stopped, first_reading, handed, is_stopped, reading_after, taken, waiting, went}
+use Rattle.stream_grammar.specs.grammar.Bounds.{told_number}
 use Rattle.stream_grammar.specs.declared.item.Item.{Item}
 use Rattle.stream_grammar.specs.declared.item.Item.TheVariants as item
 use Rattle.account_book.specs.Lists.{Book}
@@ -12,7 +13,8 @@ use Rattle.conn_asks.specs.declared.stage.Purpose.{Purpose}
 use Rattle.conn_asks.specs.declared.stage.Purpose.TheVariants.{Challenge, Bind, Enable}
 use Rattle.conn_asks.specs.Asking.{Asks}
 use Rattle.conn_flow.specs.declared.phase.Phase.{Phase}
-use Rattle.conn_flow.specs.declared.phase.Phase.TheVariants.{Resting, Heard, Saying, Refusing, Drawing, Drawn, Entering, Entered, LoggingIn, LoggedIn, PullingOnce, Pulling, Sweeping, Parting, Left}
+use Rattle.conn_flow.specs.declared.phase.Phase.TheVariants.{Resting, Heard, Saying, Refusing, Drawing, Drawn, Entering, Entered, LoggingIn}
+use Rattle.conn_flow.specs.declared.phase.Phase.TheVariants.{LoggedIn, PullingOnce, Pulling, Sweeping, Parting, Left}
 use Rattle.conn_flow.specs.declared.talk.Talk.{Talk}
 use Rattle.conn_flow.specs.Streams.{Cut, cut, limits}
 use Rattle.conn_flow.specs.Moves.{Takes}

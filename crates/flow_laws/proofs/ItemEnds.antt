@@ -25,7 +25,8 @@ use Rattle.conn_asks.specs.declared.stage.Stage.{Stage}
 use Rattle.conn_asks.specs.declared.stage.Stage.TheVariants.{Login, Logged, Bound}
 use Rattle.conn_asks.specs.Requests.{binding_of, header_fault, host_at, user_at}
 use Rattle.conn_asks.specs.Logins.{sasl_of}
-use Rattle.conn_asks.specs.Asking.{Asks, AsksBinding, AsksCounting, AsksManagement, AsksResume, AsksSasl, AsksStanza, asked_binding, asked_header, asked_stanza, asked_verdict, is_own}
+use Rattle.conn_asks.specs.Asking.{Asks, AsksBinding, AsksCounting, AsksManagement, AsksResume, AsksSasl, AsksStanza}
+use Rattle.conn_asks.specs.Asking.{asked_binding, asked_header, asked_stanza, asked_verdict, is_own}
 
 -- the close tag, a fault of the stream, of the header or of an item
 abbrev pub IsItemEnd : Ended → Type 0

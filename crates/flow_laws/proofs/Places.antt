@@ -2,7 +2,7 @@
 use Rattle.std.proofs.Common.{◌≡◌, ℕ, List, [], ◌∷◌, refl, sym, subst, Bool, true, false, Option, Some, None}
 use Rattle.std.specs.Prelude.{if◌then◌else◌}
 use Rattle.stream_frames.specs.Fed.{Fed}
-use Rattle.stream_grammar.specs.Reading.{Reading}
+use Rattle.stream_grammar.specs.machine.Reading.{Reading}
 use Rattle.stream_grammar.specs.declared.item.Limits.{Limits}
 use Rattle.account_book.specs.Lists.{Book}
 use Rattle.house_model.specs.declared.event.Event.{Event}

@@ -1,9 +1,10 @@
 -- Where a flow waits: what is read, or nothing, is the next move.
-use Rattle.std.proofs.Common.{◌≡◌, ◌≢◌, ℕ, suc, ◌+◌, ◌-◌, List, [], ◌∷◌, ◌++◌, length, take, drop, take-append-drop, length-drop, refl, sym, ap, ◌∙◌, subst, Bool, true, false, arith}
+use Rattle.std.proofs.Common.{◌≡◌, ◌≢◌, ℕ, suc, ◌+◌, ◌-◌, List, [], ◌∷◌, ◌++◌, length, take, drop, take-append-drop}
+use Rattle.std.proofs.Common.{length-drop, refl, sym, ap, ◌∙◌, subst, Bool, true, false, arith}
 use Rattle.std.proofs.lemmas.Bool.{lt-ltb, le-ltb}
 use Rattle.std.specs.Prelude.{if◌then◌else◌, nat_le, nat_lt}
 use Rattle.stream_frames.specs.Fed.{Fed}
-use Rattle.stream_grammar.specs.Reading.{reading_after, taken}
+use Rattle.stream_grammar.specs.machine.Reading.{reading_after, taken}
 use Rattle.stream_grammar.specs.declared.item.Limits.{Limits}
 use Rattle.conn_asks.specs.declared.ended.Ended.TheVariants as ended
 use Rattle.conn_flow.specs.declared.phase.Phase.{Phase}

@@ -2,7 +2,7 @@
 use Rattle.std.proofs.Common.{◌≡◌, ℕ, List, [], ◌∷◌, refl, Bool, true, false, Option, Some, None}
 use Rattle.std.specs.Prelude.{if◌then◌else◌, nat_lt}
 use Rattle.stream_frames.specs.Fed.{Fed}
-use Rattle.stream_grammar.specs.Reading.{Reading}
+use Rattle.stream_grammar.specs.machine.Reading.{Reading}
 use Rattle.account_book.specs.Lists.{Book}
 use Rattle.house_model.specs.declared.event.Event.{Event}
 use Rattle.house_model.specs.declared.event.Event.TheVariants as event
@@ -11,12 +11,14 @@ use Rattle.conn_asks.specs.declared.ended.Ended.TheVariants as ended
 use Rattle.conn_asks.specs.declared.stream_error.StreamError.{StreamError}
 use Rattle.conn_asks.specs.StreamErrors.{error_of}
 use Rattle.conn_flow.specs.declared.phase.Phase.{Phase}
-use Rattle.conn_flow.specs.declared.phase.Phase.TheVariants.{Resting, Heard, Saying, Refusing, Drawing, Drawn, Entering, Entered, LoggingIn, LoggedIn, PullingOnce, Pulling, Sweeping, Parting, Left}
+use Rattle.conn_flow.specs.declared.phase.Phase.TheVariants.{Resting, Heard, Saying, Refusing, Drawing, Drawn, Entering, Entered, LoggingIn}
+use Rattle.conn_flow.specs.declared.phase.Phase.TheVariants.{LoggedIn, PullingOnce, Pulling, Sweeping, Parting, Left}
 use Rattle.conn_flow.specs.declared.talk.Talk.{Talk}
 use Rattle.conn_flow.specs.Moves.{Says}
 use Rattle.conn_flow.specs.Duties.{Site, Due, Leaves, end_due, error_due}
 use Rattle.conn_flow.specs.Following.{GoesOn, SaysDue, rest_due}
-use Rattle.conn_flow.specs.Flows.{ToAwait, ToDraw, ToFinish, ToSay, ToSubmit, error_said, event_wish, handled_phase, last_text, login_wish, parting_wish, wish_of, wished}
+use Rattle.conn_flow.specs.Flows.{ToAwait, ToDraw, ToFinish, ToSay, ToSubmit, error_said, event_wish}
+use Rattle.conn_flow.specs.Flows.{handled_phase, last_text, login_wish, parting_wish, wish_of, wished}
 use Rattle.flow_laws.specs.Standing.{IsDone, IsServed, Place, duty, duty_at, is_some_byte, known}
 use Rattle.flow_laws.specs.Steps.{says_at}
 use Rattle.flow_laws.proofs.Places.{Suits, handled_due, handled_suits, place, served, site, stands}

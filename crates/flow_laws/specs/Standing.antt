@@ -1,13 +1,14 @@
 -- A flow in its connection: what is due where it stands.
 use Rattle.std.specs.Prelude.{◌≡◌, ℕ, List, [], ◌∷◌, ◌++◌, take, Bool, true, false, Option, Some, None}
-use Rattle.stream_grammar.specs.Reading.{Reading, first_reading, handed, is_ready, is_stopped, reading_after, taken, went}
+use Rattle.stream_grammar.specs.machine.Reading.{Reading, first_reading, handed, is_ready, is_stopped, reading_after, taken, went}
 use Rattle.house_model.specs.declared.event.Event.{Event}
 use Rattle.house_model.specs.Histories.{IdFits, Meets, line_of}
 use Rattle.conn_asks.specs.Texts.{failure_text}
 use Rattle.conn_asks.specs.declared.stage.Purpose.{Purpose}
 use Rattle.conn_asks.specs.declared.stage.Purpose.TheVariants.{Bind}
 use Rattle.conn_flow.specs.declared.phase.Phase.{Phase}
-use Rattle.conn_flow.specs.declared.phase.Phase.TheVariants.{Resting, Heard, Saying, Refusing, Drawing, Drawn, Entering, Entered, LoggingIn, LoggedIn, PullingOnce, Pulling, Sweeping, Parting, Left}
+use Rattle.conn_flow.specs.declared.phase.Phase.TheVariants.{Resting, Heard, Saying, Refusing, Drawing, Drawn, Entering, Entered, LoggingIn}
+use Rattle.conn_flow.specs.declared.phase.Phase.TheVariants.{LoggedIn, PullingOnce, Pulling, Sweeping, Parting, Left}
 use Rattle.conn_flow.specs.declared.talk.Talk.{Talk}
 use Rattle.conn_flow.specs.Streams.{limits}
 use Rattle.conn_flow.specs.Duties.{Site, Due, Rest, Text, Dice, Submits, LogsIn, PullsOnce, Pulls, Sweeps, Leaves, Duty, after_failure, drew, end_due, followed}

@@ -4,8 +4,8 @@ use Rattle.std.specs.Prelude.{encode_utf8_all}
 use Rattle.std.specs.List.{list_all, AllByRecursion, IsDistinct}
 use Rattle.stanza_tree.specs.Spelling.{text, client_space}
 use Rattle.stanza_tree.specs.declared.node.Node.TheFolds.{every_made-Element}
-use Rattle.stream_lex.specs.Classes.{is_xml}
-use Rattle.stream_grammar.specs.Proper.{continues_name, IsXmlText, IsElementName, IsAttribute, same_name, IsProperPart, IsProper}
+use Rattle.stream_lex.specs.grammar.Classes.{is_xml}
+use Rattle.stream_grammar.specs.grammar.Proper.{continues_name, IsXmlText, IsElementName, IsAttribute, same_name, IsProperPart, IsProper}
 use Rattle.jid_core.specs.Addresses.{Address, address_of}
 use Rattle.stanza_model.specs.Stanzas.{stanza_of}
 use Rattle.stanza_model.specs.declared.stanza.Stanza.TheVariants.{Message}

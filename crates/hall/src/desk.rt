@@ -87,7 +87,8 @@ pub trait Desk {
         ensures pass { came_from self.now pass.new }
         ensures line { line pass.new ≡ line pass.old }
         ensures history { StartsWith (seen pass.new) (seen pass.old) }
-        ensures served { Served (line pass.old) (Event.Bind (line pass.old) id.now (option_copied resource.entry) t dice) [] result (seen pass.old) (seen pass.new) }
+        ensures served { Served (line pass.old) (Event.Bind (line pass.old) id.now (option_copied resource.entry) t dice) [] result (seen pass.old)
+            (seen pass.new) }
         ensures mark { marked pass.new ≡ marked_by result (marked pass.old) };
 
     /// The connection asks that its stanzas be counted (XEP-0198, 3).

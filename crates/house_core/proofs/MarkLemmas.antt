@@ -12,7 +12,8 @@ use Rattle.session_table.specs.declared.life.Life.TheVariants.{Live, Over}
 use Rattle.session_table.specs.Sessions.{SessionRecord}
 use Rattle.session_table.specs.Tables.{TableRecord, conn_of, line_of, session_of, with_session}
 use Rattle.house_model.specs.Fitting.{IsSmall}
-use Rattle.house_model.specs.Sessions.{Held, Away, Ended, Mark, Marks, Shown, Hidden, Directs, WantsRoster, Pushed, Manner, Rest, marked, session, step_if, with_mark}
+use Rattle.house_model.specs.Sessions.{Held, Away, Ended, Mark, Marks, Shown, Hidden, Directs, WantsRoster, Pushed}
+use Rattle.house_model.specs.Sessions.{Manner, Rest, marked, session, step_if, with_mark}
 use Rattle.house_model.specs.Steps.{set}
 use Rattle.house_model.specs.Traffic.{KeptTraffic, brief}
 use Rattle.house_model.specs.Effects.{On}

@@ -72,7 +72,8 @@ pub record IsFew (turns : ℕ) (t : TableRecord) : Type 0 where
 abbrev pub AreUsers : ℕ → TableRecord → Type 0
 AreUsers many t = (w c u : ℕ) → line_of w t ≡ Logged c u → u < many
 
-pub record IsWhole (domain : List ℕ) (users : List (List ℕ)) (turns moment : ℕ) (t : TableRecord) (answers : List (List Answer)) (book : BookRecord) : Type 0 where
+pub record IsWhole (domain : List ℕ) (users : List (List ℕ)) (turns moment : ℕ) (t : TableRecord) (answers : List (List Answer))
+    (book : BookRecord) : Type 0 where
   pub prepared : list_all is_local users ≡ true
   pub few : length users ≤ 4096
   pub passed : moment ≤ last_moment

@@ -92,7 +92,8 @@ impl House {
         ensures state { OnOk result (held self.new ≡ (kept_step (held self.old) (Event.Act w stanza.now t)).state) }
         ensures reply { IfOk result (λ reply. reply ≡ (kept_step (held self.old) (Event.Act w stanza.now t)).reply) }
         ensures refused { OnErr result (held self.new ≡ passed (held self.old)) }
-        ensures history { (o : State) (h : List Turn) → StandsFor o h (held self.old) → StandsFor o (h ++ ended (Event.Act w stanza.now t) result ∷ []) (held self.new) }
+        ensures history { (o : State) (h : List Turn) → StandsFor o h (held self.old)
+            → StandsFor o (h ++ ended (Event.Act w stanza.now t) result ∷ []) (held self.new) }
     {
         self.apply_act(w, stanza, t)
     }

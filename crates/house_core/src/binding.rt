@@ -137,7 +137,8 @@ impl World {
         requires logged { is_logged (line_of w self.old.table) ≡ true }
         requires few { length (slice_index_or self.old.answers.items w []) < 8 }
         requires id { IdFits id.now }
-        ensures done { OnOk result (Did (begun_in (seen self.old) w (conn_of (line_of w self.old.table)) address (Answer.Bound id.now (address_text address))) 1 self.old self.new) }
+        ensures done { OnOk result (Did (begun_in (seen self.old) w (conn_of (line_of w self.old.table)) address
+            (Answer.Bound id.now (address_text address))) 1 self.old self.new) }
         ensures refused { OnErr result (Did [] 0 self.old self.new) }
     {
         let alloc = *self.answers.allocator();

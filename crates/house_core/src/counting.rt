@@ -30,12 +30,15 @@ const TO_ASK: Needs = Needs {
     answers: true,
 };
 
+/// How many counts there are: a count has 32 bits (XEP-0198, 4).
+const COUNTS: u64 = 1 << 32;
+
 /// The count of the client's stanzas that were acted on.
 pub(crate) fn inward(session: &Session) -> u32
     requires { session.now.base_in ≤ session.now.acted }
     ensures { result ≡ count_of (session.now.acted - session.now.base_in) }
 {
-    ((session.acted - session.base_in) % 4_294_967_296) as u32
+    ((session.acted - session.base_in) % COUNTS) as u32
 }
 
 fn id_if(wants: bool, session: u64, digits: [u8; 16]) -> Option<ResumeId>
@@ -65,7 +68,8 @@ impl House {
         requires turns { self.old.turns < 2 ^ 63 + 2 ^ 62 }
         ensures state { held self.new ≡ (kept_step (held self.old) (Event.Enable w resume dice)).state }
         ensures reply { result ≡ (kept_step (held self.old) (Event.Enable w resume dice)).reply }
-        ensures history { (o : State) (h : List Turn) → StandsFor o h (held self.old) → StandsFor o (h ++ made (Event.Enable w resume dice) result [] ∷ []) (held self.new) }
+        ensures history { (o : State) (h : List Turn) → StandsFor o h (held self.old)
+            → StandsFor o (h ++ made (Event.Enable w resume dice) result [] ∷ []) (held self.new) }
     {
         self.apply_enable(w, resume, dice)
     }
@@ -86,7 +90,8 @@ impl House {
         requires turns { self.old.turns < 2 ^ 63 + 2 ^ 62 }
         ensures state { held self.new ≡ (kept_step (held self.old) (Event.Ack w h)).state }
         ensures reply { result ≡ (kept_step (held self.old) (Event.Ack w h)).reply }
-        ensures history { (o : State) (h' : List Turn) → StandsFor o h' (held self.old) → StandsFor o (h' ++ made (Event.Ack w h) result [] ∷ []) (held self.new) }
+        ensures history { (o : State) (h' : List Turn) → StandsFor o h' (held self.old)
+            → StandsFor o (h' ++ made (Event.Ack w h) result [] ∷ []) (held self.new) }
     {
         self.apply_ack(w, h)
     }

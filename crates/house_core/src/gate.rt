@@ -75,7 +75,8 @@ impl World {
         requires answered { length self.old.answers.items ≡ length self.old.table.lines }
         requires moment { moment ≤ last_moment }
         requires tied { IsTied self.old.table }
-        ensures { Did (left_at (seen self.old) moment (line_of w self.old.table) ++ At w (Close (conn_of (line_of w self.old.table)) (Cause.Flood 8)) ∷ []) 0 self.old self.new }
+        ensures { Did (left_at (seen self.old) moment (line_of w self.old.table) ++ At w
+            (Close (conn_of (line_of w self.old.table)) (Cause.Flood 8)) ∷ []) 0 self.old self.new }
     {
         match *self.table.line(w) {
             Line::Bound { session, .. } => self.close_bound(

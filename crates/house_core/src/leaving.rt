@@ -75,7 +75,8 @@ impl World {
         requires moment { moment ≤ last_moment }
         requires tied { IsTied self.old.table }
         requires held { IsHeldBy w s self.old.table }
-        ensures { Did (On s (left_by ((seen self.old).sessions s).rest.resume_id moment) ∷ At w (Close (conn_of (line_of w self.old.table)) cause) ∷ []) 0 self.old self.new }
+        ensures { Did (On s (left_by ((seen self.old).sessions s).rest.resume_id moment) ∷ At w
+            (Close (conn_of (line_of w self.old.table)) cause) ∷ []) 0 self.old self.new }
     {
         let _ = self.table.session(s);
         self.release(s, moment);

@@ -42,7 +42,8 @@ impl House {
         requires turns { self.old.turns < 2 ^ 63 + 2 ^ 62 }
         ensures state { held self.new ≡ (kept_step (held self.old) (Event.OpenLine w)).state }
         ensures reply { result ≡ (kept_step (held self.old) (Event.OpenLine w)).reply }
-        ensures history { (o : State) (h : List Turn) → StandsFor o h (held self.old) → StandsFor o (h ++ made (Event.OpenLine w) result [] ∷ []) (held self.new) }
+        ensures history { (o : State) (h : List Turn) → StandsFor o h (held self.old)
+            → StandsFor o (h ++ made (Event.OpenLine w) result [] ∷ []) (held self.new) }
     {
         self.apply_open(w)
     }
@@ -64,7 +65,8 @@ impl House {
         requires turns { self.old.turns < 2 ^ 63 + 2 ^ 62 }
         ensures state { held self.new ≡ (kept_step (held self.old) (Event.Login w user.now)).state }
         ensures reply { result ≡ (kept_step (held self.old) (Event.Login w user.now)).reply }
-        ensures history { (o : State) (h : List Turn) → StandsFor o h (held self.old) → StandsFor o (h ++ made (Event.Login w user.now) result [] ∷ []) (held self.new) }
+        ensures history { (o : State) (h : List Turn) → StandsFor o h (held self.old)
+            → StandsFor o (h ++ made (Event.Login w user.now) result [] ∷ []) (held self.new) }
     {
         self.apply_login(w, user)
     }
@@ -92,7 +94,8 @@ impl House {
         requires turns { self.old.turns < 2 ^ 63 + 2 ^ 62 }
         ensures state { held self.new ≡ (kept_step (held self.old) (Event.DropLine w t)).state }
         ensures reply { result ≡ (kept_step (held self.old) (Event.DropLine w t)).reply }
-        ensures history { (o : State) (h : List Turn) → StandsFor o h (held self.old) → StandsFor o (h ++ made (Event.DropLine w t) result [] ∷ []) (held self.new) }
+        ensures history { (o : State) (h : List Turn) → StandsFor o h (held self.old)
+            → StandsFor o (h ++ made (Event.DropLine w t) result [] ∷ []) (held self.new) }
     {
         self.apply_drop(w, t)
     }
@@ -120,7 +123,8 @@ impl House {
         requires turns { self.old.turns < 2 ^ 63 + 2 ^ 62 }
         ensures state { held self.new ≡ (kept_step (held self.old) (Event.CloseLine w t)).state }
         ensures reply { result ≡ (kept_step (held self.old) (Event.CloseLine w t)).reply }
-        ensures history { (o : State) (h : List Turn) → StandsFor o h (held self.old) → StandsFor o (h ++ made (Event.CloseLine w t) result [] ∷ []) (held self.new) }
+        ensures history { (o : State) (h : List Turn) → StandsFor o h (held self.old)
+            → StandsFor o (h ++ made (Event.CloseLine w t) result [] ∷ []) (held self.new) }
     {
         self.apply_close(w, t)
     }

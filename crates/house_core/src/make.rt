@@ -50,7 +50,12 @@ pub(crate) fn make_address(
     dice: &[u8; 16],
 ) -> Result<Jid, NoMemory>
     requires { IsTrue (is_local user.now) }
-    ensures { IfOk result (λ j. j ≡ record { local = Some user.now; domain = house.now.domain; resource = Some (resource_or dice.now (option_copied resource.entry)) }) }
+    ensures { IfOk result (λ j. j ≡ record {
+      local = Some user.now;
+      domain = house.now.domain;
+      resource = Some
+          (resource_or dice.now (option_copied resource.entry));
+    }) }
 {
     let local = user.copy(alloc)?;
     let domain = house.domain.copy(alloc)?;

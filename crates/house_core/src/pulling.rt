@@ -1,5 +1,6 @@
 //! Frames go to a connection.
-ghost use Rattle.std.specs.Prelude.{◌≡◌, ℕ, ◌+◌, ◌-◌, ◌^◌, ◌<◌, ◌≤◌, ◌&&◌, ◌++◌, ◌∷◌, [], List, length, nat_lt, true, Some, IfSome, is_some, slice_get, slice_index_or, vec_len, vec_capacity};
+ghost use Rattle.std.specs.Prelude.{◌≡◌, ℕ, ◌+◌, ◌-◌, ◌^◌, ◌<◌, ◌≤◌, ◌&&◌, ◌++◌, ◌∷◌, [], List, length, nat_lt, true, Some};
+ghost use Rattle.std.specs.Prelude.{IfSome, is_some, slice_get, slice_index_or, vec_len, vec_capacity};
 ghost use Rattle.session_table.specs.Sessions.{SessionRecord};
 ghost use Rattle.session_table.specs.Tables.{session_of};
 ghost use Rattle.house_model.specs.declared.event.Event.{Event};

@@ -79,7 +79,8 @@ impl House {
         requires turns { self.old.turns < 2 ^ 63 + 2 ^ 62 }
         ensures state { held self.new ≡ (kept_step (held self.old) (Event.Resume w (option_copied id.entry) h t)).state }
         ensures reply { result ≡ (kept_step (held self.old) (Event.Resume w (option_copied id.entry) h t)).reply }
-        ensures history { (o : State) (h' : List Turn) → StandsFor o h' (held self.old) → StandsFor o (h' ++ made (Event.Resume w (option_copied id.entry) h t) result [] ∷ []) (held self.new) }
+        ensures history { (o : State) (h' : List Turn) → StandsFor o h' (held self.old)
+            → StandsFor o (h' ++ made (Event.Resume w (option_copied id.entry) h t) result [] ∷ []) (held self.new) }
     {
         self.apply_resume(w, id, h, t)
     }
@@ -115,7 +116,8 @@ impl World {
         requires tied { IsTied self.old.table }
         requires small { IsFew (2 ^ 64 - 2) self.old.table }
         ensures { Ends (resumes_by (is_known_to user.now domain.now.domain id.now ((seen self.old).sessions id.now.session))
-            ((seen self.old).sessions id.now.session).hold w conn id.now.session h id.now ((seen self.old).sessions id.now.session).traffic) 0 result self.old self.new }
+            ((seen self.old).sessions id.now.session).hold w conn id.now.session h id.now
+            ((seen self.old).sessions id.now.session).traffic) 0 result self.old self.new }
     {
         let facts = self.facts(id.session, user, domain);
         match decide(id, facts.as_ref(), Count(h)) {

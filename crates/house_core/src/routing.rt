@@ -100,7 +100,8 @@ impl World {
         requires names { AreShortNames self.now.book.book.asked }
         requires rosters { AreKept domain.now self.now.book.book }
         requires fits { StanzaFits stanza.now }
-        ensures effects { IfOk result (λ effects. effects.items ≡ effects_in (record { domain = domain.now; users = users.now; world = seen self.now }) s stanza.now) }
+        ensures effects { IfOk result (λ effects. effects.items ≡ effects_in
+            (record { domain = domain.now; users = users.now; world = seen self.now }) s stanza.now) }
         ensures short { IfOk result (λ effects. AreSmall effects.items) }
     {
         know_part(domain);

@@ -8,7 +8,8 @@ use Rattle.house_model.specs.Numbered.{put}
 use Rattle.house_model.specs.Sessions.{Hold, Held, Away, Ended, Gone, session_step}
 use Rattle.house_model.specs.Traffic.{Traffic, whole}
 use Rattle.house_model.specs.States.{Line, World, empty_line}
-use Rattle.house_model.specs.Effects.{Effect, Open, At, Begin, On, Note, LineOp, Log, Say, Said, Leave, Close, logged, line_step, fresh_line, over_line, bound_line, moved_if, settled, apply, apply_all}
+use Rattle.house_model.specs.Effects.{Effect, Open, At, Begin, On, Note, LineOp, Log, Say, Said, Leave, Close, logged, line_step}
+use Rattle.house_model.specs.Effects.{fresh_line, over_line, bound_line, moved_if, settled, apply, apply_all}
 use Rattle.house_model.proofs.PutLemmas.{put_is}
 use Rattle.house_model.proofs.VerdictLemmas.{opens_one, opens_in}
 

@@ -1,14 +1,17 @@
 -- Effects that fit keep each session that a line holds bound there.
-use Rattle.std.proofs.Common.{◌≡◌, ◌⊎◌, inl, inr, ℕ, ◌+◌, ◌==◌, ◌&&◌, List, [], ◌∷◌, Option, Some, None, Bool, true, false, eq-eqb, refl, sym, ap, ◌∙◌, subst, true≢false}
+use Rattle.std.proofs.Common.{◌≡◌, ◌⊎◌, inl, inr, ℕ, ◌+◌, ◌==◌, ◌&&◌, List, [], ◌∷◌, Option, Some, None, Bool}
+use Rattle.std.proofs.Common.{true, false, eq-eqb, refl, sym, ap, ◌∙◌, subst, true≢false}
 use Rattle.stanza_tree.specs.declared.frame.Entry.{Entry}
 use Rattle.sm_resume.specs.declared.decision.Cause.TheVariants.{Moved}
 use Rattle.session_table.specs.declared.line.Line as stage
 use Rattle.session_table.specs.declared.line.Line.TheVariants.{Bound}
 use Rattle.house_model.specs.Numbered.{put}
-use Rattle.house_model.specs.Sessions.{Hold, Held, Away, Ended, Gone, Rest, Session, Op, Push, Pull, Request, Enable, Ack, Tell, Act, Drop, Resume, End, Part, Marks, pushed, acked, resumed, begun, step_if, session_step}
+use Rattle.house_model.specs.Sessions.{Hold, Held, Away, Ended, Gone, Rest, Session, Op, Push, Pull, Request, Enable, Ack, Tell, Act, Drop}
+use Rattle.house_model.specs.Sessions.{Resume, End, Part, Marks, pushed, acked, resumed, begun, step_if, session_step}
 use Rattle.house_model.specs.Traffic.{Traffic, whole}
 use Rattle.house_model.specs.States.{Line, World, empty_line}
-use Rattle.house_model.specs.Effects.{Effect, Open, At, Begin, On, Note, Log, Say, Said, Leave, Close, logged, over_line, bound_line, moved_if, settled, touch, apply, apply_all}
+use Rattle.house_model.specs.Effects.{Effect, Open, At, Begin, On, Note, Log, Say, Said, Leave, Close, logged}
+use Rattle.house_model.specs.Effects.{over_line, bound_line, moved_if, settled, touch, apply, apply_all}
 use Rattle.house_model.specs.Sound.{IsFree, FitsIn, Fits, Back}
 use Rattle.house_model.proofs.PutLemmas.{put_is, put_here}
 use Rattle.house_model.proofs.SoundLemmas.{both_same}

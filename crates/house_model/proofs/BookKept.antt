@@ -20,7 +20,9 @@ use Rattle.house_model.specs.Effects.{Effect, Open, At, Begin, On, Say, Leave, C
 use Rattle.house_model.specs.Gate.{Waits, Knows, Holds, Needs, to_login, to_bind, to_manage, to_act, to_ask, to_pull, most_answers, left, closed, gate_at}
 use Rattle.house_model.specs.Lookups.{session_at, user_place}
 use Rattle.house_model.specs.Routing.{departure, effects, scene_of}
-use Rattle.house_model.specs.Steps.{bound_address, has_place, id_if, resource_or, logs_in, replaces, binds, enables, takes, resumes_by, is_known, resumes, effect_of, acts, acks, asks, requests, gives_entry, pulls, leaves, sweeps, departs, due, body, verdict, turn}
+use Rattle.house_model.specs.Steps.{bound_address, has_place, id_if, resource_or, logs_in, replaces, binds, enables, takes}
+use Rattle.house_model.specs.Steps.{resumes_by, is_known, resumes, effect_of, acts, acks, asks, requests, gives_entry}
+use Rattle.house_model.specs.Steps.{pulls, leaves, sweeps, departs, due, body, verdict, turn}
 use Rattle.house_model.specs.Histories.{IsOpening, Made, Outcome, Short, Turn, after, next, next_by}
 use Rattle.house_model.specs.Sound.{Sound}
 use Rattle.house_model.proofs.GateLemmas.{gate_leads}

@@ -14,7 +14,8 @@ use Rattle.sm_account.proofs.Grows.{core_of_run, core_run_append}
 use Rattle.sm_account.proofs.Steps.{pushed_if}
 use Rattle.house_model.specs.declared.event.Event.{Event}
 use Rattle.house_model.specs.declared.event.Event.TheVariants as event
-use Rattle.house_model.specs.Sessions.{Hold, Held, Away, Ended, Gone, Rest, Session, Op, Push, Pull, Ack, Resume, Part, session, pushed, acked, resumed, begun, step_if, session_step}
+use Rattle.house_model.specs.Sessions.{Hold, Held, Away, Ended, Gone, Rest, Session, Op, Push, Pull, Ack, Resume, Part}
+use Rattle.house_model.specs.Sessions.{session, pushed, acked, resumed, begun, step_if, session_step}
 use Rattle.house_model.specs.Traffic as traffic
 use Rattle.house_model.specs.Traffic.{Traffic, whole}
 use Rattle.house_model.specs.States.{World, State, keep}

@@ -1,5 +1,6 @@
 -- How long an answer of service discovery is, where no room is listed.
-use Rattle.std.proofs.Common.{ℕ, ◌+◌, ◌*◌, ◌≤◌, List, [], ◌∷◌, ◌++◌, map, length, Option, Some, None, Result, Ok, Err, Bool, true, false, codes, ap, arith, length-append, if◌then◌else◌}
+use Rattle.std.proofs.Common.{ℕ, ◌+◌, ◌*◌, ◌≤◌, List, [], ◌∷◌, ◌++◌, map, length, Option, Some, None, Result, Ok, Err}
+use Rattle.std.proofs.Common.{Bool, true, false, codes, ap, arith, length-append, if◌then◌else◌}
 use Rattle.std.specs.Prelude.{IfSome, is_some, ⊤}
 use Rattle.std.specs.List.{AllByRecursion}
 use Rattle.stanza_tree.specs.Attributes.{attr_of}
@@ -12,7 +13,8 @@ use Rattle.stanza_model.specs.Replies.{one_child}
 use Rattle.stanza_model.specs.Stanzas.{to_in, id_in}
 use Rattle.stanza_model.specs.declared.condition.Condition.{Condition}
 use Rattle.stanza_model.specs.declared.stanza.Stanza.{Stanza}
-use Rattle.stanza_router.specs.Discovery.{info_space, items_space, query_in, node_of, identity, feature, described, info_of, item, server_items, listing, items_of, found_by, found, replied, discovery}
+use Rattle.stanza_router.specs.Discovery.{info_space, items_space, query_in, node_of, identity, feature, described, info_of, item}
+use Rattle.stanza_router.specs.Discovery.{server_items, listing, items_of, found_by, found, replied, discovery}
 use Rattle.stanza_router.specs.Places.{service_domain}
 use Rattle.stanza_router.specs.declared.places.Place.{Place}
 use Rattle.stanza_router.specs.declared.places.Place.TheVariants.{Account, Server, User, UserAt, Service, Room, RoomAt, Foreign}

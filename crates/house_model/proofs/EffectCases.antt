@@ -19,7 +19,8 @@ use Rattle.stanza_router.specs.declared.places.Place.{Place}
 use Rattle.stanza_router.specs.declared.places.Place.TheVariants.{Account, Server, User, UserAt, Service, Room, RoomAt, Foreign}
 use Rattle.house_model.specs.Lookups.{here}
 use Rattle.house_model.specs.Requests.{pings, begins_session, binds_resource, discovers, asks_a_room, gets, sets}
-use Rattle.house_model.specs.Routing.{Scene, live_for, user_in, receivers, has_account, to_account, to_no_room, to_users, message, to_server, to_session, to_service, to_room, iq, effects_at, effects_by, effects_in}
+use Rattle.house_model.specs.Routing.{Scene, live_for, user_in, receivers, has_account, to_account, to_no_room, to_users, message}
+use Rattle.house_model.specs.Routing.{to_server, to_session, to_service, to_room, iq, effects_at, effects_by, effects_in}
 use Rattle.house_model.proofs.Founds.{AreFound, IsFound, either_all, live_for_found, receivers_found}
 use Rattle.house_model.proofs.PresenceCases.{Covers, presence_all, refusal_all}
 

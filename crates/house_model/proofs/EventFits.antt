@@ -17,11 +17,13 @@ use Rattle.house_model.specs.Effects.{Open, At, Begin, On, Say, Leave, Close, ap
 use Rattle.house_model.specs.Gate.{Waits, Knows, Holds, Needs, to_login, to_bind, to_manage, to_act, to_ask, to_pull, most_answers, left, closed, gate_at}
 use Rattle.house_model.specs.Lookups.{session_at}
 use Rattle.house_model.specs.Routing.{effects}
-use Rattle.house_model.specs.Steps.{logs_in, replaces, binds, enables, takes, resumes_by, is_known, resumes, effect_of, acts, acks, asks, requests, gives_entry, pulls, sweeps, departs, due, body, verdict, turn}
+use Rattle.house_model.specs.Steps.{logs_in, replaces, binds, enables, takes, resumes_by, is_known, resumes, effect_of, acts, acks}
+use Rattle.house_model.specs.Steps.{asks, requests, gives_entry, pulls, sweeps, departs, due, body, verdict, turn}
 use Rattle.house_model.specs.Histories.{Outcome, Made, Short, Turn, next_by, next, after, IsOpening}
 use Rattle.house_model.specs.Sound.{Fits, Back}
 use Rattle.house_model.proofs.GateLemmas.{gate_leads}
-use Rattle.house_model.proofs.FitLemmas.{IsMatched, all_on_fit, free_all, fits_append, queued_on, departs_on, replaces_on, left_fits, closed_fits, leaves_fits, logged_free}
+use Rattle.house_model.proofs.FitLemmas.{IsMatched, all_on_fit, free_all, fits_append, queued_on, departs_on}
+use Rattle.house_model.proofs.FitLemmas.{replaces_on, left_fits, closed_fits, leaves_fits, logged_free}
 use Rattle.house_model.proofs.BackLemmas.{all_back}
 use Rattle.house_model.proofs.TurnLaws.{next_sound, starts_sound}
 

@@ -10,7 +10,8 @@ use Rattle.sm_resume.specs.declared.id.ResumeId.{ResumeId}
 use Rattle.session_table.specs.declared.line.Line as stage
 use Rattle.session_table.specs.declared.line.Line.TheVariants.{Empty, Fresh, Logged, Bound, Over}
 use Rattle.house_model.specs.Numbered.{put}
-use Rattle.house_model.specs.Sessions.{Hold, Held, Rest, Op, Push, Pull, Request, Enable, Ack, Tell, Act, Drop, Resume, End, Part, Marks, step_if, session_step, Ways}
+use Rattle.house_model.specs.Sessions.{Hold, Held, Rest, Op, Push, Pull, Request, Enable, Ack, Tell, Act, Drop}
+use Rattle.house_model.specs.Sessions.{Resume, End, Part, Marks, step_if, session_step, Ways}
 use Rattle.house_model.specs.Traffic.{KeptTraffic, Traffic, whole}
 use Rattle.house_model.specs.States.{Line, World, Kept}
 use Rattle.house_model.specs.Effects.{Effect, Open, At, Begin, On, Note, Leave, settled, touch, apply, apply_all}

@@ -1,5 +1,6 @@
 -- The sessions that the rules on stanzas find.
-use Rattle.std.proofs.Common.{◌≡◌, ℕ, zero, suc, ◌<◌, ◌≤◌, List, [], ◌∷◌, ◌++◌, map, flat_map, Option, Some, None, Bool, true, false, ◌&&◌, if◌then◌else◌, refl, arith}
+use Rattle.std.proofs.Common.{◌≡◌, ℕ, zero, suc, ◌<◌, ◌≤◌, List, [], ◌∷◌, ◌++◌, map, flat_map, Option, Some}
+use Rattle.std.proofs.Common.{None, Bool, true, false, ◌&&◌, if◌then◌else◌, refl, arith}
 use Rattle.std.specs.List.{AllByRecursion, filter, list_any}
 use Rattle.jid_core.specs.Addresses.{Address, same_address, same_part}
 use Rattle.stanza_model.specs.declared.here.Here.{Here}

@@ -15,7 +15,8 @@ use Rattle.sm_resume.specs.declared.decision.Cause.{Cause}
 use Rattle.session_table.specs.declared.line.Line.TheVariants.{Bound}
 use Rattle.house_model.specs.declared.event.Event.{Event}
 use Rattle.house_model.specs.declared.event.Event.TheVariants as event
-use Rattle.house_model.specs.Sessions.{Hold, Held, Away, Ended, Gone, Rest, Session, Op, Push, Act, End, begun, unmade, session_step, Marks, Shown, Hidden, Directs, WantsRoster, Pushed}
+use Rattle.house_model.specs.Sessions.{Hold, Held, Away, Ended, Gone, Rest, Session, Op, Push, Act, End, begun, unmade}
+use Rattle.house_model.specs.Sessions.{session_step, Marks, Shown, Hidden, Directs, WantsRoster, Pushed}
 use Rattle.house_model.specs.Traffic.{Traffic, whole}
 use Rattle.house_model.specs.States.{World, State, keep, keep_by, keep_world}
 use Rattle.house_model.specs.Effects.{Effect, Open, At, Begin, On, Note, apply, apply_all}

@@ -1,5 +1,6 @@
 -- After every history, the connections that held a session differ.
-use Rattle.std.proofs.Common.{◌≡◌, ℕ, ◌+◌, List, [], ◌∷◌, ◌++◌, Option, Some, None, Bool, true, false, eqb, refl, sym, ap, ◌∙◌, subst, true≢false, arith, if◌then◌else◌}
+use Rattle.std.proofs.Common.{◌≡◌, ℕ, ◌+◌, List, [], ◌∷◌, ◌++◌, Option, Some, None, Bool, true, false, eqb}
+use Rattle.std.proofs.Common.{refl, sym, ap, ◌∙◌, subst, true≢false, arith, if◌then◌else◌}
 use Rattle.jid_core.specs.Addresses.{Address, address_text}
 use Rattle.std.specs.Prelude.{◌==◌, ◌&&◌}
 use Rattle.sm_resume.specs.declared.decision.Cause.TheVariants.{Moved}

@@ -2,7 +2,8 @@
 use Rattle.std.proofs.Common.{◌≡◌, ℕ, ◌+◌, List, [], ◌∷◌, Option, Some, None, Bool, true, false, eqb, refl, sym, ap, ◌∙◌, if◌then◌else◌}
 use Rattle.stanza_tree.specs.declared.frame.Entry.{Entry}
 use Rattle.house_model.specs.Numbered.{put}
-use Rattle.house_model.specs.Sessions.{Hold, Held, Away, Ended, Gone, Rest, Session, Op, Push, Pull, Request, Enable, Ack, Act, Drop, Resume, End, Part, session, over, pushed, acked, resumed, step_if, session_step, begun}
+use Rattle.house_model.specs.Sessions.{Hold, Held, Away, Ended, Gone, Rest, Session, Op, Push, Pull, Request, Enable, Ack, Act, Drop, Resume}
+use Rattle.house_model.specs.Sessions.{End, Part, session, over, pushed, acked, resumed, step_if, session_step, begun}
 use Rattle.house_model.specs.Traffic.{Traffic, KeptTraffic, Ordered, whole, brief, keep_traffic}
 use Rattle.house_model.specs.States.{Line, World, keep_by, keep_session, keep_world}
 use Rattle.house_model.specs.Effects.{Effect, Open, At, Begin, On, Note, settled, touch, apply, apply_all}

@@ -1,8 +1,10 @@
 -- How long the names of users are, where addresses are short.
-use Rattle.std.proofs.Common.{◌≡◌, ◌⊎◌, inl, inr, ℕ, ◌≤◌, List, [], ◌∷◌, ◌++◌, length, Option, Some, None, Result, Ok, Err, Bool, true, false, refl, ap, subst, arith, bytes_eq, length-append, if◌then◌else◌, ◌&&◌}
+use Rattle.std.proofs.Common.{◌≡◌, ◌⊎◌, inl, inr, ℕ, ◌≤◌, List, [], ◌∷◌, ◌++◌, length, Option, Some, None, Result, Ok, Err, Bool}
+use Rattle.std.proofs.Common.{true, false, refl, ap, subst, arith, bytes_eq, length-append, if◌then◌else◌, ◌&&◌}
 use Rattle.std.specs.Prelude.{IfSome}
 use Rattle.std.proofs.lemmas.Option.{same_Some}
-use Rattle.jid_core.specs.Addresses.{Address, address_of, address_text, domain_in, is_prepared, joined, local_in, local_text, part_of, passes, resource_text, some_of}
+use Rattle.jid_core.specs.Addresses.{Address, address_of, address_text, domain_in, is_prepared, joined, local_in}
+use Rattle.jid_core.specs.Addresses.{local_text, part_of, passes, resource_text, some_of}
 use Rattle.jid_core.specs.Cuts.{after, before}
 use Rattle.jid_core.specs.Preparation.{domain_of, is_domain, is_local, is_resource, local_of, resource_of}
 use Rattle.jid_core.specs.declared.fault.JidFault.{JidFault}

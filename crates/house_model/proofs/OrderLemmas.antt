@@ -1,5 +1,6 @@
 -- The places of a traffic stay in their order, whatever happens to the session.
-use Rattle.std.proofs.Common.{◌≡◌, ℕ, ◌+◌, ◌-◌, ◌<◌, ◌≤◌, ◌&&◌, [], ◌∷◌, length, drop, Option, Some, None, Bool, true, false, refl, sym, true≢false, length-append, length-drop, arith}
+use Rattle.std.proofs.Common.{◌≡◌, ℕ, ◌+◌, ◌-◌, ◌<◌, ◌≤◌, ◌&&◌, [], ◌∷◌, length, drop, Option, Some, None, Bool, true}
+use Rattle.std.proofs.Common.{false, refl, sym, true≢false, length-append, length-drop, arith}
 use Rattle.std.specs.Prelude.{slice_get, ⊤}
 use Rattle.std.proofs.lemmas.Bool.{ltb-true}
 use Rattle.std.proofs.lemmas.Option.{slice_get_within}
@@ -7,7 +8,8 @@ use Rattle.stanza_tree.specs.declared.frame.Entry.{Entry}
 use Rattle.stanza_model.specs.declared.stanza.Stanza.{Stanza}
 use Rattle.sm_counters.proofs.CountLaws.{number-some}
 use Rattle.sm_queue.specs.Queues.{has_room, most_waiting}
-use Rattle.house_model.specs.Sessions.{Hold, Held, Away, Ended, Rest, Op, Push, Pull, Request, Enable, Ack, Act, Drop, Resume, End, Part, pushed, acked, resumed, step_if}
+use Rattle.house_model.specs.Sessions.{Hold, Held, Away, Ended, Rest, Op, Push, Pull, Request, Enable, Ack, Act}
+use Rattle.house_model.specs.Sessions.{Drop, Resume, End, Part, pushed, acked, resumed, step_if}
 use Rattle.house_model.specs.Traffic.{Traffic, Ordered, whole, waiting, queue, give, give_up, ask, enable, handled, ack, resume, act}
 
 pub none_ordered : Ordered whole.none

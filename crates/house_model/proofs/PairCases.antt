@@ -11,7 +11,9 @@ use Rattle.stanza_model.specs.declared.kinds.PresenceForm.TheVariants.{Available
 use Rattle.stanza_model.specs.declared.shared.Outcome.{Outcome}
 use Rattle.stanza_model.specs.declared.shared.Show.{Show}
 use Rattle.stanza_model.specs.declared.shared.Side.{Side}
-use Rattle.subscription_pairs.specs.Changes.{after_pushes, asked, both_ended, effects_of, is_made, made, pushed, pushed_mine, pushed_theirs, removal, row, row_subscribe, row_subscribed, row_unsubscribe, row_unsubscribed, sees, subscription, then_cancelled, untold}
+use Rattle.subscription_pairs.specs.Changes.{after_pushes, asked, both_ended, effects_of, is_made, made, pushed, pushed_mine}
+use Rattle.subscription_pairs.specs.Changes.{pushed_theirs, removal, row, row_subscribe, row_subscribed, row_unsubscribe}
+use Rattle.subscription_pairs.specs.Changes.{row_unsubscribed, sees, subscription, then_cancelled, untold}
 use Rattle.subscription_pairs.specs.Deliveries.{delivered, shown}
 use Rattle.subscription_pairs.specs.Limits.{fits}
 use Rattle.subscription_pairs.specs.Users.{User, new_contact, side_of, user_of}

@@ -1,5 +1,6 @@
 -- A session departs by a Sweep where it is over or due, or by a Bind of its address, and not otherwise.
-use Rattle.std.proofs.Common.{◌≡◌, ◌⊎◌, inl, inr, ℕ, zero, suc, ◌+◌, ◌≤◌, List, [], ◌∷◌, ◌++◌, Option, Some, None, Bool, true, false, refl, sym, ap, ◌∙◌, true≢false, map}
+use Rattle.std.proofs.Common.{◌≡◌, ◌⊎◌, inl, inr, ℕ, zero, suc, ◌+◌, ◌≤◌, List, [], ◌∷◌, ◌++◌, Option, Some}
+use Rattle.std.proofs.Common.{None, Bool, true, false, refl, sym, ap, ◌∙◌, true≢false, map}
 use Rattle.std.specs.Prelude.{nat_lt, not, ⊤}
 use Rattle.std.proofs.lemmas.Bool.{ltb-false}
 use Rattle.stanza_tree.specs.declared.frame.Entry.{Entry}
@@ -12,7 +13,8 @@ use Rattle.house_model.specs.declared.event.Event.{Event}
 use Rattle.house_model.specs.declared.event.Event.TheVariants as event
 use Rattle.house_model.specs.declared.reply.Reply.TheVariants as reply
 use Rattle.house_model.specs.Numbered.{least, or_here}
-use Rattle.house_model.specs.Sessions.{Hold, Held, Away, Ended, Gone, Rest, Session, Op, Push, Ack, Drop, Resume, End, Part, pushed, acked, resumed, begun, step_if, session_step}
+use Rattle.house_model.specs.Sessions.{Hold, Held, Away, Ended, Gone, Rest, Session, Op, Push, Ack, Drop, Resume, End}
+use Rattle.house_model.specs.Sessions.{Part, pushed, acked, resumed, begun, step_if, session_step}
 use Rattle.house_model.specs.Traffic.{Traffic, whole, KeptTraffic}
 use Rattle.house_model.specs.Routing.{departure}
 use Rattle.house_model.specs.States.{State, World, Kept, keep, keep_by, keep_session, keep_world}

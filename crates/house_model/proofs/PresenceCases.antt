@@ -1,5 +1,6 @@
 -- Each effect of a presence is a copy of it for a session that is found, what the server says to its sender, or what is kept of its sender.
-use Rattle.std.proofs.Common.{◌≡◌, ℕ, ℤ, ◌≤◌, inl, inr, List, [], ◌∷◌, ◌++◌, map, length, Option, Some, None, Bool, true, false, not, ◌&&◌, if◌then◌else◌, refl, sym, subst, arith, IfSome}
+use Rattle.std.proofs.Common.{◌≡◌, ℕ, ℤ, ◌≤◌, inl, inr, List, [], ◌∷◌, ◌++◌, map, length, Option, Some, None, Bool, true}
+use Rattle.std.proofs.Common.{false, not, ◌&&◌, if◌then◌else◌, refl, sym, subst, arith, IfSome}
 use Rattle.std.proofs.lemmas.Bool.{cases_lt, lt-ltb, le-ltb}
 use Rattle.std.specs.List.{AllByRecursion}
 use Rattle.jid_core.specs.Addresses.{Address, address_text}
@@ -26,17 +27,21 @@ use Rattle.stanza_router.specs.declared.places.Place.{Place}
 use Rattle.stanza_router.specs.declared.places.Place.TheVariants.{Account, Server, User, UserAt, Service, Room, RoomAt, Foreign}
 use Rattle.roster_book.specs.Requests.{roster_get}
 use Rattle.presence_core.specs.Broadcasts as broadcasts
-use Rattle.presence_core.specs.Broadcasts.{announced, asked_by, available, is_among, is_sent, leaves, others, seen_by, set_unavailable, shown_to, told_others, told_watchers, unavailable, welcome, with_priority}
+use Rattle.presence_core.specs.Broadcasts.{announced, asked_by, available, is_among, is_sent, leaves, others, seen_by, set_unavailable}
+use Rattle.presence_core.specs.Broadcasts.{shown_to, told_others, told_watchers, unavailable, welcome, with_priority}
 use Rattle.presence_core.specs.Copies.{copies, copy_to, presence_text}
 use Rattle.presence_core.specs.DirectedPresence.{delivered, directed, has_room, with_address, without_address}
 use Rattle.presence_core.specs.Priorities.{priority_in}
 use Rattle.house_model.specs.Lookups.{has_user, here}
 use Rattle.house_model.specs.Presences.{asking, directed_by, in_sight, length_sent, most_of_presence, named, party, shown, shown_of, watchers}
-use Rattle.house_model.specs.Routing.{Scene, between, broadcast, departure, departure_by, directed_if, error_to, has_account, live_for, own_contacts, presence, presence_to, roster_changed, subscribed, to_address, to_be_in_room, to_user, unless_full, user_in}
+use Rattle.house_model.specs.Routing.{Scene, between, broadcast, departure, departure_by, directed_if, error_to}
+use Rattle.house_model.specs.Routing.{has_account, live_for, own_contacts, presence, presence_to, roster_changed}
+use Rattle.house_model.specs.Routing.{subscribed, to_address, to_be_in_room, to_user, unless_full, user_in}
 use Rattle.house_model.specs.States.{World}
 use Rattle.house_model.specs.Traffic.{KeptTraffic}
 use Rattle.house_model.proofs.PairCases.{Tells, subscription_all}
-use Rattle.house_model.proofs.Founds.{AreFound, IsFound, IsHere, append_all, either_all, filter_all, in_sight_found, live_for_found, named_found, watchers_found}
+use Rattle.house_model.proofs.Founds.{AreFound, IsFound, IsHere, append_all, either_all, filter_all}
+use Rattle.house_model.proofs.Founds.{in_sight_found, live_for_found, named_found, watchers_found}
 
 -- What holds of all that the server says to a stanza's sender, of the stanza's copies for sessions that are found, and of what is kept of
 -- the sender

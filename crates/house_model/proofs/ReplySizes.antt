@@ -1,9 +1,11 @@
 -- How long a reply is, by its address, its id, its type and its content.
-use Rattle.std.proofs.Common.{◌≡◌, ℕ, ◌+◌, ◌*◌, ◌≤◌, List, [], ◌∷◌, ◌++◌, length, Option, Some, None, Bool, true, false, codes, bytes_eq, refl, ap, ◌∙◌, arith, length-append, if◌then◌else◌}
+use Rattle.std.proofs.Common.{◌≡◌, ℕ, ◌+◌, ◌*◌, ◌≤◌, List, [], ◌∷◌, ◌++◌, length, Option, Some, None, Bool, true, false}
+use Rattle.std.proofs.Common.{codes, bytes_eq, refl, ap, ◌∙◌, arith, length-append, if◌then◌else◌}
 use Rattle.std.specs.Prelude.{IfSome}
 use Rattle.std.specs.Option.{option_map}
 use Rattle.std.proofs.lemmas.Grind.{common_steps}
-use Rattle.stanza_tree.specs.Spelling.{value_text, assigned, needs_prefix, unprefixed, declarations, attributes, named, opened, closed, client_space, texts_under, text_under, text}
+use Rattle.stanza_tree.specs.Spelling.{value_text, assigned, needs_prefix, unprefixed, declarations, attributes, named}
+use Rattle.stanza_tree.specs.Spelling.{opened, closed, client_space, texts_under, text_under, text}
 use Rattle.stanza_tree.specs.declared.node.Attr.{Attr}
 use Rattle.stanza_tree.specs.declared.node.Element.{Element}
 use Rattle.stanza_tree.specs.declared.node.Name.{Name}
@@ -19,7 +21,10 @@ use Rattle.stanza_model.specs.Kinds.{kind_name}
 use Rattle.stanza_model.specs.Replies.{reply, one_child, result_of, error_of}
 use Rattle.stanza_model.specs.Stanzas.{kind_in, to_in, id_in}
 use Rattle.stanza_model.specs.declared.condition.Condition.{Condition}
-use Rattle.stanza_model.specs.declared.condition.Condition.TheVariants.{BadRequest, Conflict, FeatureNotImplemented, Forbidden, ItemNotFound, JidMalformed, NotAcceptable, NotAllowed, NotAuthorized, RegistrationRequired, RemoteServerNotFound, ResourceConstraint, ServiceUnavailable, UnexpectedRequest}
+use Rattle.stanza_model.specs.declared.condition.Condition.TheVariants.{BadRequest, Conflict, FeatureNotImplemented, Forbidden, ItemNotFound}
+use Rattle.stanza_model.specs.declared.condition.Condition.TheVariants.{JidMalformed, NotAcceptable, NotAllowed, NotAuthorized}
+use Rattle.stanza_model.specs.declared.condition.Condition.TheVariants.{RegistrationRequired, RemoteServerNotFound, ResourceConstraint}
+use Rattle.stanza_model.specs.declared.condition.Condition.TheVariants.{ServiceUnavailable, UnexpectedRequest}
 use Rattle.stanza_model.specs.declared.kinds.Kind.{Kind}
 use Rattle.stanza_model.specs.declared.kinds.Kind.TheVariants as kind
 use Rattle.stanza_model.specs.declared.stanza.Stanza.{Stanza}

@@ -7,7 +7,8 @@ use Rattle.stanza_model.specs.Replies.{refused}
 use Rattle.stanza_model.specs.Rosters.{roster_space}
 use Rattle.stanza_model.specs.Stanzas.{to_in}
 use Rattle.stanza_model.specs.declared.condition.Condition.{Condition}
-use Rattle.stanza_model.specs.declared.condition.Condition.TheVariants.{BadRequest, ItemNotFound, NotAcceptable, NotAllowed, RemoteServerNotFound, ResourceConstraint, ServiceUnavailable}
+use Rattle.stanza_model.specs.declared.condition.Condition.TheVariants.{BadRequest, ItemNotFound, NotAcceptable, NotAllowed}
+use Rattle.stanza_model.specs.declared.condition.Condition.TheVariants.{RemoteServerNotFound, ResourceConstraint, ServiceUnavailable}
 use Rattle.stanza_model.specs.declared.effect.Change.{Change}
 use Rattle.stanza_model.specs.declared.effect.Change.TheVariants as change
 use Rattle.stanza_model.specs.declared.effect.Effect.{Effect}
@@ -31,7 +32,8 @@ use Rattle.roster_laws.specs.Keeping.{AreKept, noted_all}
 use Rattle.roster_laws.proofs.EffectLemmas.{IsQuiet, quiet_both, quiet_either, quiet_if, quiet_map, quiet_refused}
 use Rattle.roster_laws.proofs.KeepLemmas.{quiet_kept, removed_kept, set_kept, subscription_kept}
 use Rattle.presence_core.specs.Broadcasts as broadcasts
-use Rattle.presence_core.specs.Broadcasts.{announced, asked_by, leaves, others, seen_by, set_unavailable, shown_to, told_others, told_watchers, welcome, with_priority}
+use Rattle.presence_core.specs.Broadcasts.{announced, asked_by, leaves, others, seen_by, set_unavailable, shown_to}
+use Rattle.presence_core.specs.Broadcasts.{told_others, told_watchers, welcome, with_priority}
 use Rattle.presence_core.specs.Copies.{copies, copy_to, presence_text}
 use Rattle.presence_core.specs.DirectedPresence.{directed, delivered, has_room, with_address, without_address}
 use Rattle.presence_core.specs.Priorities.{priority_in}
@@ -39,7 +41,10 @@ use Rattle.house_model.specs.Effects.{apply, apply_all}
 use Rattle.house_model.specs.Lookups.{has_user, here, sessions_of}
 use Rattle.house_model.specs.Presences.{asking, directed_by, length_sent, most_of_presence, named, party, shown, watchers}
 use Rattle.house_model.specs.Requests.{pings, begins_session, binds_resource, discovers, asks_a_room, gets, sets}
-use Rattle.house_model.specs.Routing.{Scene, between, broadcast, departure, departure_by, directed_if, effects_at, effects_by, effects_in, error_to, has_account, iq, live_for, message, own_contacts, parted, presence, presence_to, receivers, roster_changed, subscribed, to_account, to_address, to_be_in_room, to_no_room, to_room, to_server, to_service, to_session, to_user, to_users, unless_full, user_in, user_removed}
+use Rattle.house_model.specs.Routing.{Scene, between, broadcast, departure, departure_by, directed_if, effects_at, effects_by, effects_in}
+use Rattle.house_model.specs.Routing.{error_to, has_account, iq, live_for, message, own_contacts, parted, presence, presence_to, receivers}
+use Rattle.house_model.specs.Routing.{roster_changed, subscribed, to_account, to_address, to_be_in_room, to_no_room, to_room, to_server}
+use Rattle.house_model.specs.Routing.{to_service, to_session, to_user, to_users, unless_full, user_in, user_removed}
 use Rattle.house_model.specs.States.{World}
 use Rattle.house_model.specs.Steps.{effect_of, set}
 use Rattle.house_model.specs.Traffic.{KeptTraffic, brief}

@@ -1,5 +1,6 @@
 -- What two users are told of their subscription, and a user of its roster, is small.
-use Rattle.std.proofs.Common.{◌≡◌, ℕ, ◌+◌, ◌≤◌, List, [], ◌∷◌, ◌++◌, map, length, sum, Option, Some, None, Bool, true, false, cond, codes, refl, sym, ap, subst, arith, length-append}
+use Rattle.std.proofs.Common.{◌≡◌, ℕ, ◌+◌, ◌≤◌, List, [], ◌∷◌, ◌++◌, map, length, sum, Option, Some, None, Bool, true}
+use Rattle.std.proofs.Common.{false, cond, codes, refl, sym, ap, subst, arith, length-append}
 use Rattle.std.specs.Prelude.{IfSome, unwrap_or}
 use Rattle.std.proofs.lemmas.List.Sums.{sum_by-cons}
 use Rattle.std.proofs.lemmas.Option.{same_Some}

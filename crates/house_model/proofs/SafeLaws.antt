@@ -1,5 +1,6 @@
 -- The promises, of every legal history.
-use Rattle.std.proofs.Common.{◌≡◌, ℕ, ◌+◌, List, [], ◌∷◌, ◌++◌, drop, Option, Some, None, Bool, true, false, eq-eqb, refl, sym, ap, ◌∙◌, subst, true≢false, if◌then◌else◌}
+use Rattle.std.proofs.Common.{◌≡◌, ℕ, ◌+◌, List, [], ◌∷◌, ◌++◌, drop, Option, Some, None, Bool, true, false}
+use Rattle.std.proofs.Common.{eq-eqb, refl, sym, ap, ◌∙◌, subst, true≢false, if◌then◌else◌}
 use Rattle.stanza_tree.specs.declared.frame.Entry.{Entry}
 use Rattle.stanza_model.specs.declared.stanza.Stanza.{Stanza}
 use Rattle.sm_counters.specs.Numbers.{count_of}

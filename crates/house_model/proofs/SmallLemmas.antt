@@ -1,5 +1,6 @@
 -- What comes of a stanza that a stream can bring is small.
-use Rattle.std.proofs.Common.{◌≡◌, ℕ, ◌+◌, ◌≤◌, inl, inr, List, [], ◌∷◌, ◌++◌, length, Option, Some, None, Bool, true, false, codes, refl, sym, ap, subst, arith, length-append, if◌then◌else◌, cond}
+use Rattle.std.proofs.Common.{◌≡◌, ℕ, ◌+◌, ◌≤◌, inl, inr, List, [], ◌∷◌, ◌++◌, length, Option, Some, None, Bool, true, false}
+use Rattle.std.proofs.Common.{codes, refl, sym, ap, subst, arith, length-append, if◌then◌else◌, cond}
 use Rattle.std.specs.Prelude.{IfSome, unwrap_or}
 use Rattle.std.specs.List.{AllByRecursion}
 use Rattle.std.specs.Option.{option_map}
@@ -16,7 +17,8 @@ use Rattle.jid_core.specs.Addresses.{Address, bare, local_text, resource_text, a
 use Rattle.stanza_model.specs.Errors.{plain_attr}
 use Rattle.stanza_model.specs.Kinds.{message_form, presence_form, iq_form}
 use Rattle.stanza_model.specs.Replies.{one_child, result_of}
-use Rattle.stanza_model.specs.Stanzas.{kind_of, type_of, id_of, address_in, is_unreadable, has_wrong_content, faulty, unless_unreadable, presence_by, iq_by, stanza_as, to_in, id_in, element_in}
+use Rattle.stanza_model.specs.Stanzas.{kind_of, type_of, id_of, address_in, is_unreadable, has_wrong_content, faulty}
+use Rattle.stanza_model.specs.Stanzas.{unless_unreadable, presence_by, iq_by, stanza_as, to_in, id_in, element_in}
 use Rattle.stanza_model.specs.declared.condition.Condition.TheVariants.{BadRequest, JidMalformed}
 use Rattle.stanza_model.specs.declared.effect.Effect.{Effect}
 use Rattle.stanza_model.specs.declared.here.Here.{Here}

@@ -6,10 +6,12 @@ use Rattle.sm_resume.specs.declared.decision.Cause.TheVariants.{Moved}
 use Rattle.session_table.specs.declared.line.Line as stage
 use Rattle.session_table.specs.declared.line.Line.TheVariants.{Empty, Fresh, Logged, Bound, Over}
 use Rattle.house_model.specs.Numbered.{put}
-use Rattle.house_model.specs.Sessions.{Hold, Held, Away, Ended, Gone, Session, Op, Push, Pull, Request, Enable, Ack, Tell, Act, Drop, Resume, End, Part, Marks, begun, unmade, session_step}
+use Rattle.house_model.specs.Sessions.{Hold, Held, Away, Ended, Gone, Session, Op, Push, Pull, Request, Enable, Ack, Tell}
+use Rattle.house_model.specs.Sessions.{Act, Drop, Resume, End, Part, Marks, begun, unmade, session_step}
 use Rattle.house_model.specs.Traffic.{Traffic, whole}
 use Rattle.house_model.specs.States.{Line, World, empty_line, opening}
-use Rattle.house_model.specs.Effects.{Effect, Open, At, Begin, On, Note, LineOp, Log, Say, Said, Leave, Close, logged, line_step, over_line, bound_line, moved_if, settled, touch, apply, apply_all}
+use Rattle.house_model.specs.Effects.{Effect, Open, At, Begin, On, Note, LineOp, Log, Say, Said, Leave, Close, logged, line_step}
+use Rattle.house_model.specs.Effects.{over_line, bound_line, moved_if, settled, touch, apply, apply_all}
 use Rattle.house_model.specs.Sound.{Sound}
 use Rattle.house_model.proofs.PutLemmas.{put_is, put_else}
 use Rattle.house_model.proofs.OrderLemmas.{none_ordered}

@@ -1,5 +1,6 @@
 -- What is kept of a session's traffic follows what is done with the traffic.
-use Rattle.std.proofs.Common.{◌≡◌, ℕ, zero, suc, ◌+◌, ◌-◌, ◌<◌, ◌≤◌, ◌^◌, List, [], ◌∷◌, length, drop, Option, Some, None, refl, sym, ap, ◌∙◌, length-append, length-drop, arith}
+use Rattle.std.proofs.Common.{◌≡◌, ℕ, zero, suc, ◌+◌, ◌-◌, ◌<◌, ◌≤◌, ◌^◌, List, [], ◌∷◌, length, drop, Option, Some}
+use Rattle.std.proofs.Common.{None, refl, sym, ap, ◌∙◌, length-append, length-drop, arith}
 use Rattle.std.specs.Prelude.{slice_get}
 use Rattle.std.specs.Option.{option_map}
 use Rattle.std.proofs.lemmas.List.{drop-append-le, drop-drop}
@@ -9,7 +10,8 @@ use Rattle.stanza_model.specs.declared.stanza.Stanza.{Stanza}
 use Rattle.sm_counters.specs.Numbers.{count_of, number}
 use Rattle.sm_counters.proofs.CountLaws.{number-some, number-none, number-is, number-is_none}
 use Rattle.sm_resume.specs.declared.decision.Cause.TheVariants.{Overfull, TooHigh}
-use Rattle.house_model.specs.Traffic.{Traffic, KeptTraffic, Ordered, whole, brief, keep_traffic, give, give_up, handled, ack, resume, without, kept_give, kept_give_up, kept_handled, kept_ack, kept_resume}
+use Rattle.house_model.specs.Traffic.{Traffic, KeptTraffic, Ordered, whole, brief, keep_traffic, give, give_up, handled, ack, resume}
+use Rattle.house_model.specs.Traffic.{without, kept_give, kept_give_up, kept_handled, kept_ack, kept_resume}
 
 -- an entry that waits, in the list of all
 slice_past : {A : Type 0} (xs : List A) (n i : ℕ) → slice_get (drop n xs) i ≡ slice_get xs (n + i)

@@ -9,7 +9,8 @@ use Rattle.house_model.specs.Traffic.{Traffic, whole, brief}
 use Rattle.house_model.specs.States.{World, Head, State, Kept, keep, keep_world, opening}
 use Rattle.house_model.specs.Effects.{Effect, apply_all}
 use Rattle.house_model.specs.Steps.{verdict, turn}
-use Rattle.house_model.specs.Histories.{Outcome, Made, Short, Turn, step, kept_step, line_of, Meets, MayBeShort, IsOutcome, passed, next_by, next, after, kept_next_by, Allowed, Legal, IsOpening, StandsFor, made, short, ended}
+use Rattle.house_model.specs.Histories.{Outcome, Made, Short, Turn, step, kept_step, line_of, Meets, MayBeShort, IsOutcome, passed, next_by}
+use Rattle.house_model.specs.Histories.{next, after, kept_next_by, Allowed, Legal, IsOpening, StandsFor, made, short, ended}
 use Rattle.house_model.specs.Sound.{Sound}
 use Rattle.house_model.proofs.KeepLemmas.{all_kept}
 use Rattle.house_model.proofs.SoundLemmas.{all_sound, opening_sound}

@@ -6,7 +6,8 @@ use Rattle.house_model.specs.Traffic.{Traffic, whole}
 use Rattle.house_model.specs.States.{World, State, Kept, keep}
 use Rattle.house_model.specs.Effects.{Effect, Open, At, Begin, On, Note, apply, apply_all}
 use Rattle.house_model.specs.Steps.{verdict, turn}
-use Rattle.house_model.specs.Histories.{Outcome, Made, Short, Turn, MayBeShort, IsOutcome, next_by, next, after, Legal, opened_by, openings, IsOpening, StandsFor}
+use Rattle.house_model.specs.Histories.{Outcome, Made, Short, Turn, MayBeShort, IsOutcome, next_by, next, after}
+use Rattle.house_model.specs.Histories.{Legal, opened_by, openings, IsOpening, StandsFor}
 use Rattle.house_model.proofs.VerdictLemmas.{opens_one, opens_in, verdict_opens}
 
 -- the number of turns is the length of the history

@@ -18,10 +18,12 @@ use Rattle.house_model.specs.Sessions.{Hold, Held, Away, Ended, Gone, Session, E
 use Rattle.house_model.specs.Traffic.{KeptTraffic, brief, kept_sent}
 use Rattle.house_model.specs.States.{Kept, World}
 use Rattle.house_model.specs.Effects.{Effect, Open, At, Begin, Say, Leave, Close, On}
-use Rattle.house_model.specs.Gate.{Verdict, Waits, Knows, Holds, Needs, to_login, to_bind, to_manage, to_act, to_ask, to_pull, most_answers, left, closed, gate_at}
+use Rattle.house_model.specs.Gate.{Verdict, Waits, Knows, Holds, Needs, to_login, to_bind, to_manage, to_act}
+use Rattle.house_model.specs.Gate.{to_ask, to_pull, most_answers, left, closed, gate_at}
 use Rattle.house_model.specs.Lookups.{session_at}
 use Rattle.house_model.specs.Routing.{departure, effects}
-use Rattle.house_model.specs.Steps.{logs_in, replaces, binds, enables, takes, resumes_by, is_known, resumes, effect_of, acts, acks, asks, requests, gives_entry, pulls, leaves, sweeps, due, body, verdict}
+use Rattle.house_model.specs.Steps.{logs_in, replaces, binds, enables, takes, resumes_by, is_known, resumes, effect_of, acts, acks}
+use Rattle.house_model.specs.Steps.{asks, requests, gives_entry, pulls, leaves, sweeps, due, body, verdict}
 use Rattle.house_model.specs.Histories.{opened_by}
 use Rattle.house_model.proofs.GateLemmas.{gate_leads}
 

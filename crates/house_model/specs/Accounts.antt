@@ -1,5 +1,6 @@
 -- A client that counts as XEP-0198 has it, told beside the house's history: what it has to send, and what it handled.
-use Rattle.std.specs.Prelude.{◌≡◌, ◌⊎◌, ℕ, zero, suc, ◌+◌, ◌-◌, ◌^◌, ◌<◌, ◌≤◌, ◌==◌, List, [], ◌∷◌, ◌++◌, length, take, drop, slice_get, Some, Bool, true, false, ⊤}
+use Rattle.std.specs.Prelude.{◌≡◌, ◌⊎◌, ℕ, zero, suc, ◌+◌, ◌-◌, ◌^◌, ◌<◌, ◌≤◌, ◌==◌, List, [], ◌∷◌, ◌++◌}
+use Rattle.std.specs.Prelude.{length, take, drop, slice_get, Some, Bool, true, false, ⊤}
 use Rattle.stanza_tree.specs.declared.frame.Entry.{Entry}
 use Rattle.stanza_model.specs.declared.stanza.Stanza.{Stanza}
 use Rattle.sm_counters.specs.Numbers.{count_of, number}

@@ -5,7 +5,7 @@ use Rattle.stanza_tree.specs.declared.node.Element.{Element}
 use Rattle.stanza_model.specs.Stanzas.{stanza_of}
 use Rattle.stanza_model.specs.declared.stanza.Stanza.{Stanza}
 use Rattle.stanza_model.specs.declared.stanza.Stanza.TheVariants.{Faulty}
-use Rattle.stream_grammar.specs.Proper.{IsProper}
+use Rattle.stream_grammar.specs.grammar.Proper.{IsProper}
 use Rattle.jid_core.specs.Addresses.{Address}
 use Rattle.house_model.specs.declared.event.Event.{Event}
 use Rattle.house_model.specs.declared.event.Event.TheVariants.{OpenLine, Login, Bind, Enable, Resume, Act, Ack, Ask, Pull, DropLine, CloseLine, Sweep}

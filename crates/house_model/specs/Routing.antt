@@ -9,7 +9,8 @@ use Rattle.stanza_model.specs.Replies.{result_of, said_to, refused}
 use Rattle.stanza_model.specs.Rosters.{roster_space}
 use Rattle.stanza_model.specs.Stanzas.{to_in}
 use Rattle.stanza_model.specs.declared.condition.Condition.{Condition}
-use Rattle.stanza_model.specs.declared.condition.Condition.TheVariants.{BadRequest, ItemNotFound, NotAcceptable, NotAllowed, RemoteServerNotFound, ResourceConstraint, ServiceUnavailable}
+use Rattle.stanza_model.specs.declared.condition.Condition.TheVariants.{BadRequest, ItemNotFound, NotAcceptable, NotAllowed}
+use Rattle.stanza_model.specs.declared.condition.Condition.TheVariants.{RemoteServerNotFound, ResourceConstraint, ServiceUnavailable}
 use Rattle.stanza_model.specs.declared.effect.Effect.{Effect}
 use Rattle.stanza_model.specs.declared.here.Here.{Here}
 use Rattle.stanza_model.specs.declared.kinds.MessageForm.{MessageForm}

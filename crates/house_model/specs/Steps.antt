@@ -1,5 +1,6 @@
 -- The events, each with its answer and what it does, once the gate has let it through. All is read off what the code keeps.
-use Rattle.std.specs.Prelude.{ℕ, ◌+◌, ◌/◌, ◌%◌, max, min, nat_lt, List, [], ◌∷◌, ◌++◌, map, slice_get, slice_index_or, flat_map, bytes_eq, Option, Some, None, is_some, Bool, true, false, not, ◌&&◌, if◌then◌else◌}
+use Rattle.std.specs.Prelude.{ℕ, ◌+◌, ◌/◌, ◌%◌, max, min, nat_lt, List, [], ◌∷◌, ◌++◌, map, slice_get, slice_index_or, flat_map}
+use Rattle.std.specs.Prelude.{bytes_eq, Option, Some, None, is_some, Bool, true, false, not, ◌&&◌, if◌then◌else◌}
 use Rattle.stanza_tree.specs.declared.frame.Entry.{Entry}
 use Rattle.stanza_tree.specs.Entries.{frame}
 use Rattle.jid_core.specs.Addresses.{Address, same_bare, address_text}
@@ -23,7 +24,8 @@ use Rattle.house_model.specs.Answers.{answer_text, request_text}
 use Rattle.house_model.specs.Numbered.{least, passing}
 use Rattle.house_model.specs.Lookups.{is_there, is_at, session_at, user_place}
 use Rattle.house_model.specs.Routing.{departure, effects}
-use Rattle.house_model.specs.Sessions.{Hold, Held, Away, Ended, Session, Push, Pull, Request, Enable, Ack, Tell, Act, Resume, End, Part, Marks, WantsRoster, Pushed, Shown, Hidden, Directs, Ways}
+use Rattle.house_model.specs.Sessions.{Hold, Held, Away, Ended, Session, Push, Pull, Request, Enable, Ack, Tell, Act, Resume}
+use Rattle.house_model.specs.Sessions.{End, Part, Marks, WantsRoster, Pushed, Shown, Hidden, Directs, Ways}
 use Rattle.house_model.specs.Traffic.{KeptTraffic, kept_sent, kept_inward, brief}
 use Rattle.house_model.specs.States.{Head, House, Kept, World}
 use Rattle.house_model.specs.Effects.{Effect, Open, At, Begin, On, Note, Log, Say, Said, Leave, Close, apply_all}
@@ -76,7 +78,8 @@ most_sessions = 512
 abbrev pub has_place : Kept → Address → Bool
 has_place k a =
     nat_lt (passing k.world.made (λ s. is_there (k.world.sessions s) && not (is_at a (k.world.sessions s)))) most_sessions
-    && nat_lt (passing k.world.made (λ s. is_there (k.world.sessions s) && (same_bare (k.world.sessions s).rest.address a && not (is_at a (k.world.sessions s))))) most_of_user
+    && nat_lt (passing k.world.made (λ s. is_there (k.world.sessions s) &&
+    (same_bare (k.world.sessions s).rest.address a && not (is_at a (k.world.sessions s))))) most_of_user
 
 -- Departure: the session ends, others are told, and it is there no more. It is over with this cause, unless it was over already.
 abbrev pub departs : World KeptTraffic → (s : ℕ) → Cause → List Effect
@@ -193,7 +196,8 @@ abbrev pub body : Kept → Event → Pass → Verdict
 body k e (Stop v) = v
 body k (event.OpenLine w) Free = opens k w
 body k (event.Login w user) Waits = logs_in w (user_place user k.head.users)
-body k (event.Bind w id resource t dice) (Knows c u) = binds (has_place k (bound_address k u (resource_or dice resource))) k w c (bound_address k u (resource_or dice resource)) id
+body k (event.Bind w id resource t dice) (Knows c u) = binds (has_place k (bound_address k u (resource_or dice resource))) k w c
+    (bound_address k u (resource_or dice resource)) id
 body k (event.Enable w wants dice) (Knows c u) = does reply.Done (At w (Say answer.Unexpected) ∷ [])
 body k (event.Enable w wants dice) (Holds c s) = enables (k.world.sessions s).counts w s (id_if wants s dice)
 body k (event.Resume w id h t) (Knows c u) = resumes k w c u id h

@@ -1,5 +1,6 @@
 -- Lowering the letters of ASCII in a text lowers them in its characters.
-use Rattle.std.proofs.Common.{◌≡◌, ℕ, ◌≤◌, true, List, [], ◌∷◌, ◌++◌, map, get_or, chars, encode_utf8_all, IsUtf8, All, refl, sym, ap, ap₂, ◌∙◌, arith, inl, inr, append-nil}
+use Rattle.std.proofs.Common.{◌≡◌, ℕ, ◌≤◌, true, List, [], ◌∷◌, ◌++◌, map, get_or, chars, encode_utf8_all, IsUtf8}
+use Rattle.std.proofs.Common.{All, refl, sym, ap, ap₂, ◌∙◌, arith, inl, inr, append-nil}
 use Rattle.std.proofs.Math.Utf8.{scalar, low_scalar}
 use Rattle.std.proofs.lemmas.Bool.{cases_lt, and_parts, and_from}
 use Rattle.std.proofs.lemmas.Bool.Decides.{nat_tests}

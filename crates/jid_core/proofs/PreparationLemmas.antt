@@ -1,7 +1,10 @@
 -- What preparation gives is prepared, what is prepared stays as it is, and each prepared part is a prepared resource and UTF-8.
-use Rattle.std.proofs.Common.{◌≡◌, ℕ, ◌-◌, ◌<◌, ◌≤◌, Bool, true, false, cond, not, ◌&&◌, ◌||◌, ◌==◌, nat_lt, bytes_eq, List, [], ◌∷◌, length, get_or, take, chars, encode_utf8_all, Option, Some, None, Ok, Err, IsUtf8, IsTrue, ◌↔◌, refl, sym, ap, subst, ◌∙◌, arith}
+use Rattle.std.proofs.Common.{◌≡◌, ℕ, ◌-◌, ◌<◌, ◌≤◌, Bool, true, false, cond, not, ◌&&◌, ◌||◌, ◌==◌, nat_lt, bytes_eq}
+use Rattle.std.proofs.Common.{List, [], ◌∷◌, length, get_or, take, chars, encode_utf8_all, Option, Some, None, Ok, Err}
+use Rattle.std.proofs.Common.{IsUtf8, IsTrue, ◌↔◌, refl, sym, ap, subst, ◌∙◌, arith}
 use Rattle.std.proofs.Math.Utf8.{scalar}
-use Rattle.std.proofs.lemmas.Bool.{cond-true, cond-false, and_parts, and_from, and_left, and_right, not-true, not_from_true, not_from_false, ne_eqb, false_from_ne_true, ltb-true, ltb-false, lt-ltb, le-ltb, eqb-true}
+use Rattle.std.proofs.lemmas.Bool.{cond-true, cond-false, and_parts, and_from, and_left, and_right, not-true, not_from_true}
+use Rattle.std.proofs.lemmas.Bool.{not_from_false, ne_eqb, false_from_ne_true, ltb-true, ltb-false, lt-ltb, le-ltb, eqb-true}
 use Rattle.std.proofs.lemmas.Bool.Decides.{nat_tests}
 use Rattle.std.proofs.lemmas.List.{length-map, get_or_default}
 use Rattle.std.proofs.lemmas.List.Folds.{list_all-map}
@@ -26,9 +29,12 @@ use Rattle.idna.proofs.ValidityLemmas.{denies-STD3}
 use Rattle.jid_core.specs.declared.fault.Which.{Which}
 use Rattle.jid_core.specs.declared.fault.Which.TheVariants.{Local, Domain, Resource}
 use Rattle.jid_core.specs.declared.fault.JidFault.TheVariants.{Long}
-use Rattle.jid_core.specs.Preparation.{is_refused, refused_at, has_size, is_fit, is_resource, is_local, has_labels, ascii_form, gives, is_domain, unless_long, unless_bad, unless_nfc, unless_none, local_of, in_nfc, resource_of, without_final_dot, in_labels, domain_of}
+use Rattle.jid_core.specs.Preparation.{is_refused, refused_at, has_size, is_fit, is_resource, is_local, has_labels, ascii_form}
+use Rattle.jid_core.specs.Preparation.{gives, is_domain, unless_long, unless_bad, unless_nfc, unless_none, local_of, in_nfc}
+use Rattle.jid_core.specs.Preparation.{resource_of, without_final_dot, in_labels, domain_of}
 use Rattle.jid_core.specs.AsciiParts.{is_resource_byte, is_local_byte, are_labels}
-use Rattle.jid_core.proofs.AsciiLemmas.{weaker, all-low, all-resource, is_fit-resource, is_fit-local, is_nfc-ascii, in_nfc-ascii, IsAscii-lowered, has_labels-ascii, ascii_form-ascii}
+use Rattle.jid_core.proofs.AsciiLemmas.{weaker, all-low, all-resource, is_fit-resource, is_fit-local, is_nfc-ascii}
+use Rattle.jid_core.proofs.AsciiLemmas.{in_nfc-ascii, IsAscii-lowered, has_labels-ascii, ascii_form-ascii}
 use Rattle.jid_core.proofs.FitLemmas.{is_fit-from_none, IsUtf8-is_fit, refused_at-fit}
 use Rattle.jid_core.proofs.LoweringLemmas.{IsUtf8-lowered, chars-lowered, lowered-lowered}
 use Rattle.jid_core.proofs.NfcLemmas.{is_plain_char, nfc-plain, nfc-some}

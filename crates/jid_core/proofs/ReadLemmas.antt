@@ -1,5 +1,6 @@
 -- What a prepared address is written as reads as that address.
-use Rattle.std.proofs.Common.{◌≡◌, ℕ, Bool, true, not, ◌==◌, List, [], ◌∷◌, ◌++◌, Option, Some, None, Ok, Result, refl, ap, ◌∙◌, arith, append_assoc, append-nil}
+use Rattle.std.proofs.Common.{◌≡◌, ℕ, Bool, true, not, ◌==◌, List, [], ◌∷◌, ◌++◌, Option, Some, None, Ok}
+use Rattle.std.proofs.Common.{Result, refl, ap, ◌∙◌, arith, append_assoc, append-nil}
 use Rattle.std.proofs.lemmas.Bool.{cond-true, cond-false, and_parts, and_from, not-true, eq-eqb}
 use Rattle.std.proofs.lemmas.Bool.Decides.{nat_tests}
 use Rattle.std.proofs.lemmas.List.Folds.{list_all-append}
@@ -8,7 +9,8 @@ use Rattle.std.specs.Option.{option_map, unwrap_or}
 use Rattle.jid_core.specs.Cuts.{before, after}
 use Rattle.jid_core.specs.declared.fault.JidFault.{JidFault}
 use Rattle.jid_core.specs.Preparation.{is_local, is_resource, local_of, domain_of, resource_of}
-use Rattle.jid_core.specs.Addresses.{Address, passes, is_prepared, local_text, resource_text, address_text, local_in, domain_in, some_of, part_of, joined, address_of}
+use Rattle.jid_core.specs.Addresses.{Address, passes, is_prepared, local_text, resource_text, address_text}
+use Rattle.jid_core.specs.Addresses.{local_in, domain_in, some_of, part_of, joined, address_of}
 use Rattle.jid_core.proofs.AsciiLemmas.{weaker}
 use Rattle.jid_core.proofs.PreparationLemmas.{is_name_byte, domain-bytes, local_lacks, local_stays, domain_stays, resource_stays}
 use Rattle.jid_core.proofs.AddressLemmas.{IsPrepared-is_prepared}

@@ -1,5 +1,6 @@
 -- What ports tell.
-use Rattle.std.specs.Prelude.{◌≡◌, ℕ, ◌+◌, ◌-◌, ◌^◌, nat_lt, nat_le, not, ◌&&◌, replicate, Bool, true, false, min, map, List, [], ◌∷◌, ◌++◌, length, take, drop, Option, Some, None}
+use Rattle.std.specs.Prelude.{◌≡◌, ℕ, ◌+◌, ◌-◌, ◌^◌, nat_lt, nat_le, not, ◌&&◌, replicate, Bool, true, false, min}
+use Rattle.std.specs.Prelude.{map, List, [], ◌∷◌, ◌++◌, length, take, drop, Option, Some, None}
 use Rattle.outside.specs.declared.ports.Post.{Post}
 use Rattle.outside.specs.Tapes.{Mark, shown}
 use Rattle.outside.specs.Doors.{DoorState, CleanDoorState, Untold}

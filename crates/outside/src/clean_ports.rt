@@ -158,7 +158,8 @@ impl Ports for CleanPorts {
         quota: u64,
     ) -> Result<Vec<Post<CleanDoor, MemClock, CleanDice>>, ListenFault>
         ensures posts { IfOk result (λ v. length v.items ≡ workers) }
-        ensures opened { IfOk result (λ v. Each CleanDoorState (Opened CleanDoorState (λ d. d.quota) (λ _. 0) (λ d. d.links) (λ _. None) quota) (map (λ p. p.door) v.items)) }
+        ensures opened { IfOk result (λ v. Each CleanDoorState (Opened CleanDoorState (λ d. d.quota) (λ _. 0) (λ d. d.links) (λ _. None) quota)
+            (map (λ p. p.door) v.items)) }
         ensures never { result ≡ Err ListenFault.Failed → ⊥ }
         ensures as_before { result ≡ Err ListenFault.NoMemory → self.new ≡ self.old }
         ensures handed { IfOk result (λ v. v.items ≡ map (opened_clean quota) (clean_posts workers self.old.left)) }

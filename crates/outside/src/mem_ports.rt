@@ -201,7 +201,8 @@ impl Ports for MemPorts {
         quota: u64,
     ) -> Result<Vec<Post<MemDoor, MemClock, MemDice>>, ListenFault>
         ensures posts { IfOk result (λ v. length v.items ≡ workers) }
-        ensures opened { IfOk result (λ v. Each DoorState (Opened DoorState (λ d. d.quota) (λ d. d.plan.faults) (λ d. d.links) (λ d. d.tapes) quota) (map (λ p. p.door) v.items)) }
+        ensures opened { IfOk result (λ v. Each DoorState (Opened DoorState (λ d. d.quota) (λ d. d.plan.faults) (λ d. d.links) (λ d. d.tapes) quota)
+            (map (λ p. p.door) v.items)) }
         ensures kept { self.old.plan.faults ≤ self.new.plan.faults }
         ensures cause { result ≡ Err ListenFault.Failed → Rose self.old.plan.faults self.new.plan.faults }
         ensures as_before { result ≡ Err ListenFault.NoMemory → self.new ≡ self.old }

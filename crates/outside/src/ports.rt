@@ -62,7 +62,8 @@ pub trait Ports {
         quota: u64,
     ) -> Result<Vec<Post<Self::Door, Self::Clock, Self::Dice>>, ListenFault>
         ensures posts { IfOk result (λ v. length v.items ≡ workers) }
-        ensures opened { IfOk result (λ v. Each Self.Door (Opened Self.Door Self.Door.quota Self.Door.faults Self.Door.links Self.Door.tapes quota) (map (λ p. p.door) v.items)) }
+        ensures opened { IfOk result (λ v. Each Self.Door (Opened Self.Door Self.Door.quota Self.Door.faults Self.Door.links Self.Door.tapes quota)
+            (map (λ p. p.door) v.items)) }
         ensures kept { faults self.old ≤ faults self.new }
         ensures cause { result ≡ Err ListenFault.Failed → Rose (faults self.old) (faults self.new) }
         ensures as_before { result ≡ Err ListenFault.NoMemory → faults self.new ≡ faults self.old }

@@ -1,5 +1,6 @@
 -- A number that is parsed of a text is the priority that it writes.
-use Rattle.std.proofs.Common.{◌≡◌, ◌≢◌, refl, sym, ap, subst, eqb-true, get_or, ◌∙◌, arith, ℕ, ℤ, ◌<◌, ◌≤◌, ◌==◌, ◌^◌, List, [], ◌∷◌, length, Bool, true, false, ◌&&◌, Result, Ok, Err, Option, Some, None, pos, neg_ℤ, if◌then◌else◌}
+use Rattle.std.proofs.Common.{◌≡◌, ◌≢◌, refl, sym, ap, subst, eqb-true, get_or, ◌∙◌, arith, ℕ, ℤ, ◌<◌, ◌≤◌, ◌==◌, ◌^◌, List, [], ◌∷◌, length}
+use Rattle.std.proofs.Common.{Bool, true, false, ◌&&◌, Result, Ok, Err, Option, Some, None, pos, neg_ℤ, if◌then◌else◌}
 use Rattle.std.proofs.lemmas.Bool.{eqb-false}
 use Rattle.std.proofs.lemmas.Grind.{common_steps}
 use Rattle.std.proofs.lemmas.Str.Parse.{numerals_by_value, parse_signed_minus, parse_signed_plain, tells_all_ascii_digits}

@@ -2,7 +2,8 @@
 ghost use Rattle.std.specs.Prelude.{◌≡◌, ◌++◌, map, not, ◌&&◌, IfOk, OnOk};
 ghost use Rattle.std.specs.Option.{option_copied};
 ghost use Rattle.stanza_tree.specs.Spelling.{text};
-ghost use Rattle.presence_core.specs.Broadcasts.{announced, asked_by, available, departure, is_among, is_sent, leaves, others, presence_from, request_from, seen_by, set_unavailable, shown_to, unavailable};
+ghost use Rattle.presence_core.specs.Broadcasts.{announced, asked_by, available, departure, is_among, is_sent, leaves, others};
+ghost use Rattle.presence_core.specs.Broadcasts.{presence_from, request_from, seen_by, set_unavailable, shown_to, unavailable};
 ghost use Rattle.presence_core.specs.Copies.{copies};
 
 use crate::copies::{copy_to, presence_text, push_copies};

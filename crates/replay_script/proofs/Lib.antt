@@ -2,5 +2,7 @@ mod CharacterLemmas
 mod NumberLemmas
 mod IdLemmas
 mod StanzaLemmas
+mod StanzaTexts
 mod UserLemmas
 mod NoticeLemmas
+pub mod Printing

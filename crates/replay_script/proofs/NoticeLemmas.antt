@@ -1,5 +1,6 @@
 -- The element of a `note` line is proper, and is the headline message that the line says.
-use Rattle.std.proofs.Common.{◌≡◌, ℕ, ◌<◌, ◌≤◌, List, [], ◌∷◌, length, codes, nat_lt, ◌==◌, not, Bool, true, false, ◌&&◌, Some, Ok, refl, sym, subst, inl, arith}
+use Rattle.std.proofs.Common.{◌≡◌, ℕ, ◌<◌, ◌≤◌, List, [], ◌∷◌, length, codes, nat_lt, ◌==◌, not, Bool, true}
+use Rattle.std.proofs.Common.{false, ◌&&◌, Some, Ok, refl, sym, subst, inl, arith}
 use Rattle.std.proofs.lemmas.Str.{encodes-chars}
 use Rattle.std.specs.Prelude.{bytes_eq}
 use Rattle.std.specs.List.{list_all, AllByRecursion, IsDistinct}
@@ -10,8 +11,8 @@ use Rattle.stanza_tree.specs.declared.node.Element.{Element}
 use Rattle.stanza_tree.specs.declared.node.Node.{Node}
 use Rattle.stanza_tree.specs.declared.node.Node.TheOpen.{Node-F, Child, Words}
 use Rattle.stanza_tree.specs.declared.node.Node.TheViews.{out-roll-Node}
-use Rattle.stream_lex.specs.Classes as classes
-use Rattle.stream_grammar.specs.Proper.{IsXmlText, same_name, IsJoined, AreJoined, IsProper, IsProperNode}
+use Rattle.stream_lex.specs.grammar.Classes as classes
+use Rattle.stream_grammar.specs.grammar.Proper.{IsXmlText, same_name, IsJoined, AreJoined, IsProper, IsProperNode}
 use Rattle.stream_laws.proofs.ProperMaking.{from-parts, ascii-name, ascii-text}
 use Rattle.jid_core.specs.Addresses.{Address, address_of}
 use Rattle.stanza_model.specs.Stanzas.{stanza_of}

@@ -1,14 +1,15 @@
 -- What waits after the bytes of a stanza.
-use Rattle.std.proofs.Common.{inl, ◌++◌, ◌≡◌, ℕ, ◌+◌, ◌<◌, ◌≤◌, ◌^◌, ◌-◌, ◌==◌, take, List, [], ◌∷◌, length, Bool, true, false, Option, Some, None, arith, refl, sym, ap, ◌∙◌}
+use Rattle.std.proofs.Common.{inl, ◌++◌, ◌≡◌, ℕ, ◌+◌, ◌<◌, ◌≤◌, ◌^◌, ◌-◌, ◌==◌, take, List, [], ◌∷◌, length, Bool}
+use Rattle.std.proofs.Common.{true, false, Option, Some, None, arith, refl, sym, ap, ◌∙◌}
 use Rattle.std.proofs.lemmas.Bool.{ltb-false, eqb-true}
 use Rattle.std.specs.Prelude.{if◌then◌else◌}
 use Rattle.std.proofs.lemmas.List.{take_all}
 use Rattle.stanza_tree.specs.Spelling.{text}
 use Rattle.stanza_tree.specs.declared.node.Element.{Element}
-use Rattle.stream_grammar.specs.Building.{Building, build_all, told_judged}
-use Rattle.stream_grammar.specs.Framing.{Frame, frame_next}
-use Rattle.stream_grammar.specs.Items.{told_at}
-use Rattle.stream_grammar.specs.Telling.{fault_told}
+use Rattle.stream_grammar.specs.machine.Building.{Building, build_all, told_judged}
+use Rattle.stream_grammar.specs.machine.Framing.{Frame, frame_next}
+use Rattle.stream_grammar.specs.machine.Ends.{told_at}
+use Rattle.stream_grammar.specs.machine.Telling.{fault_told}
 use Rattle.stream_grammar.specs.declared.FrameFault.{FrameFault}
 use Rattle.stream_grammar.specs.declared.FrameFault.TheVariants as fault
 use Rattle.stream_grammar.specs.declared.item.Item.{Item}
@@ -16,13 +17,15 @@ use Rattle.stream_grammar.specs.declared.item.Item.TheVariants as item
 use Rattle.stream_grammar.specs.declared.item.Limits.{Limits}
 use Rattle.stanza_model.specs.Stanzas.{stanza_of}
 use Rattle.stanza_model.specs.declared.stanza.Stanza.{Stanza}
-use Rattle.stream_grammar.specs.Proper.{IsProper}
+use Rattle.stream_grammar.specs.grammar.Proper.{IsProper}
 use Rattle.stream_grammar.proofs.FeedLemmas.{piece_went}
 use Rattle.stream_laws.proofs.Handing.{went-more}
 use Rattle.stream_laws.proofs.ProperItems.{top_proper}
 use Rattle.house_model.specs.Histories.{StanzaFits}
 use Rattle.replay_script.specs.Stanzas.{limits, fed, client_header, in_client_stream, begins_with_tag, item_of}
-use Rattle.stream_grammar.specs.Reading.{Reading, first_reading, went, taken, reads, stopped, is_ready, handed, reading_next, reading_after, waiting, concluded, or_else, fault_if, is_past, extent_after, rules_of, is_large, is_large_item, byte_judged, told_number}
+use Rattle.stream_grammar.specs.machine.Reading.{Reading, first_reading, went, taken, reads, stopped, is_ready, handed, reading_next, reading_after}
+use Rattle.stream_grammar.specs.machine.Reading.{waiting, concluded, or_else, fault_if, is_past, extent_after, byte_judged}
+use Rattle.stream_grammar.specs.grammar.Bounds.{rules_of, is_large, is_large_item, told_number}
 
 pub handed_is_ready : (s : Reading) → is_ready (handed s) ≡ true
 handed_is_ready (reads f b n k) = refl

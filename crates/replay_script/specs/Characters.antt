@@ -3,7 +3,7 @@ use Rattle.std.specs.Prelude.{ℕ, Bool, not, ◌&&◌, ◌==◌, nat_lt, List, 
 use Rattle.std.specs.List.{list_all}
 use Rattle.std.specs.Str.{chars, is_utf8}
 use Rattle.std.specs.Char.{is_control}
-use Rattle.stream_lex.specs.Classes as classes
+use Rattle.stream_lex.specs.grammar.Classes as classes
 
 -- XML 1.0, production 2
 unfoldable pub is_xml_char : ℕ → Bool

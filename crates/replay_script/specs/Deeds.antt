@@ -1,13 +1,14 @@
 -- What lines do after the first, and what is printed of it.
-use Rattle.std.specs.Prelude.{ℕ, ◌<◌, ⊤, ◌==◌, List, [], ◌∷◌, ◌++◌, Option, Some, flat_map, option_to_list, if◌then◌else◌}
+use Rattle.std.specs.Prelude.{◌≡◌, ℕ, ◌<◌, ⊤, ◌==◌, List, [], ◌∷◌, ◌++◌, Option, Some, flat_map, option_to_list, if◌then◌else◌}
 use Rattle.house_model.specs.Histories.{Outcome, Made, Short, Turn, after}
 use Rattle.house_model.specs.States.{State}
 use Rattle.stream_grammar.specs.declared.item.Item.{Item}
-use Rattle.stream_grammar.specs.Reading.{Reading, reads, stopped, first_reading, reading_next, handed, waiting, went}
+use Rattle.stream_grammar.specs.machine.Reading.{Reading, reads, stopped, first_reading, reading_next, handed, waiting, went}
 use Rattle.replay_script.specs.declared.step.Step.{Step}
 use Rattle.replay_script.specs.declared.step.Step.TheVariants as step
 use Rattle.replay_script.specs.Prints.{print_item, print_outcome}
 use Rattle.replay_script.specs.Stanzas.{limits}
+use Rattle.stream_laws.specs.ItemLists.{AreNext}
 
 -- a turn of the house, bytes fed to the framer of a connection's place, or that framer begun again
 pub data Deed : Type 0 where
@@ -44,7 +45,40 @@ abbrev pub AreDone : State → List Deed → Type 0
 AreDone st [] = ⊤
 AreDone st (d ∷ ds) = IsDone st d × AreDone (after st (turn_in d)) ds
 
--- Where the framer of each place stands. It is made when it is first fed.
+-- What is printed: the reply of a turn, and a line for each item that ends in bytes that were fed, and for their fault.
+
+abbrev pub print_items : List Item → List ℕ
+print_items is = flat_map print_item is
+
+-- the bytes that were fed to the framer of each place since it was begun
+abbrev pub Streams : Type 0
+Streams = ℕ → List ℕ
+
+abbrev pub no_streams : Streams
+no_streams w = []
+
+abbrev pub with_stream : ℕ → List ℕ → Streams → Streams
+with_stream w bytes fed v = if v == w then bytes else fed v
+
+abbrev pub streams_next : Streams → Deed → Streams
+streams_next fed (Turned x) = fed
+streams_next fed (Fed w bytes) = with_stream w (fed w ++ bytes) fed
+streams_next fed (Renewed w) = with_stream w [] fed
+
+abbrev pub IsPrint : Streams → Deed → List ℕ → Type 0
+IsPrint fed (Turned x) out = out ≡ print_outcome x.outcome
+IsPrint fed (Fed w bytes) out = (items : List Item) × AreNext limits (fed w) bytes items × (out ≡ print_items items)
+IsPrint fed (Renewed w) out = out ≡ []
+
+-- the prints of deeds, one after the other
+abbrev pub ArePrints : Streams → List Deed → List ℕ → Type 0
+ArePrints fed [] out = out ≡ []
+ArePrints fed (d ∷ ds) out =
+    (first : List ℕ) × (later : List ℕ) × IsPrint fed d first × ArePrints (streams_next fed d) ds later × (out ≡ first ++ later)
+
+-- The same as a text: `prints_are_those_of_the_grammar` shows that deeds have these prints, and no others. It is told byte by byte.
+
+-- where the framer of each place stands; it is made when it is first fed
 abbrev pub Framers : Type 0
 Framers = ℕ → Reading
 
@@ -72,10 +106,6 @@ item_in (reads f b n k) after = option_to_list (waiting after)
 abbrev pub items_of : Reading → List ℕ → List Item
 items_of s [] = []
 items_of s (b ∷ bs) = item_in s (reading_next limits s b) ++ items_of (handed (reading_next limits s b)) bs
-
--- What is printed: the reply of a turn, and a line for each item.
-abbrev pub print_items : List Item → List ℕ
-print_items is = flat_map print_item is
 
 abbrev pub print_deed : Framers → Deed → List ℕ
 print_deed fs (Turned x) = print_outcome x.outcome

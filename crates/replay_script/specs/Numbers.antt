@@ -1,5 +1,6 @@
 -- Numbers and bytes as a script writes them.
-use Rattle.std.specs.Prelude.{ℕ, ◌+◌, ◌*◌, ◌^◌, ◌==◌, nat_lt, Bool, not, ◌&&◌, List, [], ◌∷◌, length, bytes_eq, Option, Some, None, Result, Ok, Err, if◌then◌else◌}
+use Rattle.std.specs.Prelude.{ℕ, ◌+◌, ◌*◌, ◌^◌, ◌==◌, nat_lt, Bool, not, ◌&&◌, List, [], ◌∷◌, length}
+use Rattle.std.specs.Prelude.{bytes_eq, Option, Some, None, Result, Ok, Err, if◌then◌else◌}
 use Rattle.std.specs.List.{list_all, list_any}
 use Rattle.std.specs.Char.{digit_value, is_ascii_uppercase}
 use Rattle.std.specs.Fmt.{decimal}

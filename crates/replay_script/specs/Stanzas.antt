@@ -1,12 +1,16 @@
 -- The stanza of a `stanza` line.
-use Rattle.std.specs.Prelude.{ℕ, ◌==◌, nat_lt, nat_le, Bool, not, ◌&&◌, List, length, slice_index, take, codes, Option, Some, None, if◌then◌else◌}
+use Rattle.std.specs.Prelude.{◌≡◌, ℕ, ◌≤◌, ◌==◌, nat_lt, nat_le, Bool, true, not, ◌&&◌, List, [], ◌∷◌, ◌++◌, length}
+use Rattle.std.specs.Prelude.{slice_index, take, codes, Option, Some, None, if◌then◌else◌}
 use Rattle.stanza_tree.specs.declared.node.Element.{Element}
 use Rattle.stanza_model.specs.Stanzas.{stanza_of}
 use Rattle.stanza_model.specs.declared.stanza.Stanza.{Stanza}
-use Rattle.stream_grammar.specs.Reading.{Reading, first_reading, reading_after, waiting, handed, taken}
+use Rattle.stream_grammar.specs.grammar.Parts.{IsItem}
+use Rattle.stream_grammar.specs.machine.Reading.{Reading, first_reading, reading_after, waiting, handed, taken}
+use Rattle.stream_grammar.specs.grammar.Bounds.{rules_of}
 use Rattle.stream_grammar.specs.declared.item.Item.{Item}
 use Rattle.stream_grammar.specs.declared.item.Item.TheVariants as item
 use Rattle.stream_grammar.specs.declared.item.Limits.{Limits}
+use Rattle.stream_laws.specs.ItemLists.{AreNext}
 use Rattle.replay_script.specs.Readings.{on}
 
 -- what every stream is held to
@@ -40,7 +44,15 @@ top_in None = None
 abbrev pub item_of : List ℕ → Option Item
 item_of xml = if taken limits in_client_stream xml == length xml then waiting (reading_after limits in_client_stream xml) else None
 
--- XML: the one element that a text of at most 65,536 bytes spells in that stream
+-- In that stream a text is one top element: only this item ends in the text, and it ends with the last byte.
+abbrev pub IsOneElement : List ℕ → Element → Type 0
+IsOneElement xml e = AreNext limits client_header xml (item.Top e ∷ []) × IsItem (rules_of limits) (client_header ++ xml) (item.Top e)
+
+-- XML: a text of at most 65,536 bytes that begins with a tag and is one top element in that stream
+abbrev pub IsStanzaText : List ℕ → Element → Type 0
+IsStanzaText xml e = (length xml ≤ 65536) × (begins_with_tag xml ≡ true) × IsOneElement xml e
+
+-- The element that such a text is: `stanza_texts_are_elements_of_the_grammar` shows that it is this one, and none of any other text.
 abbrev pub element_of : List ℕ → Option Element
 element_of xml = if nat_le (length xml) 65536 && begins_with_tag xml then top_in (item_of xml) else None
 

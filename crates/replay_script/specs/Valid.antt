@@ -14,7 +14,8 @@ state_by st s = st
 -- Each of these lines is within the limits and of the grammar, and may come where the lines before it lead; so many bytes stand before them.
 abbrev pub CanBePlayed : State → ℕ → List (List ℕ) → Type 0
 CanBePlayed st read [] = ⊤
-CanBePlayed st read (line ∷ more) = IsWithin read line × ((s : Step) × (step_in line ≡ Some s) × MayCome st s × CanBePlayed (state_by st s) (read + length line) more)
+CanBePlayed st read (line ∷ more) = IsWithin read line
+    × ((s : Step) × (step_in line ≡ Some s) × MayCome st s × CanBePlayed (state_by st s) (read + length line) more)
 
 -- the first line makes a house, and the others can be played in it; a script may be empty
 abbrev pub AreValid : List (List ℕ) → Type 0

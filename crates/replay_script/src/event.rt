@@ -2,7 +2,8 @@
 ghost use Rattle.std.specs.Prelude.{◌≡◌, IfOk, IfSome, IsTrue};
 ghost use Rattle.jid_core.specs.Preparation.{is_local};
 ghost use Rattle.house_model.specs.Histories.{IdFits, Meets};
-ghost use Rattle.replay_script.specs.Lines.{open_of, pull_of, user_of, login_of, id_of, resource_in, bind_of, note_of, yes_of, enable_of, resume_of, ack_of, going_by, counting_by, event_by};
+ghost use Rattle.replay_script.specs.Lines.{open_of, pull_of, user_of, login_of, id_of, resource_in, bind_of, note_of, yes_of};
+ghost use Rattle.replay_script.specs.Lines.{enable_of, resume_of, ack_of, going_by, counting_by, event_by};
 ghost use Rattle.replay_script.specs.Readings.{Gives};
 
 use crate::fault::LineFault;

@@ -4,6 +4,7 @@
 mod event;
 pub mod fault;
 mod fields;
+pub mod laws;
 mod notice;
 mod numbers;
 mod opening;

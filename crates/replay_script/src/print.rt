@@ -9,6 +9,9 @@ use stanza_tree::{Element, NoMemory, write};
 use std::alloc::Global;
 use stream_frames::{FrameFault, Item};
 
+/// How many bytes the line of an element begins with room for: a chat message's has some 200.
+const USUAL_LINE: usize = 512;
+
 /// Appends the line of a reply, whole or not at all. `frame` is the text of the frame that was given. Costs that text.
 pub fn print_reply(reply: &Reply, frame: &[u8], out: &mut Vec<u8>) -> Result<(), NoMemory>
     ensures ok { OnOk result (out.new.items ≡ out.old.items ++ print_of reply.now frame.now) }
@@ -93,7 +96,7 @@ fn print_top(element: &Element, out: &mut Vec<u8>) -> Result<(), NoMemory>
     ensures ok { OnOk result (out.new.items ≡ out.old.items ++ line (codes "item top " ++ text element.now)) }
     ensures err { OnErr result (out.new.items ≡ out.old.items) }
 {
-    let mut line = Vec::new(*out.allocator());
+    let mut line = Vec::with_capacity(*out.allocator(), USUAL_LINE)?;
     line.extend_from_slice(b"item top ")?;
     write(element, &mut line)?;
     line.push(b'\n')?;

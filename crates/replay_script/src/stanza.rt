@@ -1,7 +1,7 @@
 //! The stanza of a `stanza` line.
 ghost use Rattle.std.specs.Prelude.{◌≡◌, ◌≤◌, length, IfOk};
 ghost use Rattle.stanza_tree.specs.Spelling.{text};
-ghost use Rattle.stream_grammar.specs.Proper.{IsProper};
+ghost use Rattle.stream_grammar.specs.grammar.Proper.{IsProper};
 ghost use Rattle.house_model.specs.Histories.{StanzaFits};
 ghost use Rattle.replay_script.specs.Lines.{StepFits, stanza_line_of};
 ghost use Rattle.replay_script.specs.Readings.{Gives};

@@ -1,5 +1,6 @@
 -- What a roster set says (RFC 6121, 2.1.2 and 2.1.5): the item of its `query`.
-use Rattle.std.specs.Prelude.{ℕ, ◌==◌, List, [], ◌∷◌, map, length, Bool, false, not, ◌&&◌, codes, bytes_eq, Option, Some, None, is_some, unwrap_or, if◌then◌else◌}
+use Rattle.std.specs.Prelude.{ℕ, ◌==◌, List, [], ◌∷◌, map, length, Bool, false, not, ◌&&◌, codes, bytes_eq}
+use Rattle.std.specs.Prelude.{Option, Some, None, is_some, unwrap_or, if◌then◌else◌}
 use Rattle.std.specs.Option.{option_map, option_and_then}
 use Rattle.jid_core.specs.Addresses.{Address, address_of, same_bare}
 use Rattle.stanza_tree.specs.Attributes.{attr_of}

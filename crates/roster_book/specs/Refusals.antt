@@ -1,5 +1,6 @@
 -- Why a roster set is refused (RFC 6121, 2.3.3 and 2.5.3). The rows go from the top down, and the first that fits refuses.
-use Rattle.std.specs.Prelude.{ℕ, ◌+◌, ◌==◌, nat_lt, nat_le, List, [], ◌∷◌, map, length, Bool, false, not, ◌&&◌, ◌||◌, bytes_eq, Option, Some, None, is_some, if◌then◌else◌}
+use Rattle.std.specs.Prelude.{ℕ, ◌+◌, ◌==◌, nat_lt, nat_le, List, [], ◌∷◌, map, length, Bool, false, not, ◌&&◌}
+use Rattle.std.specs.Prelude.{◌||◌, bytes_eq, Option, Some, None, is_some, if◌then◌else◌}
 use Rattle.std.specs.List.{filter, list_any, sum}
 use Rattle.jid_core.specs.Addresses.{Address, same_address}
 use Rattle.stanza_model.specs.RosterLimits.{counted, most_contacts, most_text}

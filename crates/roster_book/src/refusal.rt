@@ -3,7 +3,8 @@ ghost use Rattle.std.specs.Prelude.{◌≡◌, IfOk, bytes_eq, nat_lt};
 ghost use Rattle.std.specs.List.{list_any};
 ghost use Rattle.std.specs.Option.{option_copied};
 ghost use Rattle.stanza_model.specs.RosterLimits.{most_text};
-ghost use Rattle.roster_book.specs.Refusals.{contact_at, has_double, has_wrong_groups, has_wrong_texts, is_missing, is_too_large, is_wrong_group, refusal, text_after};
+ghost use Rattle.roster_book.specs.Refusals.{contact_at, has_double, has_wrong_groups, has_wrong_texts, is_missing};
+ghost use Rattle.roster_book.specs.Refusals.{is_too_large, is_wrong_group, refusal, text_after};
 
 use crate::item::Wanted;
 use jid_core::Jid;

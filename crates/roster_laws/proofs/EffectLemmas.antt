@@ -1,5 +1,6 @@
 -- What a list of effects notes.
-use Rattle.std.proofs.Common.{◌≡◌, ℕ, List, [], ◌∷◌, ◌++◌, map, flat_map, Bool, true, false, ◌||◌, filter, Option, Some, None, refl, sym, ap, subst, ◌∙◌, if◌then◌else◌}
+use Rattle.std.proofs.Common.{◌≡◌, ℕ, List, [], ◌∷◌, ◌++◌, map, flat_map, Bool, true, false, ◌||◌, filter}
+use Rattle.std.proofs.Common.{Option, Some, None, refl, sym, ap, subst, ◌∙◌, if◌then◌else◌}
 use Rattle.jid_core.specs.Addresses.{Address, same_bare}
 use Rattle.stanza_tree.specs.declared.node.Element.{Element}
 use Rattle.stanza_model.specs.Replies.{error_of, may_be_answered, refused, result_of, said_to}
@@ -23,7 +24,8 @@ use Rattle.roster_book.specs.Items.{wanted_in}
 use Rattle.roster_book.specs.Refusals.{refusal}
 use Rattle.roster_book.specs.Requests.{change_of, changed_item, done, roster_set, set_wanted, unless, user_of}
 use Rattle.roster_book.specs.declared.item.Wanted.{Wanted}
-use Rattle.subscription_pairs.specs.Changes.{after_pushes, asked, both_ended, effects_of, made, pushed_mine, pushed_theirs, removal, row_subscribe, row_subscribed, row_unsubscribe, row_unsubscribed, sees, then_cancelled, untold}
+use Rattle.subscription_pairs.specs.Changes.{after_pushes, asked, both_ended, effects_of, made, pushed_mine, pushed_theirs, removal, row_subscribe}
+use Rattle.subscription_pairs.specs.Changes.{row_subscribed, row_unsubscribe, row_unsubscribed, sees, then_cancelled, untold}
 use Rattle.subscription_pairs.specs.Deliveries.{all_sent_to, available_of, delivered, receives, sent_to, shown, unavailable_of}
 use Rattle.subscription_pairs.specs.Users.{User, side_of}
 use Rattle.roster_laws.specs.Keeping.{noted_all}

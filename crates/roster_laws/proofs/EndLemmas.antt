@@ -1,5 +1,6 @@
 -- What a removal leaves of two users.
-use Rattle.std.proofs.Common.{◌≡◌, ℕ, List, [], ◌++◌, map, Bool, true, false, not, ◌&&◌, ◌||◌, cond, bytes_eq, Option, Some, None, is_some, unwrap_or, refl, sym, ap, subst, ◌∙◌, if◌then◌else◌}
+use Rattle.std.proofs.Common.{◌≡◌, ℕ, List, [], ◌++◌, map, Bool, true, false, not, ◌&&◌, ◌||◌, cond, bytes_eq, Option}
+use Rattle.std.proofs.Common.{Some, None, is_some, unwrap_or, refl, sym, ap, subst, ◌∙◌, if◌then◌else◌}
 use Rattle.std.proofs.lemmas.Bool.{and_from, and_left, not-true, or_parts}
 use Rattle.std.specs.Option.{option_and_then, option_map}
 use Rattle.jid_core.specs.Addresses.{Address, same_bare}

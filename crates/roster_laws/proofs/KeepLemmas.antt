@@ -1,5 +1,7 @@
 -- Rosters keep to their limits as effects are noted.
-use Rattle.std.proofs.Common.{◌≡◌, ℕ, ◌+◌, ◌<◌, ◌≤◌, List, [], ◌∷◌, ◌++◌, map, length, sum, nat_le, nat_lt, Bool, true, false, not, ◌&&◌, ◌||◌, cond, bytes_eq, filter, Option, Some, None, is_some, unwrap_or, refl, sym, ap, subst, ◌∙◌, arith, length-append, if◌then◌else◌}
+use Rattle.std.proofs.Common.{◌≡◌, ℕ, ◌+◌, ◌<◌, ◌≤◌, List, [], ◌∷◌, ◌++◌, map, length, sum, nat_le, nat_lt, Bool, true}
+use Rattle.std.proofs.Common.{false, not, ◌&&◌, ◌||◌, cond, bytes_eq, filter, Option, Some, None, is_some, unwrap_or, refl}
+use Rattle.std.proofs.Common.{sym, ap, subst, ◌∙◌, arith, length-append, if◌then◌else◌}
 use Rattle.std.specs.List.{find, list_any}
 use Rattle.std.proofs.lemmas.Bool.{and_parts, leb-false, leb-true, ltb-false, not-false, not-true, not_from_false, or_parts}
 use Rattle.jid_core.specs.Addresses.{Address, same_address, same_bare}
@@ -31,7 +33,8 @@ use Rattle.subscription_pairs.specs.Limits.{fits}
 use Rattle.subscription_pairs.specs.Users as users
 use Rattle.subscription_pairs.specs.Users.{User}
 use Rattle.roster_laws.specs.Keeping.{AreKept, IsRoster, noted_all}
-use Rattle.roster_laws.proofs.EffectLemmas.{IsQuiet, either_order, kept_by_removal, kept_by_unsubscribe, kept_by_unsubscribed, noted_done, noted_subscribe, noted_subscribed, noted_then, quiet_delivered, quiet_refused}
+use Rattle.roster_laws.proofs.EffectLemmas.{IsQuiet, either_order, kept_by_removal, kept_by_unsubscribe, kept_by_unsubscribed, noted_done}
+use Rattle.roster_laws.proofs.EffectLemmas.{noted_subscribe, noted_subscribed, noted_then, quiet_delivered, quiet_refused}
 use Rattle.roster_laws.proofs.RosterLemmas.{empty_roster, is_at, nobody_else, roster_alike, roster_with, roster_without, total_last}
 
 -- a roster has room for a contact, which is new or takes the place of another

@@ -1,5 +1,6 @@
 -- A roster keeps to its limits as a contact is put in or taken out.
-use Rattle.std.proofs.Common.{◌≡◌, ℕ, suc, ◌+◌, ◌<◌, ◌≤◌, List, [], ◌∷◌, ◌++◌, map, length, sum, Bool, true, false, not, ◌&&◌, ◌||◌, cond, refl, sym, ap, subst, ◌∙◌, arith, length-append}
+use Rattle.std.proofs.Common.{◌≡◌, ℕ, suc, ◌+◌, ◌<◌, ◌≤◌, List, [], ◌∷◌, ◌++◌, map, length, sum, Bool, true, false, not}
+use Rattle.std.proofs.Common.{◌&&◌, ◌||◌, cond, refl, sym, ap, subst, ◌∙◌, arith, length-append}
 use Rattle.std.specs.List.{list_any}
 use Rattle.std.proofs.Math.Nat.{le_trans}
 use Rattle.std.proofs.lemmas.Bool.{and_from, and_parts, not-true, not_from_false, or_parts}

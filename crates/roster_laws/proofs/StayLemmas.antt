@@ -1,5 +1,6 @@
 -- Who has to be listed stays listed as the effects of the tables are noted, and what a removal leaves.
-use Rattle.std.proofs.Common.{◌≡◌, ℕ, List, [], ◌∷◌, ◌++◌, Bool, true, false, not, ◌&&◌, ◌||◌, bytes_eq, Option, Some, None, is_some, unwrap_or, refl, sym, ap, subst, ◌∙◌, if◌then◌else◌}
+use Rattle.std.proofs.Common.{◌≡◌, ℕ, List, [], ◌∷◌, ◌++◌, Bool, true, false, not, ◌&&◌, ◌||◌, bytes_eq, Option, Some}
+use Rattle.std.proofs.Common.{None, is_some, unwrap_or, refl, sym, ap, subst, ◌∙◌, if◌then◌else◌}
 use Rattle.std.proofs.lemmas.Bool.{true≢false}
 use Rattle.std.specs.Option.{option_and_then}
 use Rattle.jid_core.specs.Addresses.{Address, same_bare}
@@ -29,7 +30,8 @@ use Rattle.subscription_pairs.specs.Users as users
 use Rattle.subscription_pairs.specs.Users.{User, side_of}
 use Rattle.roster_laws.specs.Keeping.{noted_all}
 use Rattle.roster_laws.specs.Telling.{AreListed, AreStrangers, IsUser, RemovesStrangers, lists, kept_side}
-use Rattle.roster_laws.proofs.EffectLemmas.{IsQuiet, kept_by_removal, kept_by_unsubscribe, kept_by_unsubscribed, noted_done, noted_subscribe, noted_subscribed, noted_then, quiet_delivered, quiet_refused}
+use Rattle.roster_laws.proofs.EffectLemmas.{IsQuiet, kept_by_removal, kept_by_unsubscribe, kept_by_unsubscribed, noted_done}
+use Rattle.roster_laws.proofs.EffectLemmas.{noted_subscribe, noted_subscribed, noted_then, quiet_delivered, quiet_refused}
 use Rattle.roster_laws.proofs.ListLemmas.{Lists, asked_listed, contact_listed, lists_new, lists_with, no_contact_listed, sees_listed}
 use Rattle.roster_laws.proofs.TellLemmas.{sides_told}
 

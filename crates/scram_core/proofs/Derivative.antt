@@ -2,7 +2,8 @@
 use Rattle.std.proofs.Common.{◌≡◌, ℕ, zero, suc, List, [], ◌∷◌, ◌++◌, ◌⊎◌, inl, inr, refl, sym, ap, subst, arith, Bool, true, false, cond}
 use Rattle.scram_core.specs.Expressions.{Class, has, Expression, void, empty, byte, up_to, concat, union, star, Times, IsText}
 use Rattle.scram_core.specs.Matching.{is_nullable, derivative, matches}
-use Rattle.scram_core.proofs.Lists.{same_head, same_tail, cons_not_nil, false-true, nil_parts, Cut, inside, before, cut, both, each, either, first_holds, second_holds}
+use Rattle.scram_core.proofs.Lists.{same_head, same_tail, cons_not_nil, false-true, nil_parts, Cut, inside}
+use Rattle.scram_core.proofs.Lists.{before, cut, both, each, either, first_holds, second_holds}
 
 -- The text without bytes.
 

@@ -1,5 +1,6 @@
 -- The octets of an exclusive-or, and what they tell of two texts.
-use Rattle.std.proofs.Common.{◌≡◌, ℕ, zero, suc, ◌+◌, ◌<◌, List, [], ◌∷◌, length, drop, get_or, slice_index, bit_or, bit_xor, bytes_eq, Bool, ◌&&◌, ◌==◌, arith, ap, sym, refl, ◌∙◌}
+use Rattle.std.proofs.Common.{◌≡◌, ℕ, zero, suc, ◌+◌, ◌<◌, List, [], ◌∷◌, length, drop, get_or, slice_index, bit_or}
+use Rattle.std.proofs.Common.{bit_xor, bytes_eq, Bool, ◌&&◌, ◌==◌, arith, ap, sym, refl, ◌∙◌}
 use Rattle.std.specs.Bool.{one_answer}
 use Rattle.std.specs.Int.Bits.{or_zero_l, xor_assoc, xor_self, xor_zero_l, xor_zero_r}
 use Rattle.std.proofs.Math.Bool.{and_assoc}

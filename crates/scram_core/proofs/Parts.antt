@@ -1,8 +1,11 @@
 -- The parts between commas are the productions of the grammar.
-use Rattle.std.proofs.Common.{◌≡◌, ℕ, zero, suc, ◌+◌, ◌≤◌, List, [], ◌∷◌, ◌++◌, ◌⊎◌, inl, inr, length, drop, refl, sym, ap, ◌∙◌, subst, arith, append_assoc, append-nil, true, false, ◌&&◌, nat_le, codes}
+use Rattle.std.proofs.Common.{◌≡◌, ℕ, zero, suc, ◌+◌, ◌≤◌, List, [], ◌∷◌, ◌++◌, ◌⊎◌, inl, inr, length, drop, refl, sym, ap, ◌∙◌}
+use Rattle.std.proofs.Common.{subst, arith, append_assoc, append-nil, true, false, ◌&&◌, nat_le, codes}
 use Rattle.std.proofs.lemmas.Bool.{leb-true}
 use Rattle.scram_core.specs.Expressions.{has, Expression, concat, star, Times, IsText}
-use Rattle.scram_core.specs.Grammar.{a, optional, comma, gs2_cbind_flag, authzid, address, gs2_header, saslname, username, printable_text, nonce, attr_val, extensions, base64, channel_binding, proof, client_first_message_bare, client_first_message, client_final_message_without_proof, client_final_message}
+use Rattle.scram_core.specs.Grammar.{a, optional, comma, gs2_cbind_flag, authzid, address, gs2_header, saslname, username, printable_text}
+use Rattle.scram_core.specs.Grammar.{nonce, attr_val, extensions, base64, channel_binding, proof, client_first_message_bare}
+use Rattle.scram_core.specs.Grammar.{client_first_message, client_final_message_without_proof, client_final_message}
 use Rattle.scram_core.specs.Attributes.{before_comma, after_comma, has_comma, before_last_comma, flag_of, authzid_of, bare_of, without_proof, proof_of}
 use Rattle.scram_core.specs.Parts.{HasFirstParts, HasLastParts}
 use Rattle.scram_core.proofs.Lists.{each, either, false-true}

@@ -15,7 +15,9 @@ use Rattle.scram_core.specs.declared.stage.Coded.TheVariants.{Binding, Proof}
 use Rattle.scram_core.specs.declared.stage.Stage.{Stage}
 use Rattle.scram_core.specs.declared.stage.Stage.TheVariants as stage
 use Rattle.scram_core.specs.Expressions.{Expression, void, empty, byte, up_to, concat, union, star}
-use Rattle.scram_core.specs.Grammar.{a, between, word, optional, comma, utf8_tail, value_char, printable, base64_char, second_char, third_char, base64, name_char, local_char, authzid, attr_val, extensions, proof, client_first_message, client_final_message}
+use Rattle.scram_core.specs.Grammar.{a, between, word, optional, comma, utf8_tail, value_char, printable, base64_char}
+use Rattle.scram_core.specs.Grammar.{second_char, third_char, base64, name_char, local_char, authzid, attr_val}
+use Rattle.scram_core.specs.Grammar.{extensions, proof, client_first_message, client_final_message}
 use Rattle.scram_core.specs.Machine.{further_limit}
 
 -- After the nonce.

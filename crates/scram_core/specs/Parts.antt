@@ -1,8 +1,10 @@
 -- The parts of a text that stand between its commas are the productions of the grammar.
 use Rattle.std.specs.Prelude.{◌≡◌, ◌⊎◌, List, ℕ, [], ◌++◌, drop, codes}
 use Rattle.scram_core.specs.Expressions.{IsText}
-use Rattle.scram_core.specs.Grammar.{gs2_cbind_flag, address, gs2_header, saslname, printable_text, client_first_message_bare, base64, client_final_message_without_proof}
-use Rattle.scram_core.specs.Attributes.{first_value, flag_of, authzid_of, header_of, bare_of, nonce_of_first, binding_of, nonce_of_last, without_proof, proof_of}
+use Rattle.scram_core.specs.Grammar.{gs2_cbind_flag, address, gs2_header, saslname, printable_text}
+use Rattle.scram_core.specs.Grammar.{client_first_message_bare, base64, client_final_message_without_proof}
+use Rattle.scram_core.specs.Attributes.{first_value, flag_of, authzid_of, header_of, bare_of, nonce_of_first}
+use Rattle.scram_core.specs.Attributes.{binding_of, nonce_of_last, without_proof, proof_of}
 
 -- client-first-message = gs2-header client-first-message-bare
 pub record HasFirstParts (first : List ℕ) : Type 0 where

@@ -1,7 +1,8 @@
 //! What one more byte does.
 
 ghost use Rattle.std.specs.Prelude.{◌≡◌};
-ghost use Rattle.scram_core.specs.Machine.{opens, equals_in, begins, end_byte, end_stage, goes, within, authzid, further_limit, is_printable, nonce, is_attr_letter, proof_key, letter};
+ghost use Rattle.scram_core.specs.Machine.{opens, equals_in, begins, end_byte, end_stage, goes, within, authzid};
+ghost use Rattle.scram_core.specs.Machine.{further_limit, is_printable, nonce, is_attr_letter, proof_key, letter};
 ghost use Rattle.scram_core.specs.Machine.{is_base64, is_third, is_second, third, quad_goes, is_whole, coded_ends, coded, next, is_end, start};
 ghost use Rattle.scram_core.specs.declared.stage.Stage.TheVariants as stage;
 

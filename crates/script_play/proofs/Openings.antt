@@ -34,6 +34,8 @@ first-done left left_now took held ends = record {
   read = λ all told.
       let end = ends all (unread-nil left ∙ told) in
       ([], (ap lines_of end.0, (refl, unread-none held left_now end.1)));
+  out = [];
+  are_prints = refl;
   written = none-written took;
 }
 
@@ -49,6 +51,8 @@ first-taking left left_now took (status.Script n) stop = record {
   read = λ all told.
       let passes = stop.1 all (unread-nil left ∙ told) in
       (lines_of all, (refl, (passes.0, (passes.1.0, (passes.1.1.0, inl passes.1.1.1)))));
+  out = [];
+  are_prints = refl;
   written = none-written took;
 }
 first-taking left left_now took status.ReadFault stop = record {
@@ -59,6 +63,8 @@ first-taking left left_now took status.ReadFault stop = record {
   safe = safe (opening nobody [] 0) [] none-played.starts none-played.legal;
   number = tt;
   read = λ all told. (lines_of all, (refl, tt));
+  out = [];
+  are_prints = refl;
   written = none-written took;
 }
 first-taking left left_now took status.WriteFault stop = absurd stop
@@ -70,6 +76,8 @@ first-taking left left_now took status.NoMemory stop = record {
   safe = safe (opening nobody [] 0) [] none-played.starts none-played.legal;
   number = tt;
   read = λ all told. (lines_of all, (refl, tt));
+  out = [];
+  are_prints = refl;
   written = none-written took;
 }
 first-taking left left_now took status.Usage stop = absurd stop
@@ -88,6 +96,8 @@ first-bad left coming_now left_now took given_now text t never = record {
   read = λ all told.
       let first = t.first all (unread-nil left ∙ told) in
       (lines_of all, (refl, (t.line, (lines_of first.0, (first.1.1, inr (λ o makes. never o (subst (λ x. Makes x o) (sym t.text_is) makes)))))));
+  out = [];
+  are_prints = refl;
   written = none-written took;
 }
 

@@ -1,12 +1,14 @@
 -- A piece that is fed whole.
-use Rattle.std.proofs.Common.{◌≡◌, ℕ, suc, ◌+◌, ◌-◌, ◌<◌, ◌≤◌, List, [], ◌∷◌, ◌++◌, length, take, drop, refl, sym, ap, ◌∙◌, subst, append_assoc, append-nil, Bool, true, false, not, ◌||◌, arith}
+use Rattle.std.proofs.Common.{◌≡◌, ℕ, suc, ◌+◌, ◌-◌, ◌<◌, ◌≤◌, List, [], ◌∷◌, ◌++◌, length, take, drop, refl, sym, ap, ◌∙◌}
+use Rattle.std.proofs.Common.{subst, append_assoc, append-nil, Bool, true, false, not, ◌||◌, arith}
 use Rattle.std.proofs.lemmas.Grind.{flat_map-append}
 use Rattle.std.proofs.lemmas.List.{drop-drop, drop_all, take_rest}
 use Rattle.std.specs.Prelude.{Option, Some, None, if◌then◌else◌, option_to_list}
 use Rattle.std.specs.Option.{is_some}
 use Rattle.stream_grammar.specs.declared.item.Item.{Item}
 use Rattle.stream_grammar.specs.declared.item.Limits.{Limits}
-use Rattle.stream_grammar.specs.Reading.{Reading, reads, stopped, reading_next, reading_after, taken, taken_reading, handed, is_ready, is_none, is_done, went, waiting}
+use Rattle.stream_grammar.specs.machine.Reading.{Reading, reads, stopped, reading_next, reading_after, taken, taken_reading}
+use Rattle.stream_grammar.specs.machine.Reading.{handed, is_ready, is_none, is_done, went, waiting}
 use Rattle.replay_script.specs.Deeds.{item_in, items_of, print_items}
 use Rattle.replay_script.specs.Prints.{print_item}
 use Rattle.replay_script.specs.Stanzas.{limits}

@@ -1,5 +1,6 @@
 -- A script's play goes on by a line, or stops there.
-use Rattle.std.proofs.Common.{◌≡◌, ℕ, suc, ◌+◌, ◌^◌, ◌<◌, ◌≤◌, List, [], ◌∷◌, ◌++◌, length, length-append, arith, refl, sym, ap, subst, ◌∙◌, append_assoc, append-nil, inl, inr}
+use Rattle.std.proofs.Common.{◌≡◌, ℕ, suc, ◌+◌, ◌^◌, ◌<◌, ◌≤◌, List, [], ◌∷◌, ◌++◌, length, length-append, arith}
+use Rattle.std.proofs.Common.{refl, sym, ap, subst, ◌∙◌, append_assoc, append-nil, inl, inr}
 use Rattle.std.specs.Prelude.{map, Option, Some, None}
 use Rattle.std.proofs.lemmas.List.{map-append}
 use Rattle.std.proofs.lemmas.Grind.{flat_map-append}
@@ -10,8 +11,10 @@ use Rattle.house_model.proofs.Turns.{turns-counted, workers-kept}
 use Rattle.replay_script.specs.declared.step.Step.{Step}
 use Rattle.replay_script.specs.declared.step.Step.TheVariants as step
 use Rattle.replay_script.specs.Lines.{step_of}
-use Rattle.replay_script.specs.Deeds.{Deed, Turned, Fed, Renewed, Framers, IsDone, AreDone, step_at, turn_in, turns_of, no_framers, framers_next, framers_after, print_deed, prints_from, prints}
+use Rattle.replay_script.specs.Deeds.{Deed, Turned, Fed, Renewed, Framers, IsDone, AreDone, step_at, turn_in, turns_of}
+use Rattle.replay_script.specs.Deeds.{no_framers, framers_next, framers_after, print_deed, prints_from, prints}
 use Rattle.replay_script.specs.Scripts.{Spells, AreWithin, IsWithin, IsPlayed, MayCome, IsOutside, lines_of, size_of, step_in}
+use Rattle.replay_script.proofs.Printing.{prints_are}
 use Rattle.script_play.specs.declared.status.Status.{Status}
 use Rattle.script_play.specs.declared.status.Status.TheVariants as status
 use Rattle.script_play.specs.Readings.{TakesLine, Ends, unread}
@@ -153,6 +156,8 @@ stop-done left coming held left_now took now given house framers number g ends =
       let old = g.along.read all told in
       let end = ends old.0 old.1.0 in
       ([], (old.1.1 ∙ ap (λ more. g.lines ++ lines_of more) end.0, (refl, unread-none held left_now end.1)));
+  out = prints g.deeds;
+  are_prints = prints_are g.deeds;
   written = g.written;
 }
 
@@ -171,6 +176,8 @@ stop-taking left coming left_now took now given house framers number (status.Scr
       let old = g.along.read all told in
       let passes = stop.1 old.0 old.1.0 in
       (lines_of old.0, (old.1.1, (passes.0, (passes.1.0, (passes.1.1.0, inl (λ within. passes.1.1.1 (subst (λ (m : ℕ). IsWithin m passes.0) (sym g.along.size) within)))))));
+  out = prints g.deeds;
+  are_prints = prints_are g.deeds;
   written = g.written;
 }
 stop-taking left coming left_now took now given house framers number status.ReadFault g stop = record {
@@ -181,6 +188,8 @@ stop-taking left coming left_now took now given house framers number status.Read
   safe = safe g.start (turns_of g.deeds) g.along.stands.starts g.along.stands.legal;
   number = tt;
   read = λ all told. let old = g.along.read all told in (lines_of old.0, (old.1.1, tt));
+  out = prints g.deeds;
+  are_prints = prints_are g.deeds;
   written = g.written;
 }
 stop-taking left coming left_now took now given house framers number status.WriteFault g stop = absurd stop
@@ -192,6 +201,8 @@ stop-taking left coming left_now took now given house framers number status.NoMe
   safe = safe g.start (turns_of g.deeds) g.along.stands.starts g.along.stands.legal;
   number = tt;
   read = λ all told. let old = g.along.read all told in (lines_of old.0, (old.1.1, tt));
+  out = prints g.deeds;
+  are_prints = prints_are g.deeds;
   written = g.written;
 }
 stop-taking left coming left_now took now given house framers number status.Usage g stop = absurd stop
@@ -241,6 +252,8 @@ stop-bad left coming coming_now left_now took now given given_now house framers 
           ),
         ),
       );
+  out = prints g.deeds;
+  are_prints = prints_are g.deeds;
   written = g.written;
 }
 
@@ -280,6 +293,8 @@ stop-writing left coming coming_now left_now took before now given given_now hou
   read = λ all told.
       let old = (along-on left coming coming_now given given_now house house_now framers framers_now number text out g.lines g.start g.deeds g.along t p).read all told in
       (lines_of old.0, (old.1.1, tt));
+  out = prints (g.deeds ++ p.plays.deed ∷ []);
+  are_prints = prints_are (g.deeds ++ p.plays.deed ∷ []);
   written = λ taken told.
       subst (λ xs. Front taken xs now)
       (ap (λ bytes. prints g.deeds ++ bytes) p.plays.printed ∙ sym (prints-push framers g.deeds p.plays.deed g.along.framed))

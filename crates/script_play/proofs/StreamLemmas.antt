@@ -1,12 +1,13 @@
 -- The framers of places.
-use Rattle.std.proofs.Common.{◌≡◌, ℕ, zero, suc, ◌+◌, ◌<◌, ◌≤◌, List, [], ◌∷◌, ◌++◌, length, get_or, set, refl, sym, ap, ◌∙◌, subst, append-nil, Bool, true, false, ◌==◌, eq-eqb, arith}
+use Rattle.std.proofs.Common.{◌≡◌, ℕ, zero, suc, ◌+◌, ◌<◌, ◌≤◌, List, [], ◌∷◌, ◌++◌, length, get_or, set, refl, sym}
+use Rattle.std.proofs.Common.{ap, ◌∙◌, subst, append-nil, Bool, true, false, ◌==◌, eq-eqb, arith}
 use Rattle.std.proofs.lemmas.Bool.{eqb-true}
 use Rattle.std.proofs.lemmas.List.{get_or-set_same, get_or-set_other}
 use Rattle.std.specs.Prelude.{Option, Some, None, if◌then◌else◌}
 use Rattle.house_model.specs.Histories.{Turn, StandsFor}
 use Rattle.house_model.specs.States.{State, Kept}
 use Rattle.stream_grammar.specs.declared.item.Item.{Item}
-use Rattle.stream_grammar.specs.Reading.{Reading, reads, stopped, first_reading, reading_next, handed, is_ready, is_none, went}
+use Rattle.stream_grammar.specs.machine.Reading.{Reading, reads, stopped, first_reading, reading_next, handed, is_ready, is_none, went}
 use Rattle.replay_script.specs.Deeds.{with_framer}
 use Rattle.replay_script.specs.Stanzas.{limits}
 use Rattle.script_play.specs.declared.place.Place.{Place}

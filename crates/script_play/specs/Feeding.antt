@@ -1,6 +1,6 @@
 -- How a framer is fed whose items are handed out and printed.
 use Rattle.std.specs.Prelude.{◌≡◌, ℕ, List, ◌++◌, drop}
-use Rattle.stream_grammar.specs.Reading.{Reading, handed, went}
+use Rattle.stream_grammar.specs.machine.Reading.{Reading, handed, went}
 use Rattle.replay_script.specs.Deeds.{items_of, print_items}
 use Rattle.replay_script.specs.Stanzas.{limits}
 

@@ -48,7 +48,8 @@ pub record TakesLine (old now : Option (List ℕ)) (before after : ℕ) (text : 
 
 -- the next line passes a limit
 abbrev pub PassesLimit : Option (List ℕ) → ℕ → Type 0
-PassesLimit old before = (all : List ℕ) → old ≡ Some all → (line : List ℕ) × ((more : List (List ℕ)) × ((lines_of all ≡ line ∷ more) × (IsWithin before line → ⊥)))
+PassesLimit old before = (all : List ℕ) → old ≡ Some all → (line : List ℕ)
+    × ((more : List (List ℕ)) × ((lines_of all ≡ line ∷ more) × (IsWithin before line → ⊥)))
 
 abbrev pub Takes : Option (List ℕ) → Option (List ℕ) → ℕ → ℕ → List ℕ → Taken → Type 0
 Takes old now before after text Line = TakesLine old now before after text

@@ -9,7 +9,8 @@ use Rattle.replay_script.specs.declared.step.Step.TheVariants as step
 use Rattle.replay_script.specs.declared.fault.LineFault.{LineFault}
 use Rattle.replay_script.specs.declared.fault.LineFault.TheVariants.{Bad, NoMemory}
 use Rattle.replay_script.specs.Lines.{step_of}
-use Rattle.replay_script.specs.Deeds.{Deed, Framers, IsDone, AreDone, step_at, turn_in, turns_of, no_framers, framers_next, framers_after, print_deed, prints}
+use Rattle.replay_script.specs.Deeds.{Deed, Framers, IsDone, AreDone, step_at, turn_in, turns_of, no_framers}
+use Rattle.replay_script.specs.Deeds.{framers_next, framers_after, print_deed, prints, no_streams, ArePrints}
 use Rattle.replay_script.specs.Scripts.{Makes, Spells, AreWithin, IsPlayed, IsRefused, lines_of, size_of}
 use Rattle.script_play.specs.declared.status.Status.{Status}
 use Rattle.script_play.specs.declared.status.Status.TheVariants as status
@@ -65,11 +66,14 @@ pub record Replayed (left left_now took took_now : Option (List ℕ)) (s : Statu
   pub safe : Safe start (turns_of deeds)
   pub number : IsNumbered s (length lines)
   pub read : (all : List ℕ) → left ≡ Some all → (more : List (List ℕ)) × ((lines_of all ≡ lines ++ more) × StopsAt s lines start deeds more left_now)
-  pub written : (taken : List ℕ) → took ≡ Some taken → IsWritten s taken (prints deeds) took_now
+  pub out : List ℕ
+  pub are_prints : ArePrints no_streams deeds out
+  pub written : (taken : List ℕ) → took ≡ Some taken → IsWritten s taken out took_now
 
 -- These lines were played as these deeds, for whose turns the house stands; what is still to come are the lines after them, and `number`
 -- is the next one's.
-pub record Along (left coming : Option (List ℕ)) (given : ℕ) (house : Kept) (framers : Framers) (number : ℕ) (lines : List (List ℕ)) (start : State) (deeds : List Deed) : Type 0 where
+pub record Along (left coming : Option (List ℕ)) (given : ℕ) (house : Kept) (framers : Framers) (number : ℕ) (lines : List (List ℕ)) (start : State)
+    (deeds : List Deed) : Type 0 where
   pub stands : StandsFor start (turns_of deeds) house
   pub framed : framers ≡ framers_after no_framers deeds
   pub spelt : Spells lines start deeds
@@ -148,7 +152,8 @@ Opening left coming left_now took given (Ok None) = Replayed left left_now took 
 Opening left coming left_now took given (Err s) = Replayed left left_now took took s
 
 -- what came of a turn of the play
-abbrev pub Turning : Option (List ℕ) → Option (List ℕ) → Option (List ℕ) → Option (List ℕ) → Option (List ℕ) → ℕ → Kept → Framers → ℕ → Result Bool Status → Type 0
+abbrev pub Turning : Option (List ℕ) → Option (List ℕ) → Option (List ℕ) → Option (List ℕ) → Option (List ℕ) → ℕ → Kept → Framers → ℕ → Result Bool Status
+    → Type 0
 Turning left coming left_now took took_now given house framers number (Ok true) = Going left coming took took_now given house framers (number + 1)
 Turning left coming left_now took took_now given house framers number (Ok false) = Replayed left left_now took took_now status.Done
 Turning left coming left_now took took_now given house framers number (Err s) = Replayed left left_now took took_now s

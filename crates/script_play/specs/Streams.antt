@@ -1,6 +1,6 @@
 -- Where the framer of each place stands.
 use Rattle.std.specs.Prelude.{List, Option, Some, None, slice_index_or}
-use Rattle.stream_grammar.specs.Reading.{Reading, first_reading}
+use Rattle.stream_grammar.specs.machine.Reading.{Reading, first_reading}
 use Rattle.replay_script.specs.Deeds.{Framers}
 use Rattle.script_play.specs.declared.place.Place.{Place}
 

@@ -145,7 +145,8 @@ impl Reader {
     ) -> Result<Taken, NoMemory>
         ensures falls { S.faults source.old ≤ S.faults source.new }
         ensures failed { IfOk result (λ taken. taken ≡ Taken.Failed → Rose (S.faults source.old) (S.faults source.new)) }
-        ensures takes { IfOk result (λ taken. Takes (unread self.old.held (S.left source.old)) (unread self.new.held (S.left source.new)) self.old.given self.new.given line.new.items taken) }
+        ensures takes { IfOk result (λ taken. Takes (unread self.old.held (S.left source.old))
+            (unread self.new.held (S.left source.new)) self.old.given self.new.given line.new.items taken) }
     {
         line.clear();
         for _count in 0..=MOST_LINE {

@@ -63,7 +63,8 @@ fn open_house<S: Source>(
     ensures falls { S.faults source.old ≤ S.faults source.new }
     ensures read { IfErr result (λ s. s ≡ Status.ReadFault → Rose (S.faults source.old) (S.faults source.new)) }
     ensures written { IfErr result (λ s. s ≢ Status.WriteFault) }
-    ensures opens { (took : Option (List ℕ)) → Opening (S.left source.old) (unread reader.new.held (S.left source.new)) (S.left source.new) took reader.new.given result }
+    ensures opens { (took : Option (List ℕ))
+        → Opening (S.left source.old) (unread reader.new.held (S.left source.new)) (S.left source.new) took reader.new.given result }
 {
     let mut line = Vec::new(alloc);
     if !take(reader, source, &mut line, 1)? {
@@ -100,7 +101,8 @@ fn take<S: Source>(
 ) -> Result<bool, Status>
     ensures falls { S.faults source.old ≤ S.faults source.new }
     ensures read { IfErr result (λ s. s ≡ Status.ReadFault → Rose (S.faults source.old) (S.faults source.new)) }
-    ensures takes { Taking (unread reader.old.held (S.left source.old)) (unread reader.new.held (S.left source.new)) reader.old.given reader.new.given line.new.items number result }
+    ensures takes { Taking (unread reader.old.held (S.left source.old))
+        (unread reader.new.held (S.left source.new)) reader.old.given reader.new.given line.new.items number result }
 {
     match reader.take_line(source, line)? {
         Taken::Line => Ok(true),
@@ -142,11 +144,15 @@ impl Player {
         source: &mut S,
         sink: &mut K,
     ) -> Result<(), Status>
-        requires going { (left : Option (List ℕ)) × ((took : Option (List ℕ)) × Going left (unread reader.old.held (S.left source.old)) took (K.took sink.old) reader.old.given (held self.old.house) (framers_of self.old.streams.places.items) 2) }
+        requires going { (left : Option (List ℕ))
+            × ((took : Option (List ℕ)) × Going left (unread reader.old.held (S.left source.old)) took (K.took sink.old) reader.old.given (held self.old.house)
+            (framers_of self.old.streams.places.items) 2) }
         ensures source_falls { S.faults source.old ≤ S.faults source.new }
         ensures read { IfErr result (λ s. s ≡ Status.ReadFault → Rose (S.faults source.old) (S.faults source.new)) }
         ensures written { IfErr result (λ s. s ≡ Status.WriteFault → Rose (K.faults sink.old) (K.faults sink.new)) }
-        ensures ends { (left took : Option (List ℕ)) → Going left (unread reader.old.held (S.left source.old)) took (K.took sink.old) reader.old.given (held self.old.house) (framers_of self.old.streams.places.items) 2 → Ending left (S.left source.new) took (K.took sink.new) result }
+        ensures ends { (left took : Option (List ℕ))
+            → Going left (unread reader.old.held (S.left source.old)) took (K.took sink.old) reader.old.given (held self.old.house)
+            (framers_of self.old.streams.places.items) 2 → Ending left (S.left source.new) took (K.took sink.new) result }
     {
         for number in 2..u64::MAX {
             if !self.turn(alloc, reader, source, sink, number)? {
@@ -170,7 +176,11 @@ impl Player {
         ensures sink_falls { K.faults sink.old ≤ K.faults sink.new }
         ensures read { IfErr result (λ s. s ≡ Status.ReadFault → Rose (S.faults source.old) (S.faults source.new)) }
         ensures written { IfErr result (λ s. s ≡ Status.WriteFault → Rose (K.faults sink.old) (K.faults sink.new)) }
-        ensures turns { (left took : Option (List ℕ)) → Going left (unread reader.old.held (S.left source.old)) took (K.took sink.old) reader.old.given (held self.old.house) (framers_of self.old.streams.places.items) number → Turning left (unread reader.new.held (S.left source.new)) (S.left source.new) took (K.took sink.new) reader.new.given (held self.new.house) (framers_of self.new.streams.places.items) number result }
+        ensures turns { (left took : Option (List ℕ))
+            → Going left (unread reader.old.held (S.left source.old)) took (K.took sink.old) reader.old.given (held self.old.house)
+            (framers_of self.old.streams.places.items) number
+            → Turning left (unread reader.new.held (S.left source.new)) (S.left source.new) took (K.took sink.new) reader.new.given (held self.new.house)
+            (framers_of self.new.streams.places.items) number result }
     {
         if !take(reader, source, &mut self.line, number)? {
             return Ok(false);
@@ -187,7 +197,8 @@ impl Player {
     /// Plays the line, and makes its print.
     fn play(&mut self, alloc: Global) -> Result<(), LineFault>
         requires { self.old.house.turns < 2 ^ 63 }
-        ensures { Plays (held self.old.house) (held self.new.house) (framers_of self.old.streams.places.items) (framers_of self.new.streams.places.items) self.old.line.items self.new.print.items result }
+        ensures { Plays (held self.old.house) (held self.new.house) (framers_of self.old.streams.places.items)
+            (framers_of self.new.streams.places.items) self.old.line.items self.new.print.items result }
     {
         let step = read_line(alloc, self.line.as_slice())?;
         self.take_step(step)
@@ -197,7 +208,8 @@ impl Player {
     fn take_step(&mut self, step: Step) -> Result<(), LineFault>
         requires turns { self.old.house.turns < 2 ^ 63 }
         requires fits { StepFits step }
-        ensures { PlaysStep (held self.old.house) (held self.new.house) (framers_of self.old.streams.places.items) (framers_of self.new.streams.places.items) step self.new.print.items result }
+        ensures { PlaysStep (held self.old.house) (held self.new.house) (framers_of self.old.streams.places.items)
+            (framers_of self.new.streams.places.items) step self.new.print.items result }
     {
         self.print.clear();
         match step {
@@ -226,7 +238,8 @@ impl Player {
         requires turns { self.old.house.turns < 2 ^ 63 }
         requires meets { Meets event.now }
         requires print { self.old.print.items ≡ [] }
-        ensures { PlaysStep (held self.old.house) (held self.new.house) (framers_of self.old.streams.places.items) (framers_of self.new.streams.places.items) (step.Event event.now) self.new.print.items result }
+        ensures { PlaysStep (held self.old.house) (held self.new.house) (framers_of self.old.streams.places.items) (framers_of self.new.streams.places.items)
+            (step.Event event.now) self.new.print.items result }
     {
         if event.line() as usize >= self.house.workers() {
             return Err(LineFault::Bad);

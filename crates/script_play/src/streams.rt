@@ -1,6 +1,6 @@
 //! The framers of a play.
 ghost use Rattle.std.specs.Prelude.{◌≡◌, ◌<◌, ◌≤◌, ◌++◌, length, IfOk, OnOk};
-ghost use Rattle.stream_grammar.specs.Reading.{Reading, first_reading, handed, went};
+ghost use Rattle.stream_grammar.specs.machine.Reading.{Reading, first_reading, handed, went};
 ghost use Rattle.replay_script.specs.Deeds.{no_framers, with_framer, items_of, print_items};
 ghost use Rattle.replay_script.specs.Stanzas.{limits};
 ghost use Rattle.script_play.specs.Streams.{framers_of};
@@ -57,7 +57,8 @@ impl Streams {
     /// Feeds bytes to the framer of that place, and prints the items that end in them and their fault.
     #[tactic(auto, using(crate::proofs::StreamLemmas::place_set))]
     pub fn feed(&mut self, w: usize, bytes: &[u8], print: &mut Vec<u8>) -> Result<(), NoMemory>
-        ensures read { OnOk result (framers_of self.new.places.items ≡ with_framer w (handed (went limits (framers_of self.old.places.items w) bytes.now)) (framers_of self.old.places.items)) }
+        ensures read { OnOk result (framers_of self.new.places.items ≡ with_framer w (handed (went limits (framers_of self.old.places.items w) bytes.now))
+            (framers_of self.old.places.items)) }
         ensures printed { OnOk result (print.new.items ≡ print.old.items ++ print_items (items_of (framers_of self.old.places.items w) bytes.now)) }
     {
         let mut place = self.take_out(w)?;

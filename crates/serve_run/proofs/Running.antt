@@ -1,5 +1,6 @@
 -- What a run of the server rests on.
-use Rattle.std.proofs.Common.{◌≡◌, ◌⊎◌, ℕ, suc, ◌+◌, ◌-◌, ◌^◌, ◌<◌, ◌≤◌, min, List, [], ◌∷◌, ◌++◌, length, map, Bool, true, false, Result, Ok, Err, IfOk, IfErr, OnOk, OnErr, refl, sym, ap, subst, ◌∙◌, inl, inr, append_assoc, arith}
+use Rattle.std.proofs.Common.{◌≡◌, ◌⊎◌, ℕ, suc, ◌+◌, ◌-◌, ◌^◌, ◌<◌, ◌≤◌, min, List, [], ◌∷◌, ◌++◌, length, map, Bool, true, false, Result, Ok}
+use Rattle.std.proofs.Common.{Err, IfOk, IfErr, OnOk, OnErr, refl, sym, ap, subst, ◌∙◌, inl, inr, append_assoc, arith}
 use Rattle.std.proofs.Math.Logic.{∥∥₁_elim}
 use Rattle.std.proofs.Props.{props}
 use Rattle.std.specs.List.{list_any}
@@ -22,7 +23,8 @@ use Rattle.conn_serve.specs.declared.worker.Worked.{Worked}
 use Rattle.conn_serve.specs.declared.worker.Worked.TheVariants.{DoorFault, Shut}
 use Rattle.conn_staff.specs.Staffs.{AllEnded, Staffed, Telling, worked_by}
 use Rattle.serve_run.proofs.Doors.{as-many-ended, dice-counted, links-added, quotas-filled}
-use Rattle.serve_run.specs.Services.{AllOpened, Gathered, GivenBack, HasListened, IsRefused, ReadsList, Refused, Served, ServedBy, SomeRose, Tally, report, tally}
+use Rattle.serve_run.specs.Services.{AllOpened, Gathered, GivenBack, HasListened, IsRefused, ReadsList, Refused}
+use Rattle.serve_run.specs.Services.{Served, ServedBy, SomeRose, Tally, report, tally}
 
 -- Workers: each door shut, or one failed.
 

@@ -1,5 +1,6 @@
 -- What a run of the server comes to.
-use Rattle.std.specs.Prelude.{◌≡◌, ◌≢◌, ◌⊎◌, ◌<◌, ◌≤◌, ◌+◌, ◌-◌, ◌*◌, ◌^◌, min, ℕ, List, [], ◌∷◌, ◌++◌, length, map, Option, Some, None, Result, Ok, Err, codes, ⊤}
+use Rattle.std.specs.Prelude.{◌≡◌, ◌≢◌, ◌⊎◌, ◌<◌, ◌≤◌, ◌+◌, ◌-◌, ◌*◌, ◌^◌, min, ℕ, List, [], ◌∷◌, ◌++◌}
+use Rattle.std.specs.Prelude.{length, map, Option, Some, None, Result, Ok, Err, codes, ⊤}
 use Rattle.std.specs.Fmt.{decimal}
 use Rattle.outside.specs.Devices.{Front, Rose}
 use Rattle.outside.specs.Doors.{Untold}
@@ -96,7 +97,8 @@ pub record Served (domain : Address) (workers quota : ℕ) (list : List ℕ) (po
   pub gathered : Gathered ports now now_ports
   pub counted : length staffed.history < 2 ^ 63 → now_ports.links ≡ plus ports.links (openings staffed.history)
   pub filled : length staffed.history < 2 ^ 63 → quota ≢ 0 → openings staffed.history ≡ workers * quota
-  pub dice_failed : min (ports.dice + dice_ends (opening domain (names_of accounts.accounts) workers) accounts staffed.history 0 before now staffed.each) (2 ^ 64 - 1) ≤ now_ports.dice
+  pub dice_failed : min (ports.dice + dice_ends (opening domain (names_of accounts.accounts) workers) accounts staffed.history 0 before now staffed.each)
+      (2 ^ 64 - 1) ≤ now_ports.dice
 
 -- what listened, and so was given back, by the status
 abbrev pub HasListened : Status → Type 0

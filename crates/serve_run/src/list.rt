@@ -8,6 +8,9 @@ use outside::{Got, Source};
 use script_play::Status;
 use std::alloc::Global;
 
+/// How many bytes one reading of the list asks for.
+const PIECE: usize = 4096;
+
 /// No list of accounts is longer.
 const MOST_LIST: usize = 8_388_608;
 
@@ -19,7 +22,7 @@ pub(crate) fn read_list<S: Source>(alloc: Global, source: &mut S) -> Result<Vec<
     ensures others { IfErr result (λ s. (s ≡ Status.ReadFault) ⊎ (s ≡ Status.NoMemory)) }
 {
     let mut list = Vec::new(alloc);
-    let mut buffer = [0u8; 4096];
+    let mut buffer = [0u8; PIECE];
     while list.len() <= MOST_LIST {
         match source.read(&mut buffer) {
             Got::Bytes(count) => list.extend_from_slice(&buffer[..count])?,

@@ -62,7 +62,8 @@ pub(crate) fn house_of(
 pub(crate) fn secret_of<P: Ports>(ports: &mut P) -> Result<[u8; 32], Status>
     ensures kept { P.faults ports.old ≤ P.faults ports.new }
     ensures cause { IfErr result (λ s. (s ≡ Status.ListenFault) × Rose (P.faults ports.old) (P.faults ports.new)) }
-    ensures same { tally (P.tapes ports.new) (P.links ports.new) (P.dice_faults ports.new) ≡ tally (P.tapes ports.old) (P.links ports.old) (P.dice_faults ports.old) }
+    ensures same { tally (P.tapes ports.new) (P.links ports.new) (P.dice_faults ports.new) ≡ tally (P.tapes ports.old) (P.links ports.old)
+        (P.dice_faults ports.old) }
 {
     let mut secret = [0u8; 32];
     match ports.fill(&mut secret) {

@@ -36,8 +36,10 @@ pub(crate) fn print_report<K: Sink>(
     ensures failed { IfErr result (λ s. s ≡ Status.WriteFault → Rose (K.faults sink.old) (K.faults sink.new)) }
     ensures others { IfErr result (λ s. (s ≡ Status.WriteFault) ⊎ (s ≡ Status.NoMemory)) }
     ensures numbers { (o : State) (h : List Turn) → Stands o h (held house.now) → (house.now.table.opened ≡ openings h) × (house.now.turns ≡ length h) }
-    ensures written { (taken : List ℕ) → K.took sink.old ≡ Some taken → OnOk result (K.took sink.new ≡ Some (taken ++ report house.now.table.opened house.now.turns)) }
-    ensures cut { (taken : List ℕ) → K.took sink.old ≡ Some taken → IfErr result (λ s. s ≡ Status.WriteFault → Front taken (report house.now.table.opened house.now.turns) (K.took sink.new)) }
+    ensures written { (taken : List ℕ) → K.took sink.old ≡ Some taken
+        → OnOk result (K.took sink.new ≡ Some (taken ++ report house.now.table.opened house.now.turns)) }
+    ensures cut { (taken : List ℕ) → K.took sink.old ≡ Some taken
+        → IfErr result (λ s. s ≡ Status.WriteFault → Front taken (report house.now.table.opened house.now.turns) (K.took sink.new)) }
     ensures silent { IfErr result (λ s. s ≡ Status.NoMemory → sink.new ≡ sink.old) }
 {
     let line = report_of(alloc, house)?;

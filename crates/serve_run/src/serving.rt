@@ -52,7 +52,8 @@ fn open<P: Ports>(
     ports: &mut P,
 ) -> Result<(Accounts, House), Status>
     ensures kept { P.faults ports.old ≤ P.faults ports.new }
-    ensures same { tally (P.tapes ports.new) (P.links ports.new) (P.dice_faults ports.new) ≡ tally (P.tapes ports.old) (P.links ports.old) (P.dice_faults ports.old) }
+    ensures same { tally (P.tapes ports.new) (P.links ports.new) (P.dice_faults ports.new) ≡ tally (P.tapes ports.old) (P.links ports.old)
+        (P.dice_faults ports.old) }
     ensures read { IfOk result (λ r. entries_of list.now ≡ Ok (map entry_of r.0.accounts)) }
     ensures new { IfOk result (λ r. StandsFor (opening serving.now.domain (names_of r.0.accounts) serving.now.workers) [] (held r.1)) }
     ensures lines { IfOk result (λ r. length r.1.table.lines ≡ serving.now.workers) }
@@ -97,12 +98,16 @@ where
     requires new { (o : State) × StandsFor o [] (held house) }
     ensures many { length result.0.items ≡ length posts.items }
     ensures served { IfOk result.1 (λ left. (o : State) → StandsFor o [] (held house) → Staffed o accounts.now
-        (map (λ p. telling (G.tapes p.door) (C.told p.clock) (I.drawn p.dice) (G.links p.door) (G.faults p.door) (G.quota p.door) (I.faults p.dice)) posts.items)
-        (map (λ p. telling (G.tapes p.door) (C.told p.clock) (I.drawn p.dice) (G.links p.door) (G.faults p.door) (G.quota p.door) (I.faults p.dice)) result.0.items)
+        (map (λ p. telling (G.tapes p.door) (C.told p.clock) (I.drawn p.dice) (G.links p.door) (G.faults p.door) (G.quota p.door)
+        (I.faults p.dice)) posts.items)
+        (map (λ p. telling (G.tapes p.door) (C.told p.clock) (I.drawn p.dice) (G.links p.door) (G.faults p.door) (G.quota p.door)
+        (I.faults p.dice)) result.0.items)
         Worked.Shut (held left)) }
     ensures refused { IfErr result.1 (λ s. (s ≡ Status.NoMemory) ⊎ ((s ≡ Status.ListenFault) × SomeRose
-        (map (λ p. telling (G.tapes p.door) (C.told p.clock) (I.drawn p.dice) (G.links p.door) (G.faults p.door) (G.quota p.door) (I.faults p.dice)) posts.items)
-        (map (λ p. telling (G.tapes p.door) (C.told p.clock) (I.drawn p.dice) (G.links p.door) (G.faults p.door) (G.quota p.door) (I.faults p.dice)) result.0.items))) }
+        (map (λ p. telling (G.tapes p.door) (C.told p.clock) (I.drawn p.dice) (G.links p.door) (G.faults p.door) (G.quota p.door)
+        (I.faults p.dice)) posts.items)
+        (map (λ p. telling (G.tapes p.door) (C.told p.clock) (I.drawn p.dice) (G.links p.door) (G.faults p.door) (G.quota p.door)
+        (I.faults p.dice)) result.0.items))) }
 {
     let (back, left) = serve_posts(rt, alloc, house, accounts, posts, workers);
     match left {
@@ -128,15 +133,20 @@ where
     requires some { 0 < serving.now.workers }
     requires posts { length posts.items ≡ serving.now.workers }
     ensures kept { P.faults ports.old ≤ P.faults ports.new }
-    ensures same { tally (P.tapes ports.new) (P.links ports.new) (P.dice_faults ports.new) ≡ tally (P.tapes ports.old) (P.links ports.old) (P.dice_faults ports.old) }
+    ensures same { tally (P.tapes ports.new) (P.links ports.new) (P.dice_faults ports.new) ≡ tally (P.tapes ports.old) (P.links ports.old)
+        (P.dice_faults ports.old) }
     ensures many { length result.0.items ≡ length posts.items }
     ensures served { IfOk result.1 (λ left. ServedBy serving.now.domain serving.now.workers list.now
-        (map (λ p. telling (P.Door.tapes p.door) (P.Clock.told p.clock) (P.Dice.drawn p.dice) (P.Door.links p.door) (P.Door.faults p.door) (P.Door.quota p.door) (P.Dice.faults p.dice)) posts.items)
-        (map (λ p. telling (P.Door.tapes p.door) (P.Clock.told p.clock) (P.Dice.drawn p.dice) (P.Door.links p.door) (P.Door.faults p.door) (P.Door.quota p.door) (P.Dice.faults p.dice)) result.0.items)
+        (map (λ p. telling (P.Door.tapes p.door) (P.Clock.told p.clock) (P.Dice.drawn p.dice) (P.Door.links p.door) (P.Door.faults p.door) (P.Door.quota p.door)
+        (P.Dice.faults p.dice)) posts.items)
+        (map (λ p. telling (P.Door.tapes p.door) (P.Clock.told p.clock) (P.Dice.drawn p.dice) (P.Door.links p.door) (P.Door.faults p.door) (P.Door.quota p.door)
+        (P.Dice.faults p.dice)) result.0.items)
         (held left)) }
     ensures refused { IfErr result.1 (λ s. Refused list.now s (Rose (P.faults ports.old) (P.faults ports.new) ⊎ SomeRose
-        (map (λ p. telling (P.Door.tapes p.door) (P.Clock.told p.clock) (P.Dice.drawn p.dice) (P.Door.links p.door) (P.Door.faults p.door) (P.Door.quota p.door) (P.Dice.faults p.dice)) posts.items)
-        (map (λ p. telling (P.Door.tapes p.door) (P.Clock.told p.clock) (P.Dice.drawn p.dice) (P.Door.links p.door) (P.Door.faults p.door) (P.Door.quota p.door) (P.Dice.faults p.dice)) result.0.items))) }
+        (map (λ p. telling (P.Door.tapes p.door) (P.Clock.told p.clock) (P.Dice.drawn p.dice) (P.Door.links p.door) (P.Door.faults p.door) (P.Door.quota p.door)
+        (P.Dice.faults p.dice)) posts.items)
+        (map (λ p. telling (P.Door.tapes p.door) (P.Clock.told p.clock) (P.Dice.drawn p.dice) (P.Door.links p.door) (P.Door.faults p.door) (P.Door.quota p.door)
+        (P.Dice.faults p.dice)) result.0.items))) }
 {
     match open(alloc, serving, list, ports) {
         Ok((accounts, house)) => attend(rt, alloc, house, &accounts, posts, serving.workers),
@@ -172,8 +182,11 @@ where
     ensures kept { P.faults ports.old ≤ P.faults ports.new }
     ensures served { IfOk result (λ left. (before : List Telling) × (now : List Telling) × (length before ≡ serving.now.workers)
         × AllOpened serving.now.connections before × ServedBy serving.now.domain serving.now.workers list.now before now (held left)
-        × Gathered (tally (P.tapes ports.old) (P.links ports.old) (P.dice_faults ports.old)) now (tally (P.tapes ports.new) (P.links ports.new) (P.dice_faults ports.new))) }
-    ensures given { IfErr result (λ s. HasListened s → GivenBack serving.now.workers (tally (P.tapes ports.old) (P.links ports.old) (P.dice_faults ports.old)) (tally (P.tapes ports.new) (P.links ports.new) (P.dice_faults ports.new))) }
+        × Gathered (tally (P.tapes ports.old) (P.links ports.old) (P.dice_faults ports.old)) now
+        (tally (P.tapes ports.new) (P.links ports.new) (P.dice_faults ports.new))) }
+    ensures given { IfErr result (λ s. HasListened s
+        → GivenBack serving.now.workers (tally (P.tapes ports.old) (P.links ports.old) (P.dice_faults ports.old))
+        (tally (P.tapes ports.new) (P.links ports.new) (P.dice_faults ports.new))) }
     ensures refused { IfErr result (λ s. Refused list.now s (Rose (P.faults ports.old) (P.faults ports.new))) }
 {
     let address = address_of(alloc, serving.port)?;
@@ -204,13 +217,17 @@ where
     requires some { 0 < serving.now.workers }
     ensures kept { P.faults ports.old ≤ P.faults ports.new }
     ensures served { OnOk result ((list : List ℕ) × (line : List ℕ) × ReadsList (S.left source.old) (S.left source.new) list
-        × Served serving.now.domain serving.now.workers serving.now.connections list (tally (P.tapes ports.old) (P.links ports.old) (P.dice_faults ports.old)) (tally (P.tapes ports.new) (P.links ports.new) (P.dice_faults ports.new)) line
+        × Served serving.now.domain serving.now.workers serving.now.connections list (tally (P.tapes ports.old) (P.links ports.old) (P.dice_faults ports.old))
+        (tally (P.tapes ports.new) (P.links ports.new) (P.dice_faults ports.new)) line
         × ((taken : List ℕ) → K.took sink.old ≡ Some taken → K.took sink.new ≡ Some (taken ++ line))) }
     ensures cut { IfErr result (λ s. s ≡ Status.WriteFault → (list : List ℕ) × (line : List ℕ) × ReadsList (S.left source.old) (S.left source.new) list
-        × Served serving.now.domain serving.now.workers serving.now.connections list (tally (P.tapes ports.old) (P.links ports.old) (P.dice_faults ports.old)) (tally (P.tapes ports.new) (P.links ports.new) (P.dice_faults ports.new)) line
+        × Served serving.now.domain serving.now.workers serving.now.connections list (tally (P.tapes ports.old) (P.links ports.old) (P.dice_faults ports.old))
+        (tally (P.tapes ports.new) (P.links ports.new) (P.dice_faults ports.new)) line
         × ((taken : List ℕ) → K.took sink.old ≡ Some taken → Front taken line (K.took sink.new))) }
     ensures silent { IfErr result (λ s. s ≢ Status.WriteFault → sink.new ≡ sink.old) }
-    ensures given { IfErr result (λ s. HasListened s → GivenBack serving.now.workers (tally (P.tapes ports.old) (P.links ports.old) (P.dice_faults ports.old)) (tally (P.tapes ports.new) (P.links ports.new) (P.dice_faults ports.new))) }
+    ensures given { IfErr result (λ s. HasListened s
+        → GivenBack serving.now.workers (tally (P.tapes ports.old) (P.links ports.old) (P.dice_faults ports.old))
+        (tally (P.tapes ports.new) (P.links ports.new) (P.dice_faults ports.new))) }
     ensures accounts { IfErr result (λ s. (n : ℕ) → s ≡ Status.Accounts n → (list : List ℕ) × ReadsList (S.left source.old) (S.left source.new) list
         × IsRefused (entries_of list) s) }
     ensures read { IfErr result (λ s. s ≡ Status.ReadFault → Rose (S.faults source.old) (S.faults source.new)) }
@@ -246,13 +263,16 @@ where
     requires some { 0 < serving.now.workers }
     ensures kept { P.faults ports.old ≤ P.faults ports.new }
     ensures served { result ≡ Status.Done → (list : List ℕ) × (line : List ℕ) × ReadsList (S.left source.old) (S.left source.new) list
-        × Served serving.now.domain serving.now.workers serving.now.connections list (tally (P.tapes ports.old) (P.links ports.old) (P.dice_faults ports.old)) (tally (P.tapes ports.new) (P.links ports.new) (P.dice_faults ports.new)) line
+        × Served serving.now.domain serving.now.workers serving.now.connections list (tally (P.tapes ports.old) (P.links ports.old) (P.dice_faults ports.old))
+        (tally (P.tapes ports.new) (P.links ports.new) (P.dice_faults ports.new)) line
         × ((taken : List ℕ) → K.took sink.old ≡ Some taken → K.took sink.new ≡ Some (taken ++ line)) }
     ensures cut { result ≡ Status.WriteFault → (list : List ℕ) × (line : List ℕ) × ReadsList (S.left source.old) (S.left source.new) list
-        × Served serving.now.domain serving.now.workers serving.now.connections list (tally (P.tapes ports.old) (P.links ports.old) (P.dice_faults ports.old)) (tally (P.tapes ports.new) (P.links ports.new) (P.dice_faults ports.new)) line
+        × Served serving.now.domain serving.now.workers serving.now.connections list (tally (P.tapes ports.old) (P.links ports.old) (P.dice_faults ports.old))
+        (tally (P.tapes ports.new) (P.links ports.new) (P.dice_faults ports.new)) line
         × ((taken : List ℕ) → K.took sink.old ≡ Some taken → Front taken line (K.took sink.new)) }
     ensures silent { result ≢ Status.Done → result ≢ Status.WriteFault → sink.new ≡ sink.old }
-    ensures given { HasListened result → GivenBack serving.now.workers (tally (P.tapes ports.old) (P.links ports.old) (P.dice_faults ports.old)) (tally (P.tapes ports.new) (P.links ports.new) (P.dice_faults ports.new)) }
+    ensures given { HasListened result → GivenBack serving.now.workers (tally (P.tapes ports.old) (P.links ports.old) (P.dice_faults ports.old))
+        (tally (P.tapes ports.new) (P.links ports.new) (P.dice_faults ports.new)) }
     ensures accounts { (n : ℕ) → result ≡ Status.Accounts n → (list : List ℕ) × ReadsList (S.left source.old) (S.left source.new) list
         × ((kind : LineKind) × (entries_of list ≡ Err (n, kind))) }
     ensures read { result ≡ Status.ReadFault → Rose (S.faults source.old) (S.faults source.new) }

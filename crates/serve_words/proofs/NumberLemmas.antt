@@ -1,5 +1,6 @@
 -- What a text of digits is read as.
-use Rattle.std.proofs.Common.{◌≡◌, ℕ, ◌<◌, ◌≤◌, ◌^◌, Bool, true, false, ◌&&◌, List, [], ◌∷◌, length, nat_lt, nat_le, Some, None, true≢false, refl, sym, ap, ◌∙◌, arith, cond, zero, suc, le-leb, leb-true, ltb-true, lt-ltb}
+use Rattle.std.proofs.Common.{◌≡◌, ℕ, ◌<◌, ◌≤◌, ◌^◌, Bool, true, false, ◌&&◌, List, [], ◌∷◌, length, nat_lt, nat_le, Some, None}
+use Rattle.std.proofs.Common.{true≢false, refl, sym, ap, ◌∙◌, arith, cond, zero, suc, le-leb, leb-true, ltb-true, lt-ltb}
 use Rattle.std.specs.Prelude.{Ok, Err}
 use Rattle.std.specs.Char.{is_ascii_digit}
 use Rattle.std.specs.List.{list_all}

@@ -13,7 +13,8 @@ abbrev pub bare : List ℕ → App
 bare name = let app = new_app name in record app { top = record app.top { no_binary_name = true; disable_help_flag = true; disable_version_flag = true } }
 
 abbrev pub grammar : App
-grammar = with_rule (with_rule (with_rule (with_rule (bare (codes "serve")) (option (codes "domain"))) (option (codes "port"))) (option (codes "workers"))) (option (codes "connections"))
+grammar = with_rule (with_rule (with_rule (with_rule (bare (codes "serve")) (option (codes "domain"))) (option (codes "port"))) (option (codes "workers")))
+    (option (codes "connections"))
 
 -- the value that clap read of an option
 abbrev pub value_in : ArgMatches → List ℕ → Option (List ℕ)

@@ -1,5 +1,6 @@
 -- The words of `serve`: options anywhere, each at most once.
-use Rattle.std.specs.Prelude.{◌≡◌, ℕ, ◌==◌, nat_le, nat_lt, Bool, true, false, not, ◌&&◌, List, [], ◌∷◌, length, Option, Some, None, ⊤, bytes_eq, codes, is_some, if◌then◌else◌}
+use Rattle.std.specs.Prelude.{◌≡◌, ℕ, ◌==◌, nat_le, nat_lt, Bool, true, false, not, ◌&&◌, List, [], ◌∷◌, length}
+use Rattle.std.specs.Prelude.{Option, Some, None, ⊤, bytes_eq, codes, is_some, if◌then◌else◌}
 use Rattle.std.specs.Char.{is_ascii_digit}
 use Rattle.std.specs.List.{list_all}
 use Rattle.std.specs.Result.{result_ok}
@@ -46,7 +47,8 @@ before_all one rest = on rest (λ more. Some (one ∷ more))
 abbrev pub options : Option Name → List (List ℕ) → Option (List Set)
 options None [] = Some []
 options (Some name) [] = None
-options None (word ∷ more) = if is_some (after 61 word) then on (joined word) (λ one. before_all one (options None more)) else on (named word) (λ name. options (Some name) more)
+options None (word ∷ more) = if is_some (after 61 word) then on (joined word) (λ one. before_all one (options None more))
+    else on (named word) (λ name. options (Some name) more)
 options (Some name) (word ∷ more) = if is_value word then before_all (record { name = name; value = word }) (options None more) else None
 
 abbrev pub is_same : Name → Name → Bool

@@ -4,7 +4,8 @@ ghost use Rattle.std.specs.Prelude.{◌≡◌, ◌<◌, ◌≤◌, ◌++◌, Non
 ghost use Rattle.std.specs.Option.{option_map};
 ghost use Rattle.account_book.specs.Fields.{on};
 ghost use Rattle.serve_words.specs.Grammars.{value_in};
-ghost use Rattle.serve_words.specs.Options.{IsRefusal, default, domain, number, only, options, set_of, spelled, value_of, values_of, wanted, wanted_by, wanted_in, wanted_of};
+ghost use Rattle.serve_words.specs.Options.{IsRefusal, default, domain, number, only, options, set_of, spelled, value_of};
+ghost use Rattle.serve_words.specs.Options.{values_of, wanted, wanted_by, wanted_in, wanted_of};
 
 use crate::grammar::{parse, value};
 use crate::number::number;
@@ -148,6 +149,15 @@ fn read_number(text: Option<&str>, least: u64, most: u64) -> Option<u64>
     number(text?, least, most)
 }
 
+/// The greatest port (RFC 9293, 3.1).
+const MOST_PORT: u64 = 65_535;
+
+/// How many workers there may be: each has a thread, and serves one connection at a time.
+const MOST_WORKERS: u64 = 64;
+
+/// How many connections a worker may be told to serve.
+const MOST_CONNECTIONS: u64 = 1_000_000;
+
 /// What the values that clap read ask for.
 fn read_values(alloc: Global, matches: &ArgMatches<'_>) -> Result<Serving, Status>
     ensures found { IfOk result (λ serving. wanted_by (value_in matches.now (codes "domain")) (value_in matches.now (codes "port"))
@@ -157,13 +167,13 @@ fn read_values(alloc: Global, matches: &ArgMatches<'_>) -> Result<Serving, Statu
         (value_in matches.now (codes "workers")) (value_in matches.now (codes "connections")))) }
 {
     let domain = read_domain(alloc, value(matches, "domain"))?;
-    let Some(port) = read_number(value(matches, "port"), 1, 65_535) else {
+    let Some(port) = read_number(value(matches, "port"), 1, MOST_PORT) else {
         return Err(Status::Usage);
     };
-    let Some(workers) = read_number(value(matches, "workers"), 1, 64) else {
+    let Some(workers) = read_number(value(matches, "workers"), 1, MOST_WORKERS) else {
         return Err(Status::Usage);
     };
-    let Some(connections) = read_number(value(matches, "connections"), 0, 1_000_000) else {
+    let Some(connections) = read_number(value(matches, "connections"), 0, MOST_CONNECTIONS) else {
         return Err(Status::Usage);
     };
     Ok(Serving {

@@ -1,5 +1,6 @@
 -- What the index has of the sessions, as they change, come and go.
-use Rattle.std.proofs.Common.{◌≡◌, ℕ, ◌<◌, ◌≤◌, min, nat_eq, is_some, Bool, true, false, cond, ◌&&◌, ◌⊎◌, inl, inr, ◌≢◌, true≢false, List, [], ◌∷◌, ◌++◌, Option, Some, None, arith, refl, sym, ap, subst, ◌∙◌}
+use Rattle.std.proofs.Common.{◌≡◌, ℕ, ◌<◌, ◌≤◌, min, nat_eq, is_some, Bool, true, false, cond, ◌&&◌, ◌⊎◌, inl, inr, ◌≢◌}
+use Rattle.std.proofs.Common.{true≢false, List, [], ◌∷◌, ◌++◌, Option, Some, None, arith, refl, sym, ap, subst, ◌∙◌}
 use Rattle.std.proofs.lemmas.Bool.{eq-eqb, eqb-false, eqb-true, le-leb, leb-false, lt-leb, ne_eqb, and_parts}
 use Rattle.std.proofs.lemmas.Bool.Decides.{eqb_tells}
 use Rattle.std.proofs.lemmas.Option.{none-some as none_some, same_Some}

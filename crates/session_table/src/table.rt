@@ -50,7 +50,9 @@ impl Table {
     ghost use Rattle.session_table.specs.Changes.{change_of};
     ghost use Rattle.session_table.specs.Lending.{LendsSession};
     ghost use Rattle.session_table.specs.Sessions.{ended, held_by, is_due, left_until};
-    ghost use Rattle.session_table.specs.Tables.{IsFirst, IsLive, Rises, attached, bound, changed, first_due, holds, is_empty, is_fresh, is_logged, is_there, line_ended, line_of, logged_in, new_table, number_at, session_of, with_conn, with_line, without};
+    ghost use Rattle.session_table.specs.Tables.{IsFirst, IsLive, Rises, attached, bound, changed, first_due, holds, is_empty};
+    ghost use Rattle.session_table.specs.Tables.{is_fresh, is_logged, is_there, line_ended, line_of, logged_in, new_table};
+    ghost use Rattle.session_table.specs.Tables.{number_at, session_of, with_conn, with_line, without};
 
     /// A table of so many lines, all without a connection, and no session.
     pub fn new(alloc: Global, lines: u32) -> Result<Table, NoMemory>

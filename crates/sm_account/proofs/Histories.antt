@@ -5,7 +5,8 @@ use Rattle.sm_account.specs.Sessions.{Hold, Held, Away, Ended, Core, Op, acted, 
 use Rattle.sm_account.specs.Connections.{Connection, connections, start, run}
 use Rattle.sm_account.proofs.Labels.{labels}
 use Rattle.sm_account.proofs.Shares.{all_are}
-use Rattle.sm_account.specs.Logs.{Given, Taken, log_of, gives, takes, does, answers, latest_first, all_carried, all_arrived, entries_of, stanzas_of, AreDistinct, AllAre}
+use Rattle.sm_account.specs.Logs.{Given, Taken, log_of, gives, takes, does, answers, latest_first, all_carried}
+use Rattle.sm_account.specs.Logs.{all_arrived, entries_of, stanzas_of, AreDistinct, AllAre}
 use Rattle.sm_account.proofs.Places.{unmade_in_order}
 use Rattle.sm_account.proofs.Grows.{core_of_run}
 use Rattle.sm_account.proofs.Done.{run_acted, run_told}

@@ -4,7 +4,8 @@ use Rattle.std.specs.Prelude.{◌⊎◌}
 use Rattle.std.specs.Option.{option_map}
 use Rattle.stanza_tree.specs.declared.node.Element.{Element}
 use Rattle.stanza_model.specs.Kinds.{message_form, presence_form, iq_form}
-use Rattle.stanza_model.specs.Stanzas.{kind_of, type_of, id_of, address_in, is_unreadable, has_wrong_content, faulty, unless_unreadable, presence_by, iq_by, stanza_as, stanza_of, element_in}
+use Rattle.stanza_model.specs.Stanzas.{kind_of, type_of, id_of, address_in, is_unreadable, has_wrong_content, faulty}
+use Rattle.stanza_model.specs.Stanzas.{unless_unreadable, presence_by, iq_by, stanza_as, stanza_of, element_in}
 use Rattle.stanza_model.specs.declared.condition.Condition.TheVariants.{BadRequest, JidMalformed}
 use Rattle.stanza_model.specs.declared.kinds.Kind.{Kind}
 use Rattle.stanza_model.specs.declared.kinds.Kind.TheVariants as kind

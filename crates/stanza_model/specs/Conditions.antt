@@ -1,7 +1,10 @@
 -- The conditions of stanza errors: their names (RFC 6120, 8.3.3), and the types of their errors (RFC 6120, 8.3.2).
 use Rattle.std.specs.Prelude.{ℕ, List, codes}
 use Rattle.stanza_model.specs.declared.condition.Condition.{Condition}
-use Rattle.stanza_model.specs.declared.condition.Condition.TheVariants.{BadRequest, Conflict, FeatureNotImplemented, Forbidden, ItemNotFound, JidMalformed, NotAcceptable, NotAllowed, NotAuthorized, RegistrationRequired, RemoteServerNotFound, ResourceConstraint, ServiceUnavailable, UnexpectedRequest}
+use Rattle.stanza_model.specs.declared.condition.Condition.TheVariants.{BadRequest, Conflict, FeatureNotImplemented, Forbidden, ItemNotFound}
+use Rattle.stanza_model.specs.declared.condition.Condition.TheVariants.{JidMalformed, NotAcceptable, NotAllowed, NotAuthorized}
+use Rattle.stanza_model.specs.declared.condition.Condition.TheVariants.{RegistrationRequired, RemoteServerNotFound, ResourceConstraint}
+use Rattle.stanza_model.specs.declared.condition.Condition.TheVariants.{ServiceUnavailable, UnexpectedRequest}
 
 abbrev pub condition_name : Condition → List ℕ
 condition_name BadRequest = codes "bad-request"

@@ -1,7 +1,8 @@
 //! Contacts as the server writes them, and how a session is told of a change (RFC 6121, 2.1).
 ghost use Rattle.std.specs.Prelude.{◌≡◌, ◌<◌, ◌+◌, ◌-◌, ◌^◌, ◌++◌, [], codes, map, All, IfOk, OnOk};
 ghost use Rattle.stanza_model.specs.Errors.{element_of};
-ghost use Rattle.stanza_model.specs.Rosters.{ask_attr, group_node, item, item_node, name_attr, push, pushed_to, pushes, pushes_if, removed_item, roster_space, subscription_name};
+ghost use Rattle.stanza_model.specs.Rosters.{ask_attr, group_node, item, item_node, name_attr, push, pushed_to, pushes};
+ghost use Rattle.stanza_model.specs.Rosters.{pushes_if, removed_item, roster_space, subscription_name};
 
 use crate::effect::{Change, Effect};
 use crate::here::Here;

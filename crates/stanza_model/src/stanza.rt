@@ -3,7 +3,9 @@ ghost use Rattle.std.specs.Prelude.{◌≡◌, ◌==◌, ◌↔◌, None, Some, 
 ghost use Rattle.std.specs.Option.{option_copied};
 ghost use Rattle.stanza_model.specs.Kinds.{message_form, presence_form, iq_form};
 ghost use Rattle.stanza_model.specs.declared.stanza.StanzaFault.TheVariants.{Unsupported};
-ghost use Rattle.stanza_model.specs.Stanzas.{kind_of, type_of, id_of, address_in, is_unreadable, element_count, has_value, is_answered, faulty, message_of, presence_by, iq_by, stanza_of, has_wrong_content, kind_in, to_in, element_in, id_in};
+ghost use Rattle.stanza_model.specs.Stanzas.{kind_of, type_of, id_of, address_in, is_unreadable, element_count, has_value};
+ghost use Rattle.stanza_model.specs.Stanzas.{is_answered, faulty, message_of, presence_by, iq_by, stanza_of};
+ghost use Rattle.stanza_model.specs.Stanzas.{has_wrong_content, kind_in, to_in, element_in, id_in};
 
 use crate::condition::Condition;
 use crate::kinds::{IqForm, Kind, MessageForm, PresenceForm};

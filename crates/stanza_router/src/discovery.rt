@@ -4,7 +4,8 @@ ghost use Rattle.std.specs.Option.{option_copied};
 ghost use Rattle.stanza_tree.specs.Spelling.{text_under};
 ghost use Rattle.stanza_model.specs.Errors.{element_of};
 ghost use Rattle.stanza_model.specs.Replies.{may_be_answered};
-ghost use Rattle.stanza_router.specs.Discovery.{described, discovery, feature, fitting, found, identity, info_of, item, items_of, items_space, most_items, node_of, query_in, room_item, server_items, unless_node};
+ghost use Rattle.stanza_router.specs.Discovery.{described, discovery, feature, fitting, found, identity, info_of, item, items_of, items_space};
+ghost use Rattle.stanza_router.specs.Discovery.{most_items, node_of, query_in, room_item, server_items, unless_node};
 ghost use Rattle.stanza_router.specs.Places.{service_domain};
 
 use crate::listed::Listed;

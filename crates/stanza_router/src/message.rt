@@ -5,7 +5,8 @@ ghost use Rattle.std.specs.Option.{option_copied};
 ghost use Rattle.jid_core.specs.Addresses.{same_part, address_text};
 ghost use Rattle.stanza_tree.specs.declared.frame.Origin.TheVariants.{Direct};
 ghost use Rattle.stanza_model.specs.declared.here.Here.{Here};
-ghost use Rattle.stanza_router.specs.Messages.{addressed, at_address, copied, copied_to, deliveries, else_of_user, is_reached, of_full, of_user, receivers_of, route_of, to_full, to_no_session, to_user};
+ghost use Rattle.stanza_router.specs.Messages.{addressed, at_address, copied, copied_to, deliveries, else_of_user, is_reached, of_full};
+ghost use Rattle.stanza_router.specs.Messages.{of_user, receivers_of, route_of, to_full, to_no_session, to_user};
 
 use crate::places::Place;
 use jid_core::{Jid, Part};

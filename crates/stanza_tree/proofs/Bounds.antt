@@ -1,10 +1,12 @@
 -- How long a stamped stanza and a frame can be.
-use Rattle.std.proofs.Common.{◌≡◌, ℕ, ◌+◌, ◌*◌, ◌≤◌, List, [], ◌∷◌, ◌++◌, length, Bool, true, false, not, ◌&&◌, codes, if◌then◌else◌, refl, ap, arith, length-append, flat_map}
+use Rattle.std.proofs.Common.{◌≡◌, ℕ, ◌+◌, ◌*◌, ◌≤◌, List, [], ◌∷◌, ◌++◌, length, Bool, true, false, not, ◌&&◌}
+use Rattle.std.proofs.Common.{codes, if◌then◌else◌, refl, ap, arith, length-append, flat_map}
 use Rattle.std.proofs.lemmas.Grind.{common_steps}
 use Rattle.stanza_tree.specs.declared.node.Attr.{Attr}
 use Rattle.stanza_tree.specs.declared.node.Element.{Element}
 use Rattle.stanza_tree.specs.Attributes.{is_named}
-use Rattle.stanza_tree.specs.Spelling.{escaped_in_words, escaped_in_value, words_text, value_text, needs_prefix, declarations, prefixed, unprefixed, attributes, named, opened, closed, client_space, texts_under, text}
+use Rattle.stanza_tree.specs.Spelling.{escaped_in_words, escaped_in_value, words_text, value_text, needs_prefix, declarations, prefixed}
+use Rattle.stanza_tree.specs.Spelling.{unprefixed, attributes, named, opened, closed, client_space, texts_under, text}
 use Rattle.stanza_tree.specs.Stamps.{sent_by, from_text, stamped_text}
 use Rattle.stanza_tree.specs.declared.frame.Entry.{Entry}
 use Rattle.stanza_tree.specs.Entries.{frame}

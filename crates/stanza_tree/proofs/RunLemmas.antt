@@ -1,5 +1,6 @@
 -- Bytes that stand for themselves are spelt as they are, a run at a time.
-use Rattle.std.proofs.Common.{◌≡◌, ◌∙◌, ℕ, Bool, true, false, max, refl, ◌+◌, ◌<◌, ◌≤◌, ◌-◌, List, [], ◌∷◌, ◌++◌, length, length-append, drop, take, slice_range, slice_index, flat_map, sym, ap, arith, append_assoc}
+use Rattle.std.proofs.Common.{◌≡◌, ◌∙◌, ℕ, Bool, true, false, max, refl, ◌+◌, ◌<◌, ◌≤◌, ◌-◌, List, [], ◌∷◌, ◌++◌, length}
+use Rattle.std.proofs.Common.{length-append, drop, take, slice_range, slice_index, flat_map, sym, ap, arith, append_assoc}
 use Rattle.std.proofs.lemmas.Grind.{common_steps}
 use Rattle.stanza_tree.specs.Spelling.{escaped_in_words, escaped_in_value}
 use Rattle.std.proofs.Math.Seq.{take-add}

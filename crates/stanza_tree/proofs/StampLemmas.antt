@@ -5,7 +5,8 @@ use Rattle.std.proofs.lemmas.Slice.Eq.{bytes_eq-Decides}
 use Rattle.stanza_tree.specs.declared.node.Attr.{Attr}
 use Rattle.stanza_tree.specs.declared.node.Element.{Element}
 use Rattle.stanza_tree.specs.Attributes.{is_named, with_attr, without_attr}
-use Rattle.stanza_tree.specs.Spelling.{assigned, needs_prefix, declaration, declarations, prefixed, unprefixed, attributes, named, opened, closed, client_space, texts_under, text}
+use Rattle.stanza_tree.specs.Spelling.{assigned, needs_prefix, declaration, declarations, prefixed, unprefixed}
+use Rattle.stanza_tree.specs.Spelling.{attributes, named, opened, closed, client_space, texts_under, text}
 use Rattle.stanza_tree.proofs.SpellingLemmas.{text_under-parts}
 use Rattle.stanza_tree.specs.Stamps.{stamped, sent_by, from_text, stamped_text}
 

@@ -1,5 +1,7 @@
 -- What UTF-8 is spelt as is UTF-8.
-use Rattle.std.proofs.Common.{◌≡◌, ◌∙◌, ℕ, zero, suc, ◌+◌, ◌<◌, ◌≤◌, ◌^◌, inl, inr, List, [], ◌∷◌, ◌++◌, length, Bool, true, false, not, ◌&&◌, nat_lt, codes, bytes_eq, if◌then◌else◌, ◌==◌, flat_map, slice_index, drop, refl, sym, ap, subst, append-nil, arith}
+use Rattle.std.proofs.Common.{◌≡◌, ◌∙◌, ℕ, zero, suc, ◌+◌, ◌<◌, ◌≤◌, ◌^◌, inl, inr, List, [], ◌∷◌, ◌++◌, length, Bool}
+use Rattle.std.proofs.Common.{true, false, not, ◌&&◌, nat_lt, codes, bytes_eq, if◌then◌else◌, ◌==◌, flat_map}
+use Rattle.std.proofs.Common.{slice_index, drop, refl, sym, ap, subst, append-nil, arith}
 use Rattle.std.proofs.lemmas.Bool.{cases_lt, and_parts, and_from, ltb-true, cond-false, cond-true, le-ltb, lt-ltb}
 use Rattle.std.proofs.lemmas.Bool.Decides.{nat_tests}
 use Rattle.std.proofs.lemmas.Grind.{common_steps, flat_map-append}
@@ -11,7 +13,9 @@ use lib.Utf8.{encode, scalars}
 use Rattle.stanza_tree.specs.declared.node.Attr.{Attr}
 use Rattle.stanza_tree.specs.declared.node.Name.{Name}
 use Rattle.stanza_tree.specs.Attributes.{is_named}
-use Rattle.stanza_tree.specs.Spelling.{escaped_in_words, escaped_in_value, words_text, value_text, assigned, needs_prefix, prefix, declaration, declarations, prefixed, unprefixed, attributes, default_space, named, opened, closed, client_space, text_under, texts_under, text}
+use Rattle.stanza_tree.specs.Spelling.{escaped_in_words, escaped_in_value, words_text, value_text, assigned, needs_prefix, prefix}
+use Rattle.stanza_tree.specs.Spelling.{declaration, declarations, prefixed, unprefixed, attributes, default_space, named, opened}
+use Rattle.stanza_tree.specs.Spelling.{closed, client_space, text_under, texts_under, text}
 use Rattle.stanza_tree.specs.Utf8.{NameIsUtf8, AttrsAreUtf8}
 use Rattle.stanza_tree.specs.Stamps.{sent_by, from_text, stamped_text}
 use Rattle.stanza_tree.proofs.SpellingLemmas.{text_under-parts, texts-child, texts-words}

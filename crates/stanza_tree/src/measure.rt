@@ -1,7 +1,8 @@
 //! Measures the canonical spelling of an element, without memory.
 ghost use Rattle.std.specs.Prelude.{◌≡◌, ◌<◌, ◌^◌, ◌-◌, ℕ, List, min, nat_lt, length as list_length};
 ghost use Rattle.std.specs.Fmt.{decimal};
-ghost use Rattle.stanza_tree.specs.Spelling.{words_text, value_text, assigned, declaration, declarations, prefixed, unprefixed, attributes, named, opened, closed, text_under, texts_under, text};
+ghost use Rattle.stanza_tree.specs.Spelling.{words_text, value_text, assigned, declaration, declarations, prefixed, unprefixed};
+ghost use Rattle.stanza_tree.specs.Spelling.{attributes, named, opened, closed, text_under, texts_under, text};
 
 use crate::node::{Attr, Element, Name, Node};
 use crate::spell::{

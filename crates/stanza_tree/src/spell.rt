@@ -3,7 +3,9 @@ ghost use Rattle.std.specs.Prelude.{◌≡◌, ◌++◌, ◌∷◌, [], ◌↔�
 ghost use Rattle.stanza_tree.specs.Appending.{Keeps};
 ghost use Rattle.std.specs.Fmt.{decimal};
 ghost use Rattle.stanza_tree.specs.Utf8.{NameIsUtf8, AttrsAreUtf8};
-ghost use Rattle.stanza_tree.specs.Spelling.{escaped_in_words, escaped_in_value, words_text, value_text, assigned, needs_prefix, declaration, declarations, prefixed, unprefixed, attributes, named, opened, closed, text_under, texts_under, text};
+ghost use Rattle.stanza_tree.specs.Spelling.{escaped_in_words, escaped_in_value, words_text, value_text, assigned};
+ghost use Rattle.stanza_tree.specs.Spelling.{needs_prefix, declaration, declarations, prefixed, unprefixed, attributes};
+ghost use Rattle.stanza_tree.specs.Spelling.{named, opened, closed, text_under, texts_under, text};
 
 use crate::node::{Attr, Element, Name, Node};
 use crate::text::NoMemory;

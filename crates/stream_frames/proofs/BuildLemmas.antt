@@ -9,11 +9,11 @@ use Rattle.std.proofs.lemmas.List.{map-append, reverse-append}
 use Rattle.stream_lex.specs.declared.Token.{Token}
 use Rattle.stream_lex.specs.declared.Token.TheVariants as token
 use Rattle.stream_grammar.proofs.LastLemmas.{but_last_layer}
-use Rattle.stream_grammar.specs.Building.{Opened, Building, worded_in, but_last, last_closed, with_child, closed_in, build_all}
+use Rattle.stream_grammar.specs.machine.Building.{Opened, Building, worded_in, but_last, last_closed, with_child, closed_in, build_all}
 use Rattle.stanza_tree.specs.declared.node.Element.{Element}
 use Rattle.stream_grammar.specs.declared.namespaces.Binding.{Binding}
 use Rattle.stream_grammar.specs.declared.item.Item.TheVariants as item
-use Rattle.stream_grammar.specs.Telling.{are_words}
+use Rattle.stream_grammar.specs.machine.Telling.{are_words}
 
 -- between top elements words are passed over
 pub no_words : (ts : List Token) (b : Building) → b.opened ≡ [] → are_words ts ≡ true → build_all b ts ≡ b

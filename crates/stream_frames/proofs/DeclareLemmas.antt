@@ -1,7 +1,7 @@
 -- A declaration begins with an x.
 use Rattle.std.proofs.Common.{◌≡◌, ℕ, zero, suc, List, [], ◌∷◌, take, refl, ap, Bool, true, false, ◌&&◌, ◌==◌}
 use Rattle.std.specs.Prelude.{bytes_eq, codes, if◌then◌else◌}
-use Rattle.stream_grammar.specs.Namespaces.{colon_at, has_prefix, is_declaration}
+use Rattle.stream_grammar.specs.grammar.Namespaces.{colon_at, has_prefix, is_declaration}
 use Rattle.stream_frames.specs.Begins.{begins_with_x}
 
 other-head : (c : ℕ) (cs : List ℕ) → (c == 120) ≡ false → bytes_eq (c ∷ cs) (codes "xmlns") ≡ false

@@ -12,17 +12,17 @@ use Rattle.stream_lex.specs.declared.stages.NameOwner.TheVariants.{StartTag, End
 use Rattle.stream_lex.specs.declared.stages.Stage.{Stage}
 use Rattle.stream_lex.specs.declared.stages.Stage.TheVariants as stage
 use Rattle.stream_lex.specs.declared.stages.State.{State}
-use Rattle.stream_lex.specs.Kinds.{ascii_kind}
-use Rattle.stream_lex.specs.Machine.{ascii, in_name}
-use Rattle.stream_lex.specs.Machine.{in_tag as in_tag_turn}
-use Rattle.stream_lex.specs.Turns.{leads, turn, turn_ascii}
+use Rattle.stream_lex.specs.grammar.Kinds.{ascii_kind}
+use Rattle.stream_lex.specs.machine.Machine.{ascii, in_name}
+use Rattle.stream_lex.specs.machine.Machine.{in_tag as in_tag_turn}
+use Rattle.stream_lex.specs.machine.Turns.{leads, turn, turn_ascii}
 use Rattle.stream_grammar.specs.declared.rules.Rules.{Rules}
-use Rattle.stream_grammar.specs.Trees.{RawName}
-use Rattle.stream_grammar.specs.Nesting.{Nest, inside, naming, in_tag, closing, nest}
-use Rattle.stream_grammar.specs.Framing.{Frame, open_at, is_empty_mark}
-use Rattle.stream_grammar.specs.Elements.{inside_of}
-use Rattle.stream_grammar.specs.Gathering.{nothing_gathered}
-use Rattle.stream_grammar.specs.Building.{Building, Opened, headed, begun, ended_in, closed_in, build, tag_judged}
+use Rattle.stream_grammar.specs.grammar.Trees.{RawName}
+use Rattle.stream_grammar.specs.machine.Nesting.{Nest, inside, naming, in_tag, closing, nest}
+use Rattle.stream_grammar.specs.machine.Framing.{Frame, open_at, is_empty_mark}
+use Rattle.stream_grammar.specs.grammar.Elements.{inside_of}
+use Rattle.stream_grammar.specs.machine.Gathering.{nothing_gathered}
+use Rattle.stream_grammar.specs.machine.Building.{Building, Opened, headed, begun, ended_in, closed_in, build, tag_judged}
 use Rattle.stream_frames.specs.Markup.{LeadsBy, ends_start, enters_by, now_entered, hollows_by, now_hollow, leaves_by, now_left, has_parent}
 use Rattle.stream_frames.specs.Moves.{is_none}
 use Rattle.stream_frames.specs.Stacks.{outer, is_all}

@@ -4,8 +4,8 @@ use Rattle.std.specs.Str.{is_utf8}
 use Rattle.stanza_tree.specs.declared.node.Attr.{Attr}
 use Rattle.stream_grammar.specs.declared.namespaces.Binding.{Binding}
 use Rattle.stream_grammar.specs.declared.namespaces.Written.{Written}
-use Rattle.stream_grammar.specs.Namespaces.{local_of, is_declaration, attribute_space}
-use Rattle.stream_grammar.specs.Resolving.{or_none, attr_on, attrs_on, is_text_name, name_on, are_text_attrs, is_text_tag}
+use Rattle.stream_grammar.specs.grammar.Namespaces.{local_of, is_declaration, attribute_space}
+use Rattle.stream_grammar.specs.grammar.Resolving.{or_none, attr_on, attrs_on, is_text_name, name_on, are_text_attrs, is_text_tag}
 use Rattle.stream_frames.specs.Filled.{spaces_on, first_of, others_of, attr_in, attrs_in}
 
 attrs_step : (layers : List (List Binding)) (a : Written) (more : List Written) (s : List ℕ) (ss : List (List ℕ)) (d : Bool) → attr_in s a ≡ attr_on layers a → attrs_in ss more ≡ attrs_on layers more

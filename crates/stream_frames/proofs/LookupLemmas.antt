@@ -1,8 +1,9 @@
 -- The last binding of a prefix may be looked for from the end.
-use Rattle.std.proofs.Common.{◌≡◌, ◌∙◌, ℕ, ◌+◌, ◌-◌, ◌<◌, ◌≤◌, List, [], ◌∷◌, ◌++◌, length, take, get_or, Bool, true, false, refl, ap, sym, arith, if◌then◌else◌, Option, None, Some, bytes_eq}
+use Rattle.std.proofs.Common.{◌≡◌, ◌∙◌, ℕ, ◌+◌, ◌-◌, ◌<◌, ◌≤◌, List, [], ◌∷◌, ◌++◌, length, take, get_or, Bool, true}
+use Rattle.std.proofs.Common.{false, refl, ap, sym, arith, if◌then◌else◌, Option, None, Some, bytes_eq}
 use Rattle.std.proofs.lemmas.List.{take_more}
 use Rattle.stream_grammar.specs.declared.namespaces.Binding.{Binding}
-use Rattle.stream_grammar.specs.Namespaces.{last_space, last_layer}
+use Rattle.stream_grammar.specs.grammar.Namespaces.{last_space, last_layer}
 use Rattle.stream_frames.proofs.TextLemmas.{layer_more}
 
 -- what was found, or else what was given

@@ -1,5 +1,6 @@
 -- Moves are the nesting's.
-use Rattle.std.proofs.Common.{◌≡◌, ℕ, ◌+◌, ◌<◌, ◌≤◌, inl, inr, List, [], ◌∷◌, ◌++◌, length, drop, refl, sym, ap, ◌∙◌, Bool, true, false, not, cond, ◌&&◌, ◌||◌, ◌==◌, nat_lt, nat_le, arith, get_or}
+use Rattle.std.proofs.Common.{◌≡◌, ℕ, ◌+◌, ◌<◌, ◌≤◌, inl, inr, List, [], ◌∷◌, ◌++◌, length, drop, refl, sym, ap, ◌∙◌, Bool}
+use Rattle.std.proofs.Common.{true, false, not, cond, ◌&&◌, ◌||◌, ◌==◌, nat_lt, nat_le, arith, get_or}
 use Rattle.std.proofs.lemmas.Bool.{cond-true, cases_lt}
 use Rattle.std.proofs.lemmas.Bool.Decides.{nat_tests}
 use Rattle.std.proofs.lemmas.List.{drop_more, drop_all}
@@ -12,13 +13,16 @@ use Rattle.stream_frames.specs.declared.places.Place.{Place}
 use Rattle.stream_frames.specs.declared.places.Place.TheVariants as place
 use Rattle.stream_frames.specs.declared.places.Move.{Move}
 use Rattle.stream_frames.specs.declared.places.Move.TheVariants as move
-use Rattle.stream_grammar.specs.Trees.{RawName, is_space}
-use Rattle.stream_grammar.specs.Nesting.{Nest, start, declared, inside, naming, in_tag, naming_attribute, in_value, closing, lost, may_stand, before_root, after_name, nest, nest_all}
-use Rattle.stream_grammar.specs.Framing.{comes_to_space, is_empty_mark, is_after_end_name, open_at, broken, placed, is_broken}
+use Rattle.stream_grammar.specs.grammar.Trees.{RawName, is_space}
+use Rattle.stream_grammar.specs.machine.Nesting.{Nest, start, declared, inside, naming, in_tag, naming_attribute, in_value, closing}
+use Rattle.stream_grammar.specs.machine.Nesting.{lost, may_stand, before_root, after_name, nest, nest_all}
+use Rattle.stream_grammar.specs.machine.Framing.{comes_to_space, is_empty_mark, is_after_end_name, open_at, broken, placed, is_broken}
 use Rattle.stream_frames.specs.Stacks.{outer, left_of, next_is, is_all}
-use Rattle.stream_frames.specs.Moves.{is_none, is_one, stands, root_move, content_move, name_move, attribute_move, value_move, closing_move, start_move, naming_move, place_move, words_move, many_move, tokens_move, gap_breaks, tag_breaks, place_breaks, breaks}
+use Rattle.stream_frames.specs.Moves.{is_none, is_one, stands, root_move, content_move, name_move, attribute_move}
+use Rattle.stream_frames.specs.Moves.{value_move, closing_move, start_move, naming_move, place_move, words_move, many_move}
+use Rattle.stream_frames.specs.Moves.{tokens_move, gap_breaks, tag_breaks, place_breaks, breaks}
 use Rattle.stream_frames.specs.Tracking.{nest_at, moved}
-use Rattle.stream_grammar.specs.Telling.{are_words, is_few}
+use Rattle.stream_grammar.specs.machine.Telling.{are_words, is_few}
 
 or-true : (t : Bool) → (t || true) ≡ true
 or-true true = refl

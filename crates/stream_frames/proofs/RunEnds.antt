@@ -1,5 +1,6 @@
 -- Runs of the names of end tags.
-use Rattle.std.proofs.Common.{◌≡◌, inl, inr, ℕ, zero, suc, ◌+◌, ◌<◌, ◌≤◌, List, [], ◌∷◌, ◌++◌, length, append-nil, append_assoc, take, drop, get_or, refl, sym, ap, ◌∙◌, subst, Bool, true, false, cond, ◌&&◌, arith}
+use Rattle.std.proofs.Common.{◌≡◌, inl, inr, ℕ, zero, suc, ◌+◌, ◌<◌, ◌≤◌, List, [], ◌∷◌, ◌++◌, length, append-nil, append_assoc, take}
+use Rattle.std.proofs.Common.{drop, get_or, refl, sym, ap, ◌∙◌, subst, Bool, true, false, cond, ◌&&◌, arith}
 use Rattle.std.specs.Prelude.{None, Some}
 use Rattle.std.proofs.lemmas.Bool.{and_parts, and_from, eq-eqb, eqb-true, cases_lt}
 use Rattle.std.proofs.lemmas.List.{take_more, drop_more, drop_all, take-take, length-take-le}
@@ -10,16 +11,16 @@ use Rattle.stream_lex.specs.declared.stages.Stage.{Stage}
 use Rattle.stream_lex.specs.declared.stages.Stage.TheVariants as stage
 use Rattle.stream_lex.specs.declared.stages.State.{State}
 use Rattle.stream_lex.specs.declared.characters.Pending.TheVariants as pending
-use Rattle.stream_lex.specs.Turns.{at}
+use Rattle.stream_lex.specs.machine.Turns.{at}
 use Rattle.stream_grammar.specs.declared.item.Limits.{Limits}
 use Rattle.stream_grammar.specs.declared.rules.Rules.{Rules}
-use Rattle.stream_grammar.specs.Trees.{RawName}
-use Rattle.stream_grammar.specs.Nesting.{closing, lost, nest}
-use Rattle.stream_grammar.specs.Framing.{Frame, open_at, placed}
-use Rattle.stream_grammar.specs.Framing.{settled as framed}
-use Rattle.stream_grammar.specs.Items.{tokens_told}
-use Rattle.stream_grammar.specs.Building.{Building}
-use Rattle.stream_grammar.specs.Reading.{rules_of}
+use Rattle.stream_grammar.specs.grammar.Trees.{RawName}
+use Rattle.stream_grammar.specs.machine.Nesting.{closing, lost, nest}
+use Rattle.stream_grammar.specs.machine.Framing.{Frame, open_at, placed}
+use Rattle.stream_grammar.specs.machine.Framing.{settled as framed}
+use Rattle.stream_grammar.specs.machine.Ends.{tokens_told}
+use Rattle.stream_grammar.specs.machine.Building.{Building}
+use Rattle.stream_grammar.specs.grammar.Bounds.{rules_of}
 use Rattle.stream_frames.specs.Runs.{is_name_byte, are_plain, is_end_stage, is_between_characters, is_in_end_name, closing_left, closing_on, Leads}
 use Rattle.stream_frames.specs.Stacks.{left_of, next_is}
 use Rattle.stream_frames.proofs.RunLemmas.{Quiet, no_bytes_led, more_led, between-state}

@@ -1,5 +1,6 @@
 -- What holds of all runs.
-use Rattle.std.proofs.Common.{◌≡◌, ℕ, suc, ◌+◌, ◌-◌, ◌<◌, ◌≤◌, ◌^◌, min, List, [], ◌∷◌, ◌++◌, append_assoc, length, take, drop, refl, sym, ap, ◌∙◌, subst, Bool, true, false, not, cond, ◌||◌, ◌&&◌, ◌==◌, nat_lt, arith}
+use Rattle.std.proofs.Common.{◌≡◌, ℕ, suc, ◌+◌, ◌-◌, ◌<◌, ◌≤◌, ◌^◌, min, List, [], ◌∷◌, ◌++◌, append_assoc, length, take, drop, refl}
+use Rattle.std.proofs.Common.{sym, ap, ◌∙◌, subst, Bool, true, false, not, cond, ◌||◌, ◌&&◌, ◌==◌, nat_lt, arith}
 use Rattle.std.specs.Prelude.{Option, None, Some, if◌then◌else◌}
 use Rattle.std.specs.Option.{is_some}
 use Rattle.std.proofs.lemmas.Bool.{and_from, and_parts, and_right, not-true, lt-leb}
@@ -10,21 +11,23 @@ use Rattle.stream_lex.specs.declared.characters.Pending.{Pending}
 use Rattle.stream_lex.specs.declared.characters.Pending.TheVariants as pending
 use Rattle.stream_lex.specs.declared.stages.Stage.{Stage}
 use Rattle.stream_lex.specs.declared.stages.State.{State}
-use Rattle.stream_lex.specs.Characters.{is_nothing, reach}
-use Rattle.stream_lex.specs.Kinds.{ascii_kind}
-use Rattle.stream_lex.specs.Machine.{ascii}
-use Rattle.stream_lex.specs.Machine.{yields as tells_and_goes}
-use Rattle.stream_lex.specs.Turns.{leads, at, settled, turn_ascii, turn_wide, turn}
+use Rattle.stream_lex.specs.machine.Characters.{is_nothing, reach}
+use Rattle.stream_lex.specs.grammar.Kinds.{ascii_kind}
+use Rattle.stream_lex.specs.machine.Machine.{ascii}
+use Rattle.stream_lex.specs.machine.Machine.{yields as tells_and_goes}
+use Rattle.stream_lex.specs.machine.Turns.{leads, at, settled, turn_ascii, turn_wide, turn}
 use Rattle.stream_grammar.specs.declared.FrameFault.{FrameFault}
 use Rattle.stream_grammar.specs.declared.FrameFault.TheVariants as fault
 use Rattle.stream_grammar.specs.declared.item.Limits.{Limits}
 use Rattle.stream_grammar.specs.declared.item.Item.{Item}
 use Rattle.stream_grammar.specs.declared.rules.Rules.{Rules}
-use Rattle.stream_grammar.specs.Framing.{Frame, frame_next, is_broken, fault_at}
-use Rattle.stream_grammar.specs.Items.{told_at, in_item}
-use Rattle.stream_grammar.specs.Telling.{fault_told}
-use Rattle.stream_grammar.specs.Building.{Building, build, build_all, told_judged, tag_judged}
-use Rattle.stream_grammar.specs.Reading.{Reading, reads, or_else, fault_if, concluded, is_past, extent_after, is_large_item, told_number, rules_of, byte_judged, reading_next, reading_after, taken_reading, is_done, is_none}
+use Rattle.stream_grammar.specs.machine.Framing.{Frame, frame_next, is_broken, fault_at}
+use Rattle.stream_grammar.specs.machine.Ends.{told_at, in_item}
+use Rattle.stream_grammar.specs.machine.Telling.{fault_told}
+use Rattle.stream_grammar.specs.machine.Building.{Building, build, build_all, told_judged, tag_judged}
+use Rattle.stream_grammar.specs.machine.Reading.{Reading, reads, or_else, fault_if, concluded, is_past, extent_after, byte_judged}
+use Rattle.stream_grammar.specs.machine.Reading.{reading_next, reading_after, taken_reading, is_done, is_none}
+use Rattle.stream_grammar.specs.grammar.Bounds.{is_large_item, told_number, rules_of}
 use Rattle.stream_grammar.proofs.FeedLemmas.{after_more}
 use Rattle.stream_frames.specs.Fed.{reading_of}
 use Rattle.stream_frames.specs.Markup.{LeadsBy}

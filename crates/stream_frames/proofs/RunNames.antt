@@ -1,5 +1,6 @@
 -- Runs of the names of attributes and of start tags.
-use Rattle.std.proofs.Common.{◌≡◌, inl, inr, ℕ, ◌+◌, ◌<◌, List, [], ◌∷◌, ◌++◌, length, append-nil, append_assoc, take, get_or, refl, sym, ap, ◌∙◌, subst, Bool, true, false, not, cond, ◌||◌, ◌&&◌, ◌==◌, nat_lt, nat_le, arith}
+use Rattle.std.proofs.Common.{◌≡◌, inl, inr, ℕ, ◌+◌, ◌<◌, List, [], ◌∷◌, ◌++◌, length, append-nil, append_assoc, take, get_or, refl, sym}
+use Rattle.std.proofs.Common.{ap, ◌∙◌, subst, Bool, true, false, not, cond, ◌||◌, ◌&&◌, ◌==◌, nat_lt, nat_le, arith}
 use Rattle.std.proofs.lemmas.Bool.{and_parts, leb-true, eqb-true, or_cases, agree_below_at}
 use Rattle.std.proofs.lemmas.List.{take_more}
 use Rattle.stream_lex.specs.declared.Token.TheVariants as token
@@ -10,21 +11,22 @@ use Rattle.stream_lex.specs.declared.stages.Stage.{Stage}
 use Rattle.stream_lex.specs.declared.stages.Stage.TheVariants as stage
 use Rattle.stream_lex.specs.declared.stages.State.{State}
 use Rattle.stream_lex.specs.declared.characters.Pending.TheVariants as pending
-use Rattle.stream_lex.specs.Kinds.{ascii_kind, is_name_further}
-use Rattle.stream_lex.specs.Grammar.{next_name_token}
-use Rattle.stream_lex.specs.Machine.{ascii, in_name, after_part}
-use Rattle.stream_lex.specs.Machine.{yields as tells_and_goes}
-use Rattle.stream_lex.specs.Turns.{leads, at, turn}
+use Rattle.stream_lex.specs.grammar.Kinds.{ascii_kind, is_name_further}
+use Rattle.stream_lex.specs.grammar.Grammar.{next_name_token}
+use Rattle.stream_lex.specs.machine.Machine.{ascii, in_name, after_part}
+use Rattle.stream_lex.specs.machine.Machine.{yields as tells_and_goes}
+use Rattle.stream_lex.specs.machine.Turns.{leads, at, turn}
 use Rattle.stream_grammar.specs.declared.item.Limits.{Limits}
 use Rattle.stream_grammar.specs.declared.rules.Rules.{Rules}
-use Rattle.stream_grammar.specs.Trees.{RawName}
-use Rattle.stream_grammar.specs.Nesting.{naming, naming_attribute, nest}
-use Rattle.stream_grammar.specs.Framing.{Frame, open_at, placed}
-use Rattle.stream_grammar.specs.Framing.{settled as framed}
-use Rattle.stream_grammar.specs.Items.{tokens_told}
-use Rattle.stream_grammar.specs.Building.{Building}
-use Rattle.stream_grammar.specs.Reading.{rules_of}
-use Rattle.stream_frames.specs.Runs.{is_name_byte, are_plain, is_attribute_stage, is_start_stage, is_between_characters, is_in_attribute_name, is_in_start_name, named_on, Leads}
+use Rattle.stream_grammar.specs.grammar.Trees.{RawName}
+use Rattle.stream_grammar.specs.machine.Nesting.{naming, naming_attribute, nest}
+use Rattle.stream_grammar.specs.machine.Framing.{Frame, open_at, placed}
+use Rattle.stream_grammar.specs.machine.Framing.{settled as framed}
+use Rattle.stream_grammar.specs.machine.Ends.{tokens_told}
+use Rattle.stream_grammar.specs.machine.Building.{Building}
+use Rattle.stream_grammar.specs.grammar.Bounds.{rules_of}
+use Rattle.stream_frames.specs.Runs.{is_name_byte, are_plain, is_attribute_stage, is_start_stage}
+use Rattle.stream_frames.specs.Runs.{is_between_characters, is_in_attribute_name, is_in_start_name, named_on, Leads}
 use Rattle.stream_frames.proofs.RunLemmas.{Quiet, no_bytes_led, more_led, plain-append, implied, turned, between-state}
 
 -- A plain byte goes on with a name.

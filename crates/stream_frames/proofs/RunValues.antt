@@ -1,5 +1,6 @@
 -- Runs of the values of attributes.
-use Rattle.std.proofs.Common.{◌≡◌, ℕ, ◌+◌, ◌<◌, List, [], ◌∷◌, ◌++◌, length, append-nil, append_assoc, take, get_or, refl, sym, ap, ◌∙◌, subst, Bool, true, false, not, ◌||◌, ◌&&◌, ◌==◌, nat_lt}
+use Rattle.std.proofs.Common.{◌≡◌, ℕ, ◌+◌, ◌<◌, List, [], ◌∷◌, ◌++◌, length, append-nil, append_assoc, take, get_or, refl}
+use Rattle.std.proofs.Common.{sym, ap, ◌∙◌, subst, Bool, true, false, not, ◌||◌, ◌&&◌, ◌==◌, nat_lt}
 use Rattle.std.specs.Prelude.{None, Some, if◌then◌else◌}
 use Rattle.std.proofs.lemmas.Bool.{and_parts, ltb-true, agree_below_at}
 use Rattle.std.proofs.lemmas.List.{take_more}
@@ -13,21 +14,21 @@ use Rattle.stream_lex.specs.declared.stages.Stage.{Stage}
 use Rattle.stream_lex.specs.declared.stages.Stage.TheVariants as stage
 use Rattle.stream_lex.specs.declared.stages.State.{State}
 use Rattle.stream_lex.specs.declared.characters.Pending.TheVariants as pending
-use Rattle.stream_lex.specs.Kinds.{ascii_kind}
-use Rattle.stream_lex.specs.Machine.{ascii, in_value}
-use Rattle.stream_lex.specs.Machine.{yields as tells_and_goes}
-use Rattle.stream_lex.specs.Turns.{leads, at, turn}
+use Rattle.stream_lex.specs.grammar.Kinds.{ascii_kind}
+use Rattle.stream_lex.specs.machine.Machine.{ascii, in_value}
+use Rattle.stream_lex.specs.machine.Machine.{yields as tells_and_goes}
+use Rattle.stream_lex.specs.machine.Turns.{leads, at, turn}
 use Rattle.stream_lex.proofs.Spans.{encode1}
 use Rattle.stream_grammar.specs.declared.item.Limits.{Limits}
 use Rattle.stream_grammar.specs.declared.rules.Rules.{Rules}
-use Rattle.stream_grammar.specs.Trees.{RawName}
-use Rattle.stream_grammar.specs.Nesting.{nest}
-use Rattle.stream_grammar.specs.Nesting.{in_value as valuing}
-use Rattle.stream_grammar.specs.Framing.{Frame, open_at, placed, frame_next}
-use Rattle.stream_grammar.specs.Framing.{settled as framed}
-use Rattle.stream_grammar.specs.Items.{tokens_told}
-use Rattle.stream_grammar.specs.Building.{Building}
-use Rattle.stream_grammar.specs.Reading.{rules_of}
+use Rattle.stream_grammar.specs.grammar.Trees.{RawName}
+use Rattle.stream_grammar.specs.machine.Nesting.{nest}
+use Rattle.stream_grammar.specs.machine.Nesting.{in_value as valuing}
+use Rattle.stream_grammar.specs.machine.Framing.{Frame, open_at, placed, frame_next}
+use Rattle.stream_grammar.specs.machine.Framing.{settled as framed}
+use Rattle.stream_grammar.specs.machine.Ends.{tokens_told}
+use Rattle.stream_grammar.specs.machine.Building.{Building}
+use Rattle.stream_grammar.specs.grammar.Bounds.{rules_of}
 use Rattle.stream_frames.specs.Runs.{is_plain_value, are_plain, value_quote, is_between_characters, open_quote, Leads}
 use Rattle.stream_frames.proofs.RunLemmas.{Quiet, no_bytes_led, more_led, plain-append, implied, turned, between-state}
 

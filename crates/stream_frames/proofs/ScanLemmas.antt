@@ -1,15 +1,16 @@
 -- A tracker over a list finds its fault.
-use Rattle.std.proofs.Common.{◌≡◌, ℕ, ◌+◌, ◌<◌, List, [], ◌∷◌, ◌++◌, take, drop, length, get_or, refl, sym, ap, ◌∙◌, subst, append_assoc, Bool, true, false, cond, arith}
+use Rattle.std.proofs.Common.{◌≡◌, ℕ, ◌+◌, ◌<◌, List, [], ◌∷◌, ◌++◌, take, drop, length, get_or, refl, sym, ap}
+use Rattle.std.proofs.Common.{◌∙◌, subst, append_assoc, Bool, true, false, cond, arith}
 use Rattle.std.proofs.lemmas.List.{take_more, take-take, take-append-drop}
 use Rattle.std.specs.declared.option.Option.{Option}
 use Rattle.std.specs.declared.option.Option.TheVariants.{None, Some}
 use Rattle.stream_grammar.specs.declared.FrameFault.{FrameFault}
 use Rattle.stream_grammar.specs.declared.rules.Rules.{Rules}
-use Rattle.stream_grammar.specs.Streams.{Spells, Begins}
-use Rattle.stream_grammar.specs.Faults.{IsSyntaxKind, IsSyntaxFault}
-use Rattle.stream_grammar.specs.Framing.{Frame, frame_next, frame_after, first_frame, is_broken, fault_at}
+use Rattle.stream_grammar.specs.grammar.Streams.{Spells, Begins}
+use Rattle.stream_grammar.specs.grammar.Faults.{IsSyntaxKind, IsSyntaxFault}
+use Rattle.stream_grammar.specs.machine.Framing.{Frame, frame_next, frame_after, first_frame, is_broken, fault_at}
 use Rattle.stream_frames.specs.Tracking.{Tracked}
-use Rattle.stream_grammar.specs.Telling.{fault_told}
+use Rattle.stream_grammar.specs.machine.Telling.{fault_told}
 use Rattle.stream_grammar.proofs.Whole.{open-begins, broken-begins}
 use Rattle.stream_grammar.proofs.Agreeing.{after-snoc}
 use Rattle.stream_grammar.proofs.Blaming.{fault-kind}

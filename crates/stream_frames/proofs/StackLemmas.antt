@@ -7,7 +7,7 @@ use Rattle.std.specs.Option.{option_to_list, MatchOption}
 use Rattle.std.specs.declared.option.Option.{Option}
 use Rattle.std.specs.declared.option.Option.TheVariants.{None, Some}
 use Rattle.stream_frames.specs.declared.names.OpenName.{OpenName}
-use Rattle.stream_grammar.specs.Trees.{RawName}
+use Rattle.stream_grammar.specs.grammar.Trees.{RawName}
 use Rattle.stream_frames.specs.Stacks.{raw, stacked_on, stacked, AreStacked, outer, is_all}
 use Rattle.stream_frames.specs.Moves.{is_one}
 

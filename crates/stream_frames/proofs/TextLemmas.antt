@@ -1,14 +1,14 @@
 -- Bytes that are no text, and the bindings of one element more.
 use Rattle.std.proofs.Common.{◌≡◌, ℕ, List, [], ◌∷◌, ◌++◌, refl, Bool, true, false, ◌≤◌, length, arith}
 use Rattle.stream_lex.specs.declared.Token.{Token}
-use Rattle.stream_grammar.specs.Telling.{is_few, are_words}
+use Rattle.stream_grammar.specs.machine.Telling.{is_few, are_words}
 use Rattle.std.proofs.lemmas.Str.{IsUtf8-from_is_utf8, is_utf8-from_IsUtf8}
 use Rattle.std.specs.Prelude.{Option}
 use Rattle.std.specs.Str.{IsUtf8, is_utf8}
 use Rattle.stanza_tree.specs.declared.text.TextFault.TheVariants.{NotUtf8}
 use Rattle.stanza_tree.specs.Faults.{IsTextFault}
 use Rattle.stream_grammar.specs.declared.namespaces.Binding.{Binding}
-use Rattle.stream_grammar.specs.Namespaces.{last_space, last_layer}
+use Rattle.stream_grammar.specs.grammar.Namespaces.{last_space, last_layer}
 
 pub not_utf8 : (bs : List ℕ) → (IsUtf8 bs → ⊥) → is_utf8 bs ≡ false
 not_utf8 bs never = by (is_utf8 bs) refl

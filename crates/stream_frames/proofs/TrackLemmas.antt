@@ -9,22 +9,22 @@ use Rattle.stream_lex.specs.declared.Token.{Token}
 use Rattle.stream_lex.specs.declared.LexFault.{LexFault}
 use Rattle.stream_lex.specs.declared.Lexed.{Lexed}
 use Rattle.stream_lex.specs.declared.stages.State.{State}
-use Rattle.stream_lex.specs.Turns.{Outcome, leads, fails, turn}
-use Rattle.stream_lex.specs.Live.{is_live}
-use Rattle.stream_lex.specs.Leading.{tokens_of, IsTurned}
+use Rattle.stream_lex.specs.machine.Turns.{Outcome, leads, fails, turn}
+use Rattle.stream_lex.specs.machine.Live.{is_live}
+use Rattle.stream_lex.specs.machine.Leading.{tokens_of, IsTurned}
 use Rattle.stream_lex.proofs.Living.{LeadsLive}
 use Rattle.stream_grammar.specs.declared.rules.Rules.{Rules}
 use Rattle.stream_frames.specs.declared.places.Place.{Place}
 use Rattle.stream_frames.specs.declared.places.Move.{Move}
 use Rattle.stream_grammar.specs.declared.FrameFault.{FrameFault}
 use Rattle.stream_grammar.specs.declared.FrameFault.TheVariants as fault
-use Rattle.stream_grammar.specs.Trees.{RawName}
-use Rattle.stream_grammar.specs.Faults.{deeper, wider, looser}
-use Rattle.stream_grammar.specs.Nesting.{Nest, start, inside, lost, nest_all}
-use Rattle.stream_grammar.specs.Framing.{goes_with, open_at, broken, placed, settled, frame_next, is_broken, lexical_fault, byte_fault, fault_at}
+use Rattle.stream_grammar.specs.grammar.Trees.{RawName}
+use Rattle.stream_grammar.specs.grammar.Faults.{deeper, wider, looser}
+use Rattle.stream_grammar.specs.machine.Nesting.{Nest, start, inside, lost, nest_all}
+use Rattle.stream_grammar.specs.machine.Framing.{goes_with, open_at, broken, placed, settled, frame_next, is_broken, lexical_fault, byte_fault, fault_at}
 use Rattle.stream_frames.specs.Moves.{tokens_move, breaks}
 use Rattle.stream_frames.specs.Tracking.{nest_at, moved, frame_of, tried, judged}
-use Rattle.stream_grammar.specs.Telling.{is_few}
+use Rattle.stream_grammar.specs.machine.Telling.{is_few}
 use Rattle.stream_frames.proofs.MoveLemmas.{tokens-moved, move-breaks}
 use Rattle.stream_grammar.proofs.Few.{turn-few}
 use Rattle.stream_grammar.proofs.Following.{any-live}

@@ -1,5 +1,6 @@
 -- What a builder stands for, and what it is ready for.
-use Rattle.std.specs.Prelude.{◌≡◌, ℕ, ◌+◌, ◌*◌, ◌<◌, ◌≤◌, List, [], ◌∷◌, ◌++◌, map, reverse, length, true, Option, Some, None, vec_len, vec_capacity, string_bytes, string_len, string_capacity}
+use Rattle.std.specs.Prelude.{◌≡◌, ℕ, ◌+◌, ◌*◌, ◌<◌, ◌≤◌, List, [], ◌∷◌, ◌++◌, map, reverse, length, true, Option, Some}
+use Rattle.std.specs.Prelude.{None, vec_len, vec_capacity, string_bytes, string_len, string_capacity}
 use Rattle.stream_lex.specs.declared.Token.{Token}
 use Rattle.stream_frames.specs.declared.built.Builder.{Builder}
 use Rattle.stream_frames.specs.declared.built.OpenElement.{OpenElement}
@@ -11,12 +12,13 @@ use Rattle.std.specs.Str.{is_utf8}
 use Rattle.stanza_tree.specs.declared.node.Element.{Element}
 use Rattle.stream_grammar.specs.declared.namespaces.Binding.{Binding}
 use Rattle.stream_frames.specs.declared.tags.Resolved.{Resolved}
-use Rattle.stream_grammar.specs.Namespaces.{local_of}
-use Rattle.stream_grammar.specs.Resolving.{are_text_attrs}
+use Rattle.stream_grammar.specs.grammar.Namespaces.{local_of}
+use Rattle.stream_grammar.specs.grammar.Resolving.{are_text_attrs}
 use Rattle.stream_frames.specs.Filled.{attrs_in, element_in}
-use Rattle.stream_grammar.specs.Gathering.{Gathered, nothing_gathered, gather}
-use Rattle.stream_grammar.specs.Building.{Opened, Building, settled_words, ended_in, closed_in, build_all}
-use Rattle.stream_grammar.specs.Telling.{are_words}
+use Rattle.stream_grammar.specs.grammar.Tags.{Gathered}
+use Rattle.stream_grammar.specs.machine.Gathering.{nothing_gathered, gather}
+use Rattle.stream_grammar.specs.machine.Building.{Opened, Building, settled_words, ended_in, closed_in, build_all}
+use Rattle.stream_grammar.specs.machine.Telling.{are_words}
 use Rattle.stream_lex.specs.declared.Token.TheVariants as token
 
 abbrev pub open_parent : Parent → Opened
@@ -55,7 +57,8 @@ IsReady b ts (ready.ValueChar c) = string_len b.value + 4 ≤ string_capacity b.
 IsReady b ts ready.ValueEnd = vec_len b.attributes < vec_capacity b.attributes
 IsReady b ts ready.Words = (string_len b.words + 4 * length ts ≤ string_capacity b.words) × (are_words ts ≡ true)
 IsReady b ts (ready.Header h) = (vec_len b.layers < vec_capacity b.layers) × IsOfTag b h.value.resolved
-IsReady b ts (ready.Begins h) = (vec_len b.layers < vec_capacity b.layers) × (vec_len b.others < vec_capacity b.others) × HasChildRoom 2 b.innermost × IsOfTag b h.value.resolved
+IsReady b ts (ready.Begins h) = (vec_len b.layers < vec_capacity b.layers) × (vec_len b.others < vec_capacity b.others) × HasChildRoom 2 b.innermost
+    × IsOfTag b h.value.resolved
 IsReady b ts (ready.Hollow r) = HasChildRoom 2 b.innermost × IsOfTag b r.value
 IsReady b ts ready.Closes = HasChildRoom 1 b.innermost
 IsReady b ts r = Unit {0}
@@ -66,7 +69,12 @@ resolved_in r g = element_in r.space r.spaces.items g.name g.attributes
 
 -- an element is open, and its bindings count
 abbrev pub begun_in : Element → List Binding → Building → Building
-begun_in e own b = record b { layers = b.layers ++ own ∷ []; opened = record { name = e.name; attrs = e.attrs; children = e.children } ∷ settled_words b.words b.opened; words = [] }
+begun_in e own b = record b {
+  layers = b.layers ++ own ∷ [];
+  opened = record { name = e.name; attrs = e.attrs; children = e.children }
+      ∷ settled_words b.words b.opened;
+  words = [];
+}
 
 -- what it does
 abbrev pub applied : Ready → List Token → Building → Building
@@ -78,7 +86,12 @@ applied (ready.AttributeByte x) ts b = record b { tag = gather b.tag (token.Attr
 applied (ready.ValueChar c) ts b = record b { tag = gather b.tag (token.Value c) }
 applied ready.ValueEnd ts b = record b { tag = gather b.tag token.ValueEnds }
 applied ready.Words ts b = build_all b ts
-applied (ready.Header h) ts b = record b { tag = nothing_gathered; layers = b.layers ++ h.value.own ∷ []; item = Some (item.Header (resolved_in h.value.resolved b.tag) h.value.default_space) }
+applied (ready.Header h) ts b = record b {
+  tag = nothing_gathered;
+  layers = b.layers ++ h.value.own
+      ∷ [];
+  item = Some (item.Header (resolved_in h.value.resolved b.tag) h.value.default_space);
+}
 applied (ready.Begins h) ts b = begun_in (resolved_in h.value.resolved b.tag) h.value.own (record b { tag = nothing_gathered })
 applied (ready.Hollow r) ts b = ended_in (resolved_in r.value b.tag) b.words b.opened (record b { tag = nothing_gathered })
 applied ready.Closes ts b = closed_in b.opened (record b { tag = nothing_gathered })

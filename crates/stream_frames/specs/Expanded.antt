@@ -6,8 +6,8 @@ use Rattle.stream_grammar.specs.declared.namespaces.NameFault.{NameFault}
 use Rattle.stream_grammar.specs.declared.namespaces.NameFault.TheVariants as fault
 use Rattle.stream_frames.specs.declared.expanded.Expanded.{Expanded}
 use Rattle.stream_frames.specs.Spaces.{bound_space}
-use Rattle.stream_grammar.specs.Resolving.{or_none, is_text_name}
-use Rattle.stream_grammar.specs.Namespaces.{is_declaration, local_of, attribute_space, is_unbound, same_space, is_bound_to, xml_space, has_forbidden}
+use Rattle.stream_grammar.specs.grammar.Resolving.{or_none, is_text_name}
+use Rattle.stream_grammar.specs.grammar.Namespaces.{is_declaration, local_of, attribute_space, is_unbound, same_space, is_bound_to, xml_space, has_forbidden}
 
 -- a namespace, unless the prefix is not bound, and a local part; and the attribute as it stands in the tag
 pub record FullName : Type 0 where

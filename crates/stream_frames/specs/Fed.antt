@@ -5,10 +5,10 @@ use Rattle.stream_grammar.specs.declared.FrameFault.{FrameFault}
 use Rattle.stream_frames.specs.declared.built.Builder.{Builder}
 use Rattle.stream_frames.specs.declared.built.Ready.{Ready}
 use Rattle.stream_grammar.specs.declared.item.Limits.{Limits}
-use Rattle.stream_grammar.specs.Framing.{Frame}
-use Rattle.stream_grammar.specs.Building.{Building, build_all, told_judged}
+use Rattle.stream_grammar.specs.machine.Framing.{Frame}
+use Rattle.stream_grammar.specs.machine.Building.{Building, build_all, told_judged}
 use Rattle.stream_frames.specs.Builds.{building, IsReady, applied}
-use Rattle.stream_grammar.specs.Reading.{Reading, reads, stopped}
+use Rattle.stream_grammar.specs.machine.Reading.{Reading, reads, stopped}
 
 pub record Fed : Type 0 where
   pub limits : Limits

@@ -4,8 +4,8 @@ use Rattle.stanza_tree.specs.declared.node.Attr.{Attr}
 use Rattle.stanza_tree.specs.declared.node.Element.{Element}
 use Rattle.stream_grammar.specs.declared.namespaces.Binding.{Binding}
 use Rattle.stream_grammar.specs.declared.namespaces.Written.{Written}
-use Rattle.stream_grammar.specs.Namespaces.{local_of, is_declaration, attribute_space}
-use Rattle.stream_grammar.specs.Resolving.{or_none}
+use Rattle.stream_grammar.specs.grammar.Namespaces.{local_of, is_declaration, attribute_space}
+use Rattle.stream_grammar.specs.grammar.Resolving.{or_none}
 
 -- the namespaces of the attributes; declarations are none
 abbrev pub spaces_on : List (List Binding) → List Written → List (List ℕ)

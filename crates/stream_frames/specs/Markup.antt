@@ -1,12 +1,14 @@
 -- Markup that ends no tag: bytes below 128 of which each is read by its stage and place alone.
-use Rattle.std.specs.Prelude.{◌≡◌, ◌<◌, ◌≤◌, ℕ, ◌+◌, ◌^◌, List, [], ◌∷◌, ◌++◌, length, Bool, true, false, not, ◌==◌, ◌&&◌, ◌||◌, nat_lt, nat_le, Option, Some, None, if◌then◌else◌}
+use Rattle.std.specs.Prelude.{◌≡◌, ◌<◌, ◌≤◌, ℕ, ◌+◌, ◌^◌, List, [], ◌∷◌, ◌++◌, length, Bool, true, false, not, ◌==◌}
+use Rattle.std.specs.Prelude.{◌&&◌, ◌||◌, nat_lt, nat_le, Option, Some, None, if◌then◌else◌}
 use Rattle.std.specs.Option.{is_some}
 use Rattle.stream_grammar.specs.declared.item.Limits.{Limits}
 use Rattle.stream_grammar.specs.declared.rules.Rules.{Rules}
-use Rattle.stream_grammar.specs.Building.{Building, Opened}
-use Rattle.stream_grammar.specs.Framing.{Frame, open_at, is_empty_mark}
-use Rattle.stream_grammar.specs.Nesting.{Nest, inside, naming, in_tag, naming_attribute, in_value, closing}
-use Rattle.stream_grammar.specs.Reading.{reads, told_number, rules_of, is_done}
+use Rattle.stream_grammar.specs.machine.Building.{Building, Opened}
+use Rattle.stream_grammar.specs.machine.Framing.{Frame, open_at, is_empty_mark}
+use Rattle.stream_grammar.specs.machine.Nesting.{Nest, inside, naming, in_tag, naming_attribute, in_value, closing}
+use Rattle.stream_grammar.specs.machine.Reading.{reads, is_done}
+use Rattle.stream_grammar.specs.grammar.Bounds.{told_number, rules_of}
 use Rattle.stream_lex.specs.declared.characters.Pending.TheVariants as pending
 use Rattle.stream_lex.specs.declared.stages.Context.TheVariants.{Words, Value}
 use Rattle.stream_lex.specs.declared.stages.Half.TheVariants.{Prefix}
@@ -15,14 +17,15 @@ use Rattle.stream_lex.specs.declared.stages.Quote.{Quote}
 use Rattle.stream_lex.specs.declared.stages.Quote.TheVariants.{Double, Single}
 use Rattle.stream_lex.specs.declared.stages.Stage.{Stage}
 use Rattle.stream_lex.specs.declared.stages.Stage.TheVariants as stage
-use Rattle.stream_lex.specs.Turns.{at}
+use Rattle.stream_lex.specs.machine.Turns.{at}
 use Rattle.stream_frames.specs.Moves.{is_none}
 use Rattle.stream_frames.specs.Stacks.{outer, left_of, begins_so, is_all}
 use Rattle.stream_frames.specs.Runs.{is_between_characters, is_end_stage, has_opened, IsRun}
 
 -- As `Leads`, under rules on depth and attributes.
 pub record LeadsBy (r : Rules) (f : Frame) (b : Building) (xs : List ℕ) (g : Frame) (c : Building) : Type 0 where
-  pub run : (l : Limits) (n k : ℕ) (ys : List ℕ) → rules_of l ≡ r → is_done (reads f b n k) ≡ false → k < 2 ^ 64 → n + length xs ≤ l.bytes → IsRun l (reads f b n k) xs ys (reads g c (n + length xs) (told_number (k + length xs)))
+  pub run : (l : Limits) (n k : ℕ) (ys : List ℕ) → rules_of l ≡ r → is_done (reads f b n k) ≡ false → k < 2 ^ 64 → n + length xs ≤ l.bytes
+      → IsRun l (reads f b n k) xs ys (reads g c (n + length xs) (told_number (k + length xs)))
 
 -- Bytes that tell nothing.
 

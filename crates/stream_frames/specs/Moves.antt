@@ -8,8 +8,8 @@ use Rattle.stream_frames.specs.declared.places.Place.{Place}
 use Rattle.stream_frames.specs.declared.places.Place.TheVariants as place
 use Rattle.stream_frames.specs.declared.places.Move.{Move}
 use Rattle.stream_frames.specs.declared.places.Move.TheVariants as move
-use Rattle.stream_grammar.specs.Trees.{RawName, is_space}
-use Rattle.stream_grammar.specs.Framing.{comes_to_space, is_empty_mark, is_after_end_name}
+use Rattle.stream_grammar.specs.grammar.Trees.{RawName, is_space}
+use Rattle.stream_grammar.specs.machine.Framing.{comes_to_space, is_empty_mark, is_after_end_name}
 use Rattle.stream_frames.specs.Stacks.{outer, begins_so, left_of, next_is, is_all}
 
 abbrev pub is_none : List RawName → Bool

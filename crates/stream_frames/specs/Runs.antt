@@ -1,11 +1,13 @@
 -- Runs: bytes that end nothing and have no fault, so that they can be read at once.
-use Rattle.std.specs.Prelude.{◌≡◌, ◌<◌, ◌≤◌, ℕ, ◌+◌, ◌^◌, List, [], ◌∷◌, ◌++◌, length, Bool, true, false, not, ◌==◌, ◌&&◌, ◌||◌, nat_lt, nat_le, Option, Some, None, if◌then◌else◌}
+use Rattle.std.specs.Prelude.{◌≡◌, ◌<◌, ◌≤◌, ℕ, ◌+◌, ◌^◌, List, [], ◌∷◌, ◌++◌, length, Bool, true, false, not, ◌==◌}
+use Rattle.std.specs.Prelude.{◌&&◌, ◌||◌, nat_lt, nat_le, Option, Some, None, if◌then◌else◌}
 use Rattle.stream_grammar.specs.declared.item.Limits.{Limits}
-use Rattle.stream_grammar.specs.Building.{Building, Opened}
-use Rattle.stream_grammar.specs.Framing.{Frame, open_at}
-use Rattle.stream_grammar.specs.Nesting.{inside, in_value, naming, naming_attribute, closing}
-use Rattle.stream_grammar.specs.Reading.{Reading, reads, told_number, reading_after, taken_reading, is_done}
-use Rattle.stream_lex.specs.Characters.{is_nothing}
+use Rattle.stream_grammar.specs.machine.Building.{Building, Opened}
+use Rattle.stream_grammar.specs.machine.Framing.{Frame, open_at}
+use Rattle.stream_grammar.specs.machine.Nesting.{inside, in_value, naming, naming_attribute, closing}
+use Rattle.stream_grammar.specs.machine.Reading.{Reading, reads, reading_after, taken_reading, is_done}
+use Rattle.stream_grammar.specs.grammar.Bounds.{told_number}
+use Rattle.stream_lex.specs.machine.Characters.{is_nothing}
 use Rattle.stream_lex.specs.declared.stages.Context.TheVariants.{Words, Value}
 use Rattle.stream_lex.specs.declared.stages.NameOwner.TheVariants.{StartTag, EndTag, Attribute}
 use Rattle.stream_lex.specs.declared.stages.Quote.{Quote}
@@ -110,4 +112,5 @@ pub record IsRun (l : Limits) (s : Reading) (xs ys : List ℕ) (t : Reading) : T
 
 -- Bytes lead from a place and what is made to others, and are a run wherever an item may still have so many.
 pub record Leads (f : Frame) (b : Building) (xs : List ℕ) (g : Frame) (c : Building) : Type 0 where
-  pub run : (l : Limits) (n k : ℕ) (ys : List ℕ) → is_done (reads f b n k) ≡ false → k < 2 ^ 64 → n + length xs ≤ l.bytes → IsRun l (reads f b n k) xs ys (reads g c (n + length xs) (told_number (k + length xs)))
+  pub run : (l : Limits) (n k : ℕ) (ys : List ℕ) → is_done (reads f b n k) ≡ false → k < 2 ^ 64 → n + length xs ≤ l.bytes
+      → IsRun l (reads f b n k) xs ys (reads g c (n + length xs) (told_number (k + length xs)))

@@ -3,7 +3,7 @@ use Rattle.std.specs.Prelude.{◌≡◌, ℕ, List, [], ◌∷◌, Bool, true, f
 use Rattle.std.specs.declared.option.Option.{Option}
 use Rattle.std.specs.declared.option.Option.TheVariants.{None, Some}
 use Rattle.stream_frames.specs.declared.names.OpenName.{OpenName}
-use Rattle.stream_grammar.specs.Trees.{RawName}
+use Rattle.stream_grammar.specs.grammar.Trees.{RawName}
 
 abbrev pub raw : OpenName → RawName
 raw n = (n.first, n.rest.items)

@@ -6,10 +6,10 @@ use Rattle.stream_grammar.specs.declared.namespaces.Binding.{Binding}
 use Rattle.stream_grammar.specs.declared.namespaces.Written.{Written}
 use Rattle.stream_frames.specs.declared.tags.TagFault.{TagFault}
 use Rattle.stream_frames.specs.declared.tags.TagFault.TheVariants as fault
-use Rattle.stream_grammar.specs.Namespaces.{tag_fault}
-use Rattle.stream_grammar.specs.Resolving.{is_text_tag}
-use Rattle.stream_grammar.specs.Elements.{fault_of_tag}
-use Rattle.stream_grammar.specs.Building.{Building, is_all_text}
+use Rattle.stream_grammar.specs.grammar.Namespaces.{tag_fault}
+use Rattle.stream_grammar.specs.grammar.Resolving.{is_text_tag}
+use Rattle.stream_grammar.specs.grammar.Elements.{fault_of_tag}
+use Rattle.stream_grammar.specs.machine.Building.{Building, is_all_text}
 
 -- what a refusal may be, where the test says whether bytes are text: they are none, or memory was wanting
 abbrev pub IsRefused : Bool → TagFault → Type 0

@@ -12,13 +12,13 @@ use Rattle.stream_frames.specs.declared.tracker.Standing.{Standing}
 use Rattle.stream_frames.specs.declared.tracker.Standing.TheVariants as standing
 use Rattle.stream_grammar.specs.declared.FrameFault.{FrameFault}
 use Rattle.stream_grammar.specs.declared.FrameFault.TheVariants as fault
-use Rattle.stream_grammar.specs.Faults.{deeper, wider, looser}
+use Rattle.stream_grammar.specs.grammar.Faults.{deeper, wider, looser}
 use Rattle.stream_frames.specs.Moves.{tokens_move, breaks}
 use Rattle.std.specs.declared.option.Option.{Option}
 use Rattle.std.specs.declared.option.Option.TheVariants.{None, Some}
-use Rattle.stream_grammar.specs.Trees.{RawName}
-use Rattle.stream_grammar.specs.Nesting.{Nest, start, declared, inside, naming, in_tag, naming_attribute, in_value, closing, lost}
-use Rattle.stream_grammar.specs.Framing.{Frame, open_at, ended, broken, lexical_fault}
+use Rattle.stream_grammar.specs.grammar.Trees.{RawName}
+use Rattle.stream_grammar.specs.machine.Nesting.{Nest, start, declared, inside, naming, in_tag, naming_attribute, in_value, closing, lost}
+use Rattle.stream_grammar.specs.machine.Framing.{Frame, open_at, ended, broken, lexical_fault}
 use Rattle.stream_frames.specs.Stacks.{outer, left_of}
 
 -- the nesting at a place, where these names are open, and this much of a tag's name has come
@@ -62,7 +62,8 @@ frame_of s n = open_at s n
 abbrev pub tried : Rules → Place → List RawName → State → List Token → FrameFault
 tried r p st s us =
     cond (breaks (deeper r) s (tokens_move (deeper r) p st us) st)
-    (cond (breaks (wider r) s (tokens_move (wider r) p st us) st) (cond (breaks (looser r) s (tokens_move (looser r) p st us) st) fault.NotWellFormed fault.BadFormat) fault.TooManyAttrs) fault.TooDeep
+    (cond (breaks (wider r) s (tokens_move (wider r) p st us) st)
+    (cond (breaks (looser r) s (tokens_move (looser r) p st us) st) fault.NotWellFormed fault.BadFormat) fault.TooManyAttrs) fault.TooDeep
 
 -- what a byte's reading is judged to be
 abbrev pub judged : Rules → Place → List RawName → State → Option LexFault → List Token → Option FrameFault

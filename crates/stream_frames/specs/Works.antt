@@ -2,7 +2,7 @@
 use Rattle.std.specs.Prelude.{List, Option, Some, None}
 use Rattle.std.specs.Global.{Box}
 use Rattle.stream_grammar.specs.declared.namespaces.Binding.{Binding}
-use Rattle.stream_grammar.specs.Building.{Building, nothing_built}
+use Rattle.stream_grammar.specs.machine.Building.{Building, nothing_built}
 use Rattle.stream_frames.specs.declared.built.Builder.{Builder}
 use Rattle.stream_frames.specs.declared.work.Work.{Work}
 use Rattle.stream_frames.specs.Builds.{building}

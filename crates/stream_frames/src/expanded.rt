@@ -2,7 +2,7 @@
 
 ghost use Rattle.std.specs.Prelude.{◌≡◌, map, IfOk};
 ghost use Rattle.stream_frames.specs.Spaces.{bound_space};
-ghost use Rattle.stream_grammar.specs.Namespaces.{same_space};
+ghost use Rattle.stream_grammar.specs.grammar.Namespaces.{same_space};
 ghost use Rattle.stream_frames.specs.Expanded.{full_name, expanded, has_unbound_name, is_same, is_among, has_repeat};
 
 use crate::namespaces::{Space, attribute_bound, local};

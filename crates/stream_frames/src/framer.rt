@@ -1,13 +1,17 @@
 //! The bytes of a stream become items, however they are cut.
 
-ghost use Rattle.std.specs.Prelude.{◌≡◌, ◌≤◌, ◌<◌, ◌+◌, List, ℕ, take, drop, length, true, false, IfOk, IfErr, OnOk, OnErr, Some, None};
+ghost use Rattle.std.specs.Prelude.{◌≡◌, ◌≤◌, ◌<◌, ◌+◌, List, [], ◌∷◌, ℕ, take, drop, length, true, false};
+ghost use Rattle.std.specs.Prelude.{IfOk, IfErr, OnOk, OnErr, Some, None, option_to_list};
 ghost use Rattle.std.specs.Option.{option_copied};
-ghost use Rattle.stream_grammar.specs.Reading.{Reading, reads, stopped, first_reading, reading_next, reading_after, byte_judged, waiting, handed, is_ready, is_done, is_stopped, taken, is_large_item, rules_of};
+ghost use Rattle.stream_grammar.specs.machine.Reading.{Reading, reads, stopped, first_reading, reading_next, reading_after};
+ghost use Rattle.stream_grammar.specs.machine.Reading.{byte_judged, waiting, handed, is_ready, is_done, is_stopped, taken};
+ghost use Rattle.stream_grammar.specs.grammar.Bounds.{is_large_item, rules_of};
+ghost use Rattle.stream_grammar.specs.machine.Calls.{Called, feeds, falls_short, hands};
 ghost use Rattle.stream_frames.specs.Fed.{Fed, IsPrepared};
-ghost use Rattle.stream_grammar.specs.Framing.{frame_next};
-ghost use Rattle.stream_grammar.specs.Items.{told_at, in_item};
-ghost use Rattle.stream_grammar.specs.Telling.{is_few};
-ghost use Rattle.stream_grammar.specs.Building.{build_all};
+ghost use Rattle.stream_grammar.specs.machine.Framing.{frame_next};
+ghost use Rattle.stream_grammar.specs.machine.Ends.{told_at, in_item};
+ghost use Rattle.stream_grammar.specs.machine.Telling.{is_few};
+ghost use Rattle.stream_grammar.specs.machine.Building.{build_all};
 ghost use Rattle.stream_frames.specs.Builds.{building};
 ghost use Rattle.stream_frames.specs.Runs.{IsRun};
 ghost use Rattle.stream_frames.specs.Works.{work_of};
@@ -70,7 +74,8 @@ fn advance(
     requires { tracker.old.rules ≡ rules_of limits }
     ensures rules { tracker.new.rules ≡ tracker.old.rules }
     ensures fault { IfOk result (λ f. f ≡ byte_judged limits tracker.old.frame (building builder.old) extent byte) }
-    ensures reads { IfOk result (λ f. f ≡ None → (tracker.new.frame ≡ frame_next (rules_of limits) tracker.old.frame byte) × (building builder.new ≡ build_all (building builder.old) (told_at tracker.old.frame byte))) }
+    ensures reads { IfOk result (λ f. f ≡ None → (tracker.new.frame ≡ frame_next (rules_of limits) tracker.old.frame byte)
+        × (building builder.new ≡ build_all (building builder.old) (told_at tracker.old.frame byte))) }
     ensures extent { IfOk result (λ f. f ≡ None → in_item tracker.new.frame ≡ true → extent < limits.bytes) }
     ensures err { OnErr result ((tracker.new ≡ tracker.old) × (building builder.new ≡ building builder.old)) }
 {
@@ -109,7 +114,8 @@ fn advance_work(
     requires { tracker.old.rules ≡ rules_of limits }
     ensures rules { tracker.new.rules ≡ tracker.old.rules }
     ensures fault { IfOk result (λ f. f ≡ byte_judged limits tracker.old.frame (work_of work.old) extent byte) }
-    ensures reads { IfOk result (λ f. f ≡ None → (tracker.new.frame ≡ frame_next (rules_of limits) tracker.old.frame byte) × (work_of work.new ≡ build_all (work_of work.old) (told_at tracker.old.frame byte))) }
+    ensures reads { IfOk result (λ f. f ≡ None → (tracker.new.frame ≡ frame_next (rules_of limits) tracker.old.frame byte)
+        × (work_of work.new ≡ build_all (work_of work.old) (told_at tracker.old.frame byte))) }
     ensures extent { IfOk result (λ f. f ≡ None → in_item tracker.new.frame ≡ true → extent < limits.bytes) }
     ensures err { OnErr result ((tracker.new ≡ tracker.old) × (work_of work.new ≡ work_of work.old)) }
 {
@@ -144,7 +150,7 @@ pub struct Framer {
 impl Model for Framer {
     ghost use Rattle.std.specs.Prelude.{◌≡◌, ◌≤◌, ◌^◌};
     ghost use Rattle.stream_frames.specs.Works.{work_of};
-    ghost use Rattle.stream_grammar.specs.Reading.{rules_of};
+    ghost use Rattle.stream_grammar.specs.grammar.Bounds.{rules_of};
     ghost use Rattle.stream_frames.specs.Fed.{Fed, reading_of};
     ghost use Rattle.std.specs.Coded.{codes};
     ghost use Rattle.stanza_tree.specs.contracts.node.Node as node;
@@ -260,6 +266,11 @@ impl Framer {
     /// Reads a piece up to the byte that ends an item or has a fault, and else to its end: how many bytes were taken. After a
     /// fault every piece is taken whole. Costs the piece's length; at the end of an item its size too, and at the end of a tag the
     /// square of its attributes.
+    ///
+    /// The clauses `call` and `short_call` say what the call does in the words of the laws in `stream_laws::calls`. There
+    /// `calls_follow_one_another` joins it to the calls before and after it, `cut_anywhere_all_items_are_handed_out` says that
+    /// what [`Framer::next`] hands out in all are the items of the bytes that were taken, by the grammar, and
+    /// `the_next_call_goes_on_from_the_bytes` how many bytes the next call takes.
     pub fn feed(&mut self, piece: &[u8]) -> Result<usize, Short>
         requires { is_ready self.old.reading ≡ true }
         ensures limits { self.new.limits ≡ self.old.limits }
@@ -267,6 +278,8 @@ impl Framer {
         ensures read { IfOk result (λ n. self.new.reading ≡ reading_after self.old.limits self.old.reading (take n piece.now)) }
         ensures short { IfErr result (λ s. s.taken < taken self.old.limits self.old.reading piece.now) }
         ensures kept { IfErr result (λ s. self.new.reading ≡ reading_after self.old.limits self.old.reading (take s.taken piece.now)) }
+        ensures call { IfOk result (λ n. Called self.old.limits self.old.reading (feeds piece.now n ∷ []) [] self.new.reading) }
+        ensures short_call { IfErr result (λ s. Called self.old.limits self.old.reading (falls_short piece.now s.taken ∷ []) [] self.new.reading) }
     {
         let taken = self.read(piece);
         self.work.release();
@@ -274,10 +287,14 @@ impl Framer {
     }
 
     /// The item that waits. A fault is answered at every call.
-    #[tactic(auto, using(crate::proofs::WaitLemmas::none_waits, crate::proofs::WaitLemmas::none_handed))]
+    ///
+    /// Its clause `call` joins the clauses of [`Framer::feed`] by `calls_follow_one_another` of `stream_laws::calls`, whose other laws
+    /// say what is handed out in all.
+    #[tactic(auto, using(crate::proofs::WaitLemmas::none_waits, crate::proofs::WaitLemmas::none_handed, crate::proofs::WaitLemmas::one_called))]
     pub fn next(&mut self) -> Option<Item>
         ensures item { result ≡ waiting self.old.reading }
         ensures handed { self.new ≡ record self.old { reading = handed self.old.reading } }
+        ensures call { Called self.old.limits self.old.reading (hands result ∷ []) (option_to_list result) self.new.reading }
     {
         if !self.is_done() {
             return None;

@@ -2,6 +2,7 @@
 #![tactic(auto)]
 
 mod builder;
+mod builder_apply;
 mod builder_runs;
 mod built;
 mod expanded;

@@ -2,7 +2,7 @@
 //! it didn't, or there was no memory, nothing changes.
 
 ghost use Rattle.std.specs.Prelude.{◌≡◌, [], ◌∷◌, true, false};
-ghost use Rattle.stream_grammar.specs.Building.{Building};
+ghost use Rattle.stream_grammar.specs.machine.Building.{Building};
 ghost use Rattle.stream_frames.specs.Builds.{building};
 ghost use Rattle.stream_frames.specs.Markup.{LeadsBy};
 

@@ -47,7 +47,7 @@ pub(crate) struct Names {
 
 impl Model for Names {
     ghost use Rattle.std.specs.Prelude.{List};
-    ghost use Rattle.stream_grammar.specs.Trees.{RawName};
+    ghost use Rattle.stream_grammar.specs.grammar.Trees.{RawName};
     ghost use Rattle.stream_frames.specs.Stacks.{stacked, AreStacked};
 
     ghost Value = { List RawName };

@@ -5,7 +5,9 @@ ghost use Rattle.std.specs.Option.{option_copied};
 ghost use Rattle.stream_frames.specs.Expanded.{full_name, fault_of_names};
 ghost use Rattle.stream_frames.specs.Begins.{begins_with_x};
 ghost use Rattle.stream_frames.specs.Spaces.{space_bytes, bound_space};
-ghost use Rattle.stream_grammar.specs.Namespaces.{colon_at, has_prefix, prefix_of, local_of, is_declaration, declared_prefix, may_undo, may_declare, last_space, last_layer, space_of, attribute_space, is_forbidden, has_forbidden, own, space_before};
+ghost use Rattle.stream_grammar.specs.grammar.Namespaces.{colon_at, has_prefix, prefix_of, local_of, is_declaration, declared_prefix};
+ghost use Rattle.stream_grammar.specs.grammar.Namespaces.{may_undo, may_declare, last_space, last_layer, space_of, attribute_space};
+ghost use Rattle.stream_grammar.specs.grammar.Namespaces.{is_forbidden, has_forbidden, own, space_before};
 
 use crate::expanded::{Expanded, any_repeat, any_unbound};
 use stanza_tree::{NoMemory, Several, Text};

@@ -1,10 +1,12 @@
 //! How tags nest, token by token.
 
 ghost use Rattle.std.specs.Prelude.{◌≡◌};
-ghost use Rattle.stream_lex.specs.Characters.{is_nothing};
-ghost use Rattle.stream_grammar.specs.Trees.{is_space};
-ghost use Rattle.stream_grammar.specs.Framing.{stage_to_space, begins_space};
-ghost use Rattle.stream_frames.specs.Moves.{stands, root_move, start_move, content_move, name_move, naming_move, attribute_move, value_move, closing_move, place_move, words_move, many_move, tokens_move, gap_breaks, tag_breaks, place_breaks, breaks};
+ghost use Rattle.stream_lex.specs.machine.Characters.{is_nothing};
+ghost use Rattle.stream_grammar.specs.grammar.Trees.{is_space};
+ghost use Rattle.stream_grammar.specs.machine.Framing.{stage_to_space, begins_space};
+ghost use Rattle.stream_frames.specs.Moves.{stands, root_move, start_move, content_move, name_move, naming_move};
+ghost use Rattle.stream_frames.specs.Moves.{attribute_move, value_move, closing_move, place_move, words_move, many_move};
+ghost use Rattle.stream_frames.specs.Moves.{tokens_move, gap_breaks, tag_breaks, place_breaks, breaks};
 
 use crate::names::Names;
 use stream_grammar::Rules;

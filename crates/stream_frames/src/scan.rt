@@ -1,8 +1,8 @@
 //! Where bytes stop beginning a stream.
 
 ghost use Rattle.std.specs.Prelude.{◌≡◌, ◌<◌, ◌^◌, IfOk, IfSome, IfNone};
-ghost use Rattle.stream_grammar.specs.Streams.{Begins};
-ghost use Rattle.stream_grammar.specs.Faults.{IsSyntaxFault};
+ghost use Rattle.stream_grammar.specs.grammar.Streams.{Begins};
+ghost use Rattle.stream_grammar.specs.grammar.Faults.{IsSyntaxFault};
 
 use crate::tracker::Tracker;
 use stanza_tree::NoMemory;

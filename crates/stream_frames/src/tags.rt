@@ -2,10 +2,10 @@
 
 ghost use Rattle.std.specs.Prelude.{◌≡◌, ◌+◌, ◌≤◌, [], ◌∷◌, ◌++◌, length, true, None, map, IfOk, IfErr, OnOk, vec_len, vec_capacity};
 ghost use Rattle.std.specs.Str.{is_utf8};
-ghost use Rattle.stream_grammar.specs.Namespaces.{local_of, tag_fault};
+ghost use Rattle.stream_grammar.specs.grammar.Namespaces.{local_of, tag_fault};
 ghost use Rattle.stream_frames.specs.Expanded.{full_name, spaces_of, are_texts};
 ghost use Rattle.stream_frames.specs.Filled.{spaces_on, attr_in, attrs_in, element_in};
-ghost use Rattle.stream_grammar.specs.Resolving.{or_none, name_on, attrs_on, is_text_name, are_text_attrs, is_text_tag};
+ghost use Rattle.stream_grammar.specs.grammar.Resolving.{or_none, name_on, attrs_on, is_text_name, are_text_attrs, is_text_tag};
 ghost use Rattle.stream_frames.specs.TagFaults.{IsRefused, IsTagFault};
 ghost use Rattle.stream_frames.specs.Spaces.{bound_space};
 
@@ -191,7 +191,7 @@ fn local_text(name: Vec<u8>) -> Text
     requires { is_utf8 (local_of name.items) ≡ true }
     ensures { result ≡ local_of name.items }
 {
-    Text::of_vec(local_part(name))
+    Text::of_string(unsafe { String::from_utf8_unchecked(local_part(name)) })
 }
 
 fn full_attr(space: Text, attribute: Written) -> Attr

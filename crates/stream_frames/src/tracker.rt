@@ -2,18 +2,18 @@
 
 ghost use Rattle.std.specs.Prelude.{◌≡◌, ℕ, ◌<◌, ◌^◌, [], true, false, None, Some, IfOk, IfErr, OnOk, OnErr};
 ghost use Rattle.stream_lex.specs.declared.stages.State.{State};
-ghost use Rattle.stream_lex.specs.Leading.{tokens_of, IsTurned};
-ghost use Rattle.stream_grammar.specs.Framing.{open_at, ended, first_frame, frame_next, is_broken, has_ended, lexical_fault, fault_at};
-ghost use Rattle.stream_lex.specs.Live.{is_live};
-ghost use Rattle.stream_lex.specs.Turns.{turn};
-ghost use Rattle.stream_grammar.specs.Items.{is_between_tops, told_at};
+ghost use Rattle.stream_lex.specs.machine.Leading.{tokens_of, IsTurned};
+ghost use Rattle.stream_grammar.specs.machine.Framing.{open_at, ended, first_frame, frame_next, is_broken, has_ended, lexical_fault, fault_at};
+ghost use Rattle.stream_lex.specs.machine.Live.{is_live};
+ghost use Rattle.stream_lex.specs.machine.Turns.{turn};
+ghost use Rattle.stream_grammar.specs.machine.Ends.{is_between_tops, told_at};
 ghost use Rattle.stream_frames.specs.Stacks.{raw};
 ghost use Rattle.stream_frames.specs.Moves.{tokens_move, breaks};
-ghost use Rattle.stream_grammar.specs.Trees.{RawName, is_space};
+ghost use Rattle.stream_grammar.specs.grammar.Trees.{RawName, is_space};
 ghost use Rattle.stream_grammar.specs.declared.rules.Rules.{Rules};
 ghost use Rattle.stream_frames.specs.Turned.{Lexes};
-ghost use Rattle.stream_grammar.specs.Items.{in_item, in_item_nest};
-ghost use Rattle.stream_grammar.specs.Telling.{is_few, fault_told};
+ghost use Rattle.stream_grammar.specs.machine.Ends.{in_item, in_item_nest};
+ghost use Rattle.stream_grammar.specs.machine.Telling.{is_few, fault_told};
 ghost use Rattle.stream_frames.specs.Tracking.{nest_at, moved, framed, frame_of, tried, judged};
 
 use crate::names::{Names, OpenName};
@@ -242,7 +242,7 @@ pub struct Tracker {
 
 impl Model for Tracker {
     ghost use Rattle.std.specs.Prelude.{◌≡◌, ℕ, ◌<◌, ◌^◌, true};
-    ghost use Rattle.stream_lex.specs.Live.{is_live};
+    ghost use Rattle.stream_lex.specs.machine.Live.{is_live};
     ghost use Rattle.stream_frames.specs.Stacks.{raw};
     ghost use Rattle.stream_frames.specs.Tracking.{Tracked, framed};
 

@@ -2,12 +2,15 @@
 
 ghost use Rattle.std.specs.Prelude.{◌≡◌, true, false, IfSome};
 ghost use Rattle.stream_lex.specs.declared.characters.Pending.TheVariants as pending;
-ghost use Rattle.stream_lex.specs.Live.{is_live, is_live_stage};
-ghost use Rattle.stream_lex.specs.Turns.{at};
-ghost use Rattle.stream_grammar.specs.Framing.{is_empty_mark};
-ghost use Rattle.stream_grammar.specs.Trees.{RawName};
+ghost use Rattle.stream_lex.specs.machine.Live.{is_live, is_live_stage};
+ghost use Rattle.stream_lex.specs.machine.Turns.{at};
+ghost use Rattle.stream_grammar.specs.machine.Framing.{is_empty_mark};
+ghost use Rattle.stream_grammar.specs.grammar.Trees.{RawName};
 ghost use Rattle.stream_frames.specs.Tracking.{nest_at};
-ghost use Rattle.stream_frames.specs.Markup.{only_at, after_part, silent_stage, may_be_silent, is_silent, silenced, is_name_head, is_less, is_end_mark, is_in_tag, is_value_awaited, quote_byte, quote_of, closes_by, now_closing, awaits_value, now_in_value, now_in_tag, begins_by, now_naming, attributed_by, now_attributed, ends_start, enters_by, now_entered, hollows_by, now_hollow, leaves_by, now_left};
+ghost use Rattle.stream_frames.specs.Markup.{only_at, after_part, silent_stage, may_be_silent, is_silent, silenced, is_name_head, is_less};
+ghost use Rattle.stream_frames.specs.Markup.{is_end_mark, is_in_tag, is_value_awaited, quote_byte, quote_of, closes_by, now_closing, awaits_value};
+ghost use Rattle.stream_frames.specs.Markup.{now_in_value, now_in_tag, begins_by, now_naming, attributed_by, now_attributed, ends_start};
+ghost use Rattle.stream_frames.specs.Markup.{enters_by, now_entered, hollows_by, now_hollow, leaves_by, now_left};
 ghost use Rattle.stream_frames.specs.Stacks.{outer};
 
 use crate::markup::MarkOf;
@@ -18,7 +21,7 @@ use crate::tracker_runs::{is_at_end, is_between};
 use stream_lex::{Context, Half, NameOwner, Quote, Stage, State};
 
 /// A stage between two characters.
-#[tactic(auto, unfolding(stream_lex::specs::Live::is_live))]
+#[tactic(auto, unfolding(stream_lex::specs::machine::Live::is_live))]
 fn between(stage: Stage) -> State
     requires { is_live_stage stage ≡ true }
     ensures state { result ≡ at stage pending.Nothing false }
@@ -147,7 +150,7 @@ impl Tracker {
     /// What markup the byte may be, by the stage alone: whoever reads it looks closer.
     pub(crate) fn mark_of(&self, byte: u8) -> MarkOf {
         match self.state.stage {
-            Stage::Text(Context::Value(_)) => MarkOf::ValueEnd,
+            Stage::Text(Context::Value(quote)) if byte == quote_byte(quote) => MarkOf::ValueEnd,
             Stage::Text(Context::Words) if byte == b'<' => MarkOf::Silent,
             Stage::Name(NameOwner::EndTag, _) if byte == b'>' => MarkOf::End,
             Stage::Name(NameOwner::StartTag, _) | Stage::InTag | Stage::ValueEnded

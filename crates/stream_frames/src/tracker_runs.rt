@@ -1,7 +1,9 @@
 //! Where a run may stand, and what it adds to the names that are being read.
 
 ghost use Rattle.std.specs.Prelude.{◌≡◌, ◌≤◌, ◌++◌, take, length, true, false};
-ghost use Rattle.stream_frames.specs.Runs.{is_words_stage, value_quote, is_attribute_stage, is_start_stage, is_end_stage, is_between_characters, is_in_words, open_quote, is_in_attribute_name, is_in_start_name, is_in_end_name, named_on, closing_left, closing_on};
+ghost use Rattle.stream_frames.specs.Runs.{is_words_stage, value_quote, is_attribute_stage, is_start_stage, is_end_stage};
+ghost use Rattle.stream_frames.specs.Runs.{is_between_characters, is_in_words, open_quote, is_in_attribute_name};
+ghost use Rattle.stream_frames.specs.Runs.{is_in_start_name, is_in_end_name, named_on, closing_left, closing_on};
 
 use crate::places::Place;
 use crate::runs::RunOf;

@@ -2,7 +2,7 @@
 
 ghost use Rattle.std.specs.Prelude.{◌≡◌, true, None, OnOk};
 ghost use Rattle.std.specs.Option.{is_some};
-ghost use Rattle.stream_grammar.specs.Building.{nothing_built};
+ghost use Rattle.stream_grammar.specs.machine.Building.{nothing_built};
 ghost use Rattle.stream_frames.specs.Works.{work_of};
 
 use crate::built::Builder;

@@ -6,12 +6,12 @@ use Rattle.stream_lex.specs.declared.stages.Context.TheVariants.{Words}
 use Rattle.stream_lex.specs.declared.stages.Stage.TheVariants as stage
 use Rattle.stream_lex.specs.declared.stages.State.{State}
 use Rattle.stream_lex.specs.declared.characters.Pending.TheVariants as pending
-use Rattle.stream_lex.specs.Kinds.{ascii_kind}
-use Rattle.stream_lex.specs.Machine.{ascii}
-use Rattle.stream_lex.specs.Turns.{leads, at, turn_ascii, turn}
-use Rattle.stream_lex.specs.Live.{is_live}
-use Rattle.stream_grammar.specs.Trees.{is_space}
-use Rattle.stream_grammar.specs.Telling.{are_words}
+use Rattle.stream_lex.specs.grammar.Kinds.{ascii_kind}
+use Rattle.stream_lex.specs.machine.Machine.{ascii}
+use Rattle.stream_lex.specs.machine.Turns.{leads, at, turn_ascii, turn}
+use Rattle.stream_lex.specs.machine.Live.{is_live}
+use Rattle.stream_grammar.specs.grammar.Trees.{is_space}
+use Rattle.stream_grammar.specs.machine.Telling.{are_words}
 
 -- words, after a carriage return or not
 abbrev pub after_end : Bool → State

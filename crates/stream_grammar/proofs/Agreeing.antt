@@ -4,11 +4,12 @@ use Rattle.std.proofs.lemmas.Bool.{cond-true, lt-ltb, ltb-true}
 use Rattle.stream_lex.specs.declared.Token.{Token}
 use Rattle.stream_lex.specs.declared.Token.TheVariants as token
 use Rattle.stream_lex.specs.declared.stages.State.{State}
-use Rattle.stream_lex.specs.Turns.{Outcome, leads, fails, turn}
-use Rattle.stream_grammar.specs.Trees.{RawName, is_space}
+use Rattle.stream_lex.specs.machine.Turns.{Outcome, leads, fails, turn}
+use Rattle.stream_grammar.specs.grammar.Trees.{RawName, is_space}
 use Rattle.stream_grammar.specs.declared.rules.Rules.{Rules}
-use Rattle.stream_grammar.specs.Nesting.{Nest, start, declared, inside, naming, in_tag, naming_attribute, in_value, closing, lost, is_root, may_stand, in_content, after_name, nest, nest_all}
-use Rattle.stream_grammar.specs.Framing.{comes_to_space, goes_with, Frame, open_at, ended, broken, placed, settled, frame_next, frame_after, is_broken}
+use Rattle.stream_grammar.specs.machine.Nesting.{Nest, start, declared, inside, naming, in_tag, naming_attribute, in_value, closing}
+use Rattle.stream_grammar.specs.machine.Nesting.{lost, is_root, may_stand, in_content, after_name, nest, nest_all}
+use Rattle.stream_grammar.specs.machine.Framing.{comes_to_space, goes_with, Frame, open_at, ended, broken, placed, settled, frame_next, frame_after, is_broken}
 
 pub record Allows (r q : Rules) : Type 0 where
   pub depth : r.depth ≤ q.depth

@@ -1,5 +1,6 @@
 -- The kinds of faults.
-use Rattle.std.proofs.Common.{◌≡◌, ℕ, ◌<◌, ◌≤◌, ◌⊎◌, inl, inr, List, [], ◌∷◌, ◌++◌, refl, sym, ap, ◌∙◌, subst, append-nil, append_assoc, Bool, true, false, cond, ◌==◌, nat_lt, arith}
+use Rattle.std.proofs.Common.{◌≡◌, ℕ, ◌<◌, ◌≤◌, ◌⊎◌, inl, inr, List, [], ◌∷◌, ◌++◌, refl, sym, ap, ◌∙◌, subst}
+use Rattle.std.proofs.Common.{append-nil, append_assoc, Bool, true, false, cond, ◌==◌, nat_lt, arith}
 use Rattle.std.proofs.lemmas.Bool.{cond_both, cond-false}
 use Rattle.std.proofs.lemmas.Bool.Decides.{nat_tests}
 use Rattle.stream_lex.specs.declared.Token.{Token}
@@ -11,25 +12,26 @@ use Rattle.stream_lex.specs.declared.stages.State.{State}
 use Rattle.stream_lex.specs.declared.characters.Pending.TheVariants as pending
 use Rattle.stream_lex.specs.declared.characters.Reach.{Reach}
 use Rattle.stream_lex.specs.declared.characters.Reach.TheVariants.{Whole, Begun, Broken}
-use Rattle.stream_lex.specs.Classes.{has_between, class_of}
-use Rattle.stream_lex.specs.Characters.{reach}
-use Rattle.stream_lex.specs.Machine.{allowed_at, voice}
-use Rattle.stream_lex.specs.Turns.{Outcome, leads, fails, at, byte_told, fault_of, turn_ascii, turn_wide, turn}
-use Rattle.stream_lex.specs.Live.{is_live}
-use Rattle.stream_lex.specs.Reading.{BeginsReading, IsKind}
-use Rattle.stream_lex.specs.Leading.{Leads}
+use Rattle.stream_lex.specs.grammar.Classes.{has_between, class_of}
+use Rattle.stream_lex.specs.machine.Characters.{reach}
+use Rattle.stream_lex.specs.machine.Machine.{allowed_at, voice}
+use Rattle.stream_lex.specs.machine.Turns.{Outcome, leads, fails, at, byte_told, fault_of, turn_ascii, turn_wide, turn}
+use Rattle.stream_lex.specs.machine.Live.{is_live}
+use Rattle.stream_lex.specs.grammar.Reading.{BeginsReading, IsKind}
+use Rattle.stream_lex.specs.machine.Leading.{Leads}
 use Rattle.stream_lex.proofs.Lists.{false-true}
 use Rattle.stream_lex.proofs.ByteSteps.{Goes, Fails, Does, does}
 use Rattle.stream_lex.proofs.Living.{LeadsLive}
 use Rattle.stream_lex.proofs.Standing.{leads-first_character, leads-step, not-begun, kind-of-fault}
 use Rattle.stream_grammar.specs.declared.FrameFault.{FrameFault}
 use Rattle.stream_grammar.specs.declared.FrameFault.TheVariants as fault
-use Rattle.stream_grammar.specs.Trees.{is_space}
+use Rattle.stream_grammar.specs.grammar.Trees.{is_space}
 use Rattle.stream_grammar.specs.declared.rules.Rules.{Rules}
-use Rattle.stream_grammar.specs.Streams.{Begins}
-use Rattle.stream_grammar.specs.Faults.{deeper, wider, looser, rank, Row, IsSyntaxKind}
-use Rattle.stream_grammar.specs.Nesting.{Nest, start, inside, lost, nest_all}
-use Rattle.stream_grammar.specs.Framing.{goes_with, Frame, open_at, ended, broken, placed, settled, frame_next, frame_after, first_frame, is_broken, lexical_fault, byte_fault, fault_at}
+use Rattle.stream_grammar.specs.grammar.Streams.{Begins}
+use Rattle.stream_grammar.specs.grammar.Faults.{deeper, wider, looser, rank, Row, IsSyntaxKind}
+use Rattle.stream_grammar.specs.machine.Nesting.{Nest, start, inside, lost, nest_all}
+use Rattle.stream_grammar.specs.machine.Framing.{goes_with, Frame, open_at, ended, broken, placed, settled, frame_next, frame_after}
+use Rattle.stream_grammar.specs.machine.Framing.{first_frame, is_broken, lexical_fault, byte_fault, fault_at}
 use Rattle.stream_grammar.proofs.AfterEnd.{after_end, spaced, end-live}
 use Rattle.stream_grammar.proofs.Fitting.{Fits, Strays, fits-next}
 use Rattle.stream_grammar.proofs.Following.{IsSound, Sound, any-live, after-sound, next-sound}

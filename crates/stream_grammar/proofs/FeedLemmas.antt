@@ -5,7 +5,8 @@ use Rattle.std.specs.Prelude.{if◌then◌else◌, Option, Some, None}
 use Rattle.stream_grammar.specs.declared.FrameFault.{FrameFault}
 use Rattle.stream_grammar.specs.declared.item.Item.{Item}
 use Rattle.stream_grammar.specs.declared.item.Limits.{Limits}
-use Rattle.stream_grammar.specs.Reading.{Reading, reads, stopped, reading_next, reading_after, taken, taken_reading, is_done, is_stopped, is_ready, is_none, handed, went}
+use Rattle.stream_grammar.specs.machine.Reading.{Reading, reads, stopped, reading_next, reading_after, taken, taken_reading}
+use Rattle.stream_grammar.specs.machine.Reading.{is_done, is_stopped, is_ready, is_none, handed, went}
 
 pub stopped_stays : (l : Limits) (f : FrameFault) (k : ℕ) (bs : List ℕ) → reading_after l (stopped f k) bs ≡ stopped f k
 stopped_stays l f k [] = refl

@@ -9,15 +9,16 @@ use Rattle.stream_lex.specs.declared.stages.State.{State}
 use Rattle.stream_lex.specs.declared.characters.Pending.{Pending}
 use Rattle.stream_lex.specs.declared.characters.Reach.{Reach}
 use Rattle.stream_lex.specs.declared.characters.Reach.TheVariants.{Whole, Begun, Broken}
-use Rattle.stream_lex.specs.Classes.{has_between, class_of}
-use Rattle.stream_lex.specs.Kinds.{ascii_kind}
-use Rattle.stream_lex.specs.Characters.{is_nothing, reach}
-use Rattle.stream_lex.specs.Machine.{Turn, goes, stops, ascii, allowed_at, through}
-use Rattle.stream_lex.specs.Machine.{yields as tells_and_goes}
-use Rattle.stream_lex.specs.Turns.{Outcome, leads, fails, at, settled, turn_ascii, turn_wide, turn}
+use Rattle.stream_lex.specs.grammar.Classes.{has_between, class_of}
+use Rattle.stream_lex.specs.grammar.Kinds.{ascii_kind}
+use Rattle.stream_lex.specs.machine.Characters.{is_nothing, reach}
+use Rattle.stream_lex.specs.machine.Machine.{Turn, goes, stops, ascii, allowed_at, through}
+use Rattle.stream_lex.specs.machine.Machine.{yields as tells_and_goes}
+use Rattle.stream_lex.specs.machine.Turns.{Outcome, leads, fails, at, settled, turn_ascii, turn_wide, turn}
 use Rattle.stream_lex.proofs.Lists.{false-true}
-use Rattle.stream_grammar.specs.Telling.{are_words, is_few}
-use Rattle.stream_grammar.proofs.Sorts.{Sort, at_begin, at_prolog, at_content, at_name, at_tag, at_attribute, at_value, at_ending, sort, may_move, turn_moves, moves-ascii}
+use Rattle.stream_grammar.specs.machine.Telling.{are_words, is_few}
+use Rattle.stream_grammar.proofs.Sorts.{Sort, at_begin, at_prolog, at_content, at_name, at_tag, at_attribute}
+use Rattle.stream_grammar.proofs.Sorts.{at_value, at_ending, sort, may_move, turn_moves, moves-ascii}
 use Rattle.stream_grammar.proofs.Moving.{sort_of, voiced}
 
 words-are : (us : List Token) (y : Sort) → may_move at_content us at_content ≡ true → are_words us ≡ true

@@ -1,5 +1,6 @@
 -- Each frame that is open has an end.
-use Rattle.std.proofs.Common.{◌≡◌, ℕ, eq-eqb, ◌+◌, ◌*◌, ◌<◌, ◌≤◌, ◌⊎◌, inl, inr, List, [], ◌∷◌, ◌++◌, length, refl, sym, ap, subst, append_assoc, Bool, true, false, not, cond, ◌||◌, ◌==◌, arith}
+use Rattle.std.proofs.Common.{◌≡◌, ℕ, eq-eqb, ◌+◌, ◌*◌, ◌<◌, ◌≤◌, ◌⊎◌, inl, inr, List, [], ◌∷◌, ◌++◌, length, refl, sym, ap}
+use Rattle.std.proofs.Common.{subst, append_assoc, Bool, true, false, not, cond, ◌||◌, ◌==◌, arith}
 use Rattle.std.proofs.lemmas.Bool.{cond-true, cases_lt, ltb-true, lt-ltb, eqb-true}
 use Rattle.std.proofs.lemmas.Bool.Decides.{nat_tests}
 use Rattle.stream_lex.specs.declared.Token.{Token}
@@ -15,22 +16,23 @@ use Rattle.stream_lex.specs.declared.stages.Stage.{Stage}
 use Rattle.stream_lex.specs.declared.stages.Stage.TheVariants as stage
 use Rattle.stream_lex.specs.declared.stages.State.{State}
 use Rattle.stream_lex.specs.declared.characters.Pending.TheVariants as pending
-use Rattle.stream_lex.specs.Classes.{is_xml}
-use Rattle.stream_lex.specs.Kinds.{ascii_kind, digit, base_of}
-use Rattle.stream_lex.specs.Expressions.{all_said, value}
-use Rattle.stream_lex.specs.Grammar.{text_token}
-use Rattle.stream_lex.specs.Machine.{goes, stops, in_number, ascii}
-use Rattle.stream_lex.specs.Machine.{yields as tells_and_goes}
-use Rattle.stream_lex.specs.Turns.{Outcome, leads, fails, at, settled, turn_ascii, turn}
-use Rattle.stream_lex.specs.Live.{is_live_stage, is_live}
-use Rattle.stream_lex.specs.Leading.{Left}
+use Rattle.stream_lex.specs.grammar.Classes.{is_xml}
+use Rattle.stream_lex.specs.grammar.Kinds.{ascii_kind, digit, base_of}
+use Rattle.stream_lex.specs.grammar.Expressions.{all_said, value}
+use Rattle.stream_lex.specs.grammar.Grammar.{text_token}
+use Rattle.stream_lex.specs.machine.Machine.{goes, stops, in_number, ascii}
+use Rattle.stream_lex.specs.machine.Machine.{yields as tells_and_goes}
+use Rattle.stream_lex.specs.machine.Turns.{Outcome, leads, fails, at, settled, turn_ascii, turn}
+use Rattle.stream_lex.specs.machine.Live.{is_live_stage, is_live}
+use Rattle.stream_lex.specs.machine.Leading.{Left}
 use Rattle.stream_lex.proofs.Lists.{false-true, cons_not_nil}
 use Rattle.stream_lex.proofs.Numbers.{xml-bound, value-grows}
 use Rattle.stream_lex.proofs.Living.{LeadsLive, live-parts}
-use Rattle.stream_grammar.specs.Trees.{RawName, is_space}
+use Rattle.stream_grammar.specs.grammar.Trees.{RawName, is_space}
 use Rattle.stream_grammar.specs.declared.rules.Rules.{Rules}
-use Rattle.stream_grammar.specs.Nesting.{Nest, inside, naming, in_tag, naming_attribute, in_value, closing, lost, is_root, may_stand, nest, nest_all, Leaves}
-use Rattle.stream_grammar.specs.Framing.{begins_space, comes_to_space, is_empty_mark, goes_with}
+use Rattle.stream_grammar.specs.machine.Nesting.{Nest, inside, naming, in_tag, naming_attribute, in_value, closing}
+use Rattle.stream_grammar.specs.machine.Nesting.{lost, is_root, may_stand, nest, nest_all, Leaves}
+use Rattle.stream_grammar.specs.machine.Framing.{begins_space, comes_to_space, is_empty_mark, goes_with}
 use Rattle.stream_grammar.proofs.Nested.{Room, all-from}
 use Rattle.stream_grammar.proofs.Sorts.{sort}
 use Rattle.stream_grammar.proofs.Twins.{end_mark, words}

@@ -4,17 +4,19 @@ use Rattle.std.proofs.lemmas.Bool.{eqb-true}
 use Rattle.stream_lex.specs.declared.Token.{Token}
 use Rattle.stream_lex.specs.declared.Token.TheVariants as token
 use Rattle.stream_lex.specs.declared.stages.State.{State}
-use Rattle.stream_lex.specs.Turns.{leads, turn}
+use Rattle.stream_lex.specs.machine.Turns.{leads, turn}
 use Rattle.stream_lex.proofs.Lists.{false-true}
 use Rattle.std.proofs.lemmas.Bool.{cond_both}
-use Rattle.stream_grammar.specs.Trees.{RawName}
+use Rattle.stream_grammar.specs.grammar.Trees.{RawName}
 use Rattle.stream_grammar.specs.declared.rules.Rules.{Rules}
-use Rattle.stream_grammar.specs.Nesting.{Nest, start, declared, inside, naming, in_tag, naming_attribute, in_value, closing, lost, may_stand, after_hollow, nest, nest_all}
-use Rattle.stream_grammar.specs.Framing.{is_after_end_name}
+use Rattle.stream_grammar.specs.machine.Nesting.{Nest, start, declared, inside, naming, in_tag, naming_attribute, in_value}
+use Rattle.stream_grammar.specs.machine.Nesting.{closing, lost, may_stand, after_hollow, nest, nest_all}
+use Rattle.stream_grammar.specs.machine.Framing.{is_after_end_name}
 use Rattle.stream_grammar.proofs.Sorts.{Sort, at_begin, at_prolog, at_content, at_name, at_tag, at_attribute, at_value, at_ending, may_move}
 use Rattle.stream_grammar.proofs.Moving.{sort_of, calm, Led, turn-led}
 use Rattle.stream_grammar.proofs.Twins.{words}
-use Rattle.stream_grammar.proofs.Naming.{CloseReady, Closable, SoFar, AllClosable, name-done, so_far-closable, first-so_far, next-so_far, first-ready, next-ready, ended-words, ending-still}
+use Rattle.stream_grammar.proofs.Naming.{CloseReady, Closable, SoFar, AllClosable, name-done, so_far-closable, first-so_far}
+use Rattle.stream_grammar.proofs.Naming.{next-so_far, first-ready, next-ready, ended-words, ending-still}
 
 abbrev pub Fits : State → Nest → Type 0
 Fits st start = (sort_of st ≡ at_begin) ⊎ (sort_of st ≡ at_prolog)

@@ -1,5 +1,6 @@
 -- A byte leads to what the frame leaves, in both directions.
-use Rattle.std.proofs.Common.{◌≡◌, ℕ, ◌<◌, ◌≤◌, ◌⊎◌, inl, inr, List, [], ◌∷◌, ◌++◌, map, refl, sym, ap, ◌∙◌, subst, Bool, true, false, not, cond, ◌||◌, nat_lt, arith}
+use Rattle.std.proofs.Common.{◌≡◌, ℕ, ◌<◌, ◌≤◌, ◌⊎◌, inl, inr, List, [], ◌∷◌, ◌++◌, map, refl, sym, ap, ◌∙◌}
+use Rattle.std.proofs.Common.{subst, Bool, true, false, not, cond, ◌||◌, nat_lt, arith}
 use Rattle.std.proofs.lemmas.Bool.{cond_both, cases_lt, ltb-true}
 use Rattle.std.proofs.lemmas.Bool.Decides.{nat_tests}
 use Rattle.stream_lex.specs.declared.Token.{Token}
@@ -14,21 +15,23 @@ use Rattle.stream_lex.specs.declared.characters.Pending.{Pending}
 use Rattle.stream_lex.specs.declared.characters.Pending.TheVariants as pending
 use Rattle.stream_lex.specs.declared.characters.Reach.{Reach}
 use Rattle.stream_lex.specs.declared.characters.Reach.TheVariants.{Whole, Begun, Broken}
-use Rattle.stream_lex.specs.Characters.{is_between, is_continuation, is_second, reach, reach_first, reach_second, reach_third, reach_fourth}
-use Rattle.stream_lex.specs.Expressions.{refuses, all_said, IsText}
-use Rattle.stream_lex.specs.Turns.{Outcome, leads, fails, at, turn_wide, turn}
-use Rattle.stream_lex.specs.Live.{is_live}
-use Rattle.stream_lex.specs.Rests.{rest_at}
-use Rattle.stream_lex.specs.Leading.{Left}
+use Rattle.stream_lex.specs.machine.Characters.{is_between, is_continuation, is_second, reach, reach_first, reach_second, reach_third, reach_fourth}
+use Rattle.stream_lex.specs.grammar.Expressions.{refuses, all_said, IsText}
+use Rattle.stream_lex.specs.machine.Turns.{Outcome, leads, fails, at, turn_wide, turn}
+use Rattle.stream_lex.specs.machine.Live.{is_live}
+use Rattle.stream_lex.specs.machine.Rests.{rest_at}
+use Rattle.stream_lex.specs.machine.Leading.{Left}
 use Rattle.stream_lex.proofs.Lists.{same_head, same_tail, cons_not_nil, says-refuses, said-append, said-same}
 use Rattle.stream_lex.proofs.ByteSteps.{Goes, IsRefused, Fails, refusing, undecodable, Does, does, plain-left}
 use Rattle.stream_lex.proofs.Living.{LeadsLive, live-turn}
 use Rattle.stream_lex.proofs.Ended.{left-done}
-use Rattle.stream_grammar.specs.Trees.{RawName, attributes_tokens, content_tokens, stream_tokens, is_space}
+use Rattle.stream_grammar.specs.grammar.Trees.{RawName, attributes_tokens, content_tokens, stream_tokens, is_space}
 use Rattle.stream_grammar.specs.declared.rules.Rules.{Rules}
-use Rattle.stream_grammar.specs.Streams.{AreSpaces}
-use Rattle.stream_grammar.specs.Nesting.{Nest, start, declared, inside, naming, in_tag, naming_attribute, in_value, closing, lost, nest, nest_all, Leaves}
-use Rattle.stream_grammar.specs.Framing.{comes_to_space, is_empty_mark, is_after_end_name, goes_with, Frame, open_at, ended, broken, placed, settled, frame_next, frame_after}
+use Rattle.stream_grammar.specs.grammar.Streams.{AreSpaces}
+use Rattle.stream_grammar.specs.machine.Nesting.{Nest, start, declared, inside, naming, in_tag, naming_attribute}
+use Rattle.stream_grammar.specs.machine.Nesting.{in_value, closing, lost, nest, nest_all, Leaves}
+use Rattle.stream_grammar.specs.machine.Framing.{comes_to_space, is_empty_mark, is_after_end_name, goes_with, Frame, open_at}
+use Rattle.stream_grammar.specs.machine.Framing.{ended, broken, placed, settled, frame_next, frame_after}
 use Rattle.stream_grammar.proofs.Nested.{no_token, Room, leaves-to, all-room, all-to, all-from}
 use Rattle.stream_grammar.proofs.Moving.{calm, Led, turn-led}
 use Rattle.stream_grammar.proofs.Twins.{words}

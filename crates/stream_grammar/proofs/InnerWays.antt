@@ -13,13 +13,13 @@ use Rattle.stream_lex.specs.declared.stages.Literal.TheVariants as literal
 use Rattle.stream_lex.specs.declared.stages.Stage.{Stage}
 use Rattle.stream_lex.specs.declared.stages.Stage.TheVariants as stage
 use Rattle.stream_lex.specs.declared.characters.Pending.TheVariants as pending
-use Rattle.stream_lex.specs.Kinds.{ascii_kind}
-use Rattle.stream_lex.specs.Machine.{in_fixed, in_declaration, in_reference, in_number, in_name, in_tag, ascii, allowed_at}
-use Rattle.stream_lex.specs.Turns.{leads, at, turn_ascii, turn}
-use Rattle.stream_lex.specs.Live.{is_live_stage}
+use Rattle.stream_lex.specs.grammar.Kinds.{ascii_kind}
+use Rattle.stream_lex.specs.machine.Machine.{in_fixed, in_declaration, in_reference, in_number, in_name, in_tag, ascii, allowed_at}
+use Rattle.stream_lex.specs.machine.Turns.{leads, at, turn_ascii, turn}
+use Rattle.stream_lex.specs.machine.Live.{is_live_stage}
 use Rattle.stream_lex.proofs.Lists.{false-true}
-use Rattle.stream_grammar.specs.Trees.{is_space}
-use Rattle.stream_grammar.specs.Framing.{stage_to_space}
+use Rattle.stream_grammar.specs.grammar.Trees.{is_space}
+use Rattle.stream_grammar.specs.machine.Framing.{stage_to_space}
 use Rattle.stream_grammar.proofs.Sorts.{sort}
 use Rattle.stream_grammar.proofs.Twins.{end_mark, words}
 use Rattle.stream_grammar.proofs.Running.{Ways, both}

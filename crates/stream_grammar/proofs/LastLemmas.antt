@@ -1,8 +1,8 @@
 -- A last binding is taken away, and a last child comes after words.
 use Rattle.std.proofs.Common.{◌≡◌, ℕ, List, [], ◌∷◌, ◌++◌, refl, ap}
 use Rattle.stanza_tree.specs.declared.node.Node.{Node}
-use Rattle.stream_grammar.specs.Elements.{with_words}
-use Rattle.stream_grammar.specs.Building.{but_last}
+use Rattle.stream_grammar.specs.grammar.Elements.{with_words}
+use Rattle.stream_grammar.specs.machine.Building.{but_last}
 
 -- words, and then a child
 pub words_then : (words : List ℕ) (n : Node) → with_words words (n ∷ []) ≡ with_words words [] ++ n ∷ []

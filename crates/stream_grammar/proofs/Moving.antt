@@ -16,15 +16,16 @@ use Rattle.stream_lex.specs.declared.characters.Pending.{Pending}
 use Rattle.stream_lex.specs.declared.characters.Pending.TheVariants as pending
 use Rattle.stream_lex.specs.declared.characters.Reach.{Reach}
 use Rattle.stream_lex.specs.declared.characters.Reach.TheVariants.{Whole, Begun, Broken}
-use Rattle.stream_lex.specs.Classes.{has_between, class_of}
-use Rattle.stream_lex.specs.Kinds.{ascii_kind}
-use Rattle.stream_lex.specs.Characters.{bytes_of, is_nothing, reach}
-use Rattle.stream_lex.specs.Machine.{Turn, goes, stops, ascii, allowed_at, voice, through}
-use Rattle.stream_lex.specs.Machine.{yields as tells_and_goes}
-use Rattle.stream_lex.specs.Turns.{Outcome, leads, fails, at, byte_told, end_told, settled, turn_ascii, turn_wide, turn}
+use Rattle.stream_lex.specs.grammar.Classes.{has_between, class_of}
+use Rattle.stream_lex.specs.grammar.Kinds.{ascii_kind}
+use Rattle.stream_lex.specs.machine.Characters.{bytes_of, is_nothing, reach}
+use Rattle.stream_lex.specs.machine.Machine.{Turn, goes, stops, ascii, allowed_at, voice, through}
+use Rattle.stream_lex.specs.machine.Machine.{yields as tells_and_goes}
+use Rattle.stream_lex.specs.machine.Turns.{Outcome, leads, fails, at, byte_told, end_told, settled, turn_ascii, turn_wide, turn}
 use Rattle.stream_lex.proofs.Lists.{false-true, cons_not_nil}
 use Rattle.stream_lex.proofs.ByteSteps.{Spelt, reach-spelt}
-use Rattle.stream_grammar.proofs.Sorts.{Sort, sort, may_move, own_byte, has_name, is_end, turn_own, turn_moves, moves-ascii, may_return, turn_returns, returns-space}
+use Rattle.stream_grammar.proofs.Sorts.{Sort, sort, may_move, own_byte, has_name, is_end, turn_own, turn_moves}
+use Rattle.stream_grammar.proofs.Sorts.{moves-ascii, may_return, turn_returns, returns-space}
 
 -- within a character the sort is that of the stage after it
 abbrev pub sort_of : State → Sort

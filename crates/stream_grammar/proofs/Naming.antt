@@ -16,15 +16,15 @@ use Rattle.stream_lex.specs.declared.characters.Pending.{Pending}
 use Rattle.stream_lex.specs.declared.characters.Pending.TheVariants as pending
 use Rattle.stream_lex.specs.declared.characters.Reach.{Reach}
 use Rattle.stream_lex.specs.declared.characters.Reach.TheVariants.{Whole, Begun, Broken}
-use Rattle.stream_lex.specs.Classes.{has_between, class_of}
-use Rattle.stream_lex.specs.Kinds.{ascii_kind, is_name_start}
-use Rattle.stream_lex.specs.Characters.{reach}
-use Rattle.stream_lex.specs.Machine.{Turn, ascii, in_name, in_tag, allowed_at, voice, through}
-use Rattle.stream_lex.specs.Turns.{Outcome, leads, fails, at, settled, turn_ascii, turn_wide, turn}
+use Rattle.stream_lex.specs.grammar.Classes.{has_between, class_of}
+use Rattle.stream_lex.specs.grammar.Kinds.{ascii_kind, is_name_start}
+use Rattle.stream_lex.specs.machine.Characters.{reach}
+use Rattle.stream_lex.specs.machine.Machine.{Turn, ascii, in_name, in_tag, allowed_at, voice, through}
+use Rattle.stream_lex.specs.machine.Turns.{Outcome, leads, fails, at, settled, turn_ascii, turn_wide, turn}
 use Rattle.stream_lex.proofs.Lists.{false-true}
 use Rattle.std.proofs.lemmas.Bool.{cond_both, and_parts}
-use Rattle.stream_grammar.specs.Trees.{RawName}
-use Rattle.stream_grammar.specs.Framing.{is_after_end_name}
+use Rattle.stream_grammar.specs.grammar.Trees.{RawName}
+use Rattle.stream_grammar.specs.machine.Framing.{is_after_end_name}
 use Rattle.stream_grammar.proofs.Sorts.{Sort, at_name, at_ending, has_name}
 use Rattle.stream_grammar.proofs.Moving.{sort_of, calm, Led, turn-led}
 use Rattle.stream_grammar.proofs.Twins.{twin, end_mark, words, Twinned, first-twin, is_named, TwinnedNext, next-twin, EndsSo, ends-so}

@@ -1,11 +1,15 @@
 -- A token leads to what it leaves, in both directions.
-use Rattle.std.proofs.Common.{◌≡◌, ℕ, ◌+◌, ◌<◌, ◌≤◌, List, [], ◌∷◌, ◌++◌, map, length, Bool, true, false, cond, refl, sym, ap, ◌∙◌, subst, append_assoc, append-nil, arith, eq-eqb, nat_lt, ◌==◌}
+use Rattle.std.proofs.Common.{◌≡◌, ℕ, ◌+◌, ◌<◌, ◌≤◌, List, [], ◌∷◌, ◌++◌, map, length, Bool, true, false, cond, refl, sym}
+use Rattle.std.proofs.Common.{ap, ◌∙◌, subst, append_assoc, append-nil, arith, eq-eqb, nat_lt, ◌==◌}
 use Rattle.std.proofs.lemmas.Bool.{lt-ltb, ltb-true, eqb-true}
 use Rattle.stream_lex.specs.declared.Token.{Token}
 use Rattle.stream_lex.specs.declared.Token.TheVariants as token
-use Rattle.stream_grammar.specs.Trees.{RawName, RawAttribute, RawTag, Content, nothing, word, element, hollow, Stream, attributes_tokens, content_tokens, end_tokens, root_tokens, stream_tokens, levels, Keeps, KeepsRoot}
+use Rattle.stream_grammar.specs.grammar.Trees.{RawName, RawAttribute, RawTag, Content, nothing, word, element, hollow, Stream, attributes_tokens}
+use Rattle.stream_grammar.specs.grammar.Trees.{content_tokens, end_tokens, root_tokens, stream_tokens, levels, Keeps, KeepsRoot}
 use Rattle.stream_grammar.specs.declared.rules.Rules.{Rules}
-use Rattle.stream_grammar.specs.Nesting.{Nest, start, declared, inside, naming, in_tag, naming_attribute, in_value, closing, lost, is_root, may_stand, before_root, in_content, after_hollow, after_name, nest, nest_all, Closes, AfterTag, Tail, Leaves}
+use Rattle.stream_grammar.specs.machine.Nesting.{Nest, start, declared, inside, naming, in_tag, naming_attribute, in_value}
+use Rattle.stream_grammar.specs.machine.Nesting.{closing, lost, is_root, may_stand, before_root, in_content, after_hollow}
+use Rattle.stream_grammar.specs.machine.Nesting.{after_name, nest, nest_all, Closes, AfterTag, Tail, Leaves}
 
 -- Lists of tokens.
 

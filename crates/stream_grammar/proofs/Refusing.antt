@@ -1,5 +1,6 @@
 -- Where the frame is broken although the lexical grammar goes on: what the text tells next is refused by the nesting.
-use Rattle.std.proofs.Common.{◌≡◌, ℕ, zero, suc, ◌+◌, ◌*◌, ◌-◌, ◌<◌, ◌≤◌, ◌⊎◌, inl, inr, List, [], ◌∷◌, ◌++◌, refl, sym, ap, ◌∙◌, subst, Bool, true, false, not, cond, ◌&&◌, ◌||◌, ◌==◌, nat_lt, nat_le, arith}
+use Rattle.std.proofs.Common.{◌≡◌, ℕ, zero, suc, ◌+◌, ◌*◌, ◌-◌, ◌<◌, ◌≤◌, ◌⊎◌, inl, inr, List, [], ◌∷◌, ◌++◌, refl, sym, ap, ◌∙◌}
+use Rattle.std.proofs.Common.{subst, Bool, true, false, not, cond, ◌&&◌, ◌||◌, ◌==◌, nat_lt, nat_le, arith}
 use Rattle.std.proofs.lemmas.Bool.{cond_both, eqb-true, ltb-true, ltb-false, cases_lt, false_from_ne_true}
 use Rattle.std.proofs.lemmas.Bool.Decides.{nat_tests}
 use Rattle.stream_lex.specs.declared.Token.{Token}
@@ -20,20 +21,20 @@ use Rattle.stream_lex.specs.declared.stages.Stage.TheVariants as stage
 use Rattle.stream_lex.specs.declared.stages.State.{State}
 use Rattle.stream_lex.specs.declared.characters.Pending.{Pending}
 use Rattle.stream_lex.specs.declared.characters.Pending.TheVariants as pending
-use Rattle.stream_lex.specs.Classes.{has_between, class_of, name_starts, name_characters, characters}
-use Rattle.stream_lex.specs.Kinds.{ascii_kind, wide_kind, kind, is_kind, is_digit, digit, base_of, is_refusable}
+use Rattle.stream_lex.specs.grammar.Classes.{has_between, class_of, name_starts, name_characters, characters}
+use Rattle.stream_lex.specs.grammar.Kinds.{ascii_kind, wide_kind, kind, is_kind, is_digit, digit, base_of, is_refusable}
 use Rattle.stream_lex.specs.declared.characters.Reach.{Reach}
 use Rattle.stream_lex.specs.declared.characters.Reach.TheVariants.{Whole, Begun, Broken}
 use Rattle.stream_lex.specs.declared.stages.Brackets.{Brackets}
-use Rattle.stream_lex.specs.Characters.{is_begun, is_nothing, reach_first, reach_second, reach_third}
-use Rattle.stream_lex.specs.Expressions.{Sign, says, refuses, all_said, Expression, concat, union, silent_symbol, value, AreDigits, Times, IsText}
-use Rattle.stream_lex.specs.Grammar.{a, told, refused, named, expects, content}
-use Rattle.stream_lex.specs.Machine.{allowed_at, voice, through, wide_fault, passed}
-use Rattle.stream_lex.specs.Turns.{at}
-use Rattle.stream_lex.specs.Live.{is_live_stage, is_met, is_awaited, is_live}
-use Rattle.stream_lex.specs.Rests.{rest_at, rest_of_entity}
-use Rattle.stream_lex.specs.Reading.{lines}
-use Rattle.stream_lex.specs.Leading.{heard, Left}
+use Rattle.stream_lex.specs.machine.Characters.{is_begun, is_nothing, reach_first, reach_second, reach_third}
+use Rattle.stream_lex.specs.grammar.Expressions.{Sign, says, refuses, all_said, Expression, concat, union, silent_symbol, value, AreDigits, Times, IsText}
+use Rattle.stream_lex.specs.grammar.Grammar.{a, told, refused, named, expects, content}
+use Rattle.stream_lex.specs.machine.Machine.{allowed_at, voice, through, wide_fault, passed}
+use Rattle.stream_lex.specs.machine.Turns.{at}
+use Rattle.stream_lex.specs.machine.Live.{is_live_stage, is_met, is_awaited, is_live}
+use Rattle.stream_lex.specs.machine.Rests.{rest_at, rest_of_entity}
+use Rattle.stream_lex.specs.grammar.Reading.{lines}
+use Rattle.stream_lex.specs.machine.Leading.{heard, Left}
 use Rattle.stream_lex.proofs.Lists.{false-true, true-false, says-refuses, says-head, says-tail}
 use Rattle.stream_lex.proofs.Numbers.{value-grows}
 use Rattle.stream_lex.proofs.Spans.{between-parts}
@@ -41,8 +42,8 @@ use Rattle.stream_lex.proofs.Classing.{high-next}
 use Rattle.stream_lex.proofs.Stepping.{Leaves, step-to}
 use Rattle.stream_lex.proofs.ByteSteps.{First, first_character-in, high-line, left-plain}
 use Rattle.stream_lex.proofs.Living.{begun-symbol, begun-two, live-parts}
-use Rattle.stream_grammar.specs.Trees.{is_space}
-use Rattle.stream_grammar.specs.Framing.{begins_space, stage_to_space, comes_to_space, is_empty_mark, is_after_end_name}
+use Rattle.stream_grammar.specs.grammar.Trees.{is_space}
+use Rattle.stream_grammar.specs.machine.Framing.{begins_space, stage_to_space, comes_to_space, is_empty_mark, is_after_end_name}
 use Rattle.stream_grammar.proofs.Sorts.{Sort, at_content}
 use Rattle.stream_grammar.proofs.Moving.{sort_of}
 

@@ -5,7 +5,7 @@ use Rattle.stream_lex.specs.declared.Token.TheVariants as token
 use Rattle.stream_lex.specs.declared.stages.Stage.{Stage}
 use Rattle.stream_lex.specs.declared.stages.State.{State}
 use Rattle.stream_lex.specs.declared.characters.Pending.TheVariants as pending
-use Rattle.stream_lex.specs.Turns.{Outcome, leads, fails, at, turn}
+use Rattle.stream_lex.specs.machine.Turns.{Outcome, leads, fails, at, turn}
 
 abbrev pub then_run : List Token → Outcome → Outcome
 then_run us (leads to vs) = leads to (us ++ vs)

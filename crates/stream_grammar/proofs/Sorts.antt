@@ -26,11 +26,12 @@ use Rattle.stream_lex.specs.declared.stages.Literal.{Literal}
 use Rattle.stream_lex.specs.declared.stages.Literal.TheVariants as literal
 use Rattle.stream_lex.specs.declared.stages.Stage.{Stage}
 use Rattle.stream_lex.specs.declared.stages.Stage.TheVariants as stage
-use Rattle.stream_lex.specs.Classes.{is_xml}
-use Rattle.stream_lex.specs.Kinds.{is_digit, digit, base_of}
-use Rattle.stream_lex.specs.Grammar.{text_token}
-use Rattle.stream_lex.specs.Machine.{Turn, goes, stops, letters, fixed_end, fixed_fault, is_fixed, in_fixed, in_declaration, in_reference, in_number, in_name, in_tag, ascii}
-use Rattle.stream_lex.specs.Machine.{yields as tells_and_goes}
+use Rattle.stream_lex.specs.grammar.Classes.{is_xml}
+use Rattle.stream_lex.specs.grammar.Kinds.{is_digit, digit, base_of}
+use Rattle.stream_lex.specs.grammar.Grammar.{text_token}
+use Rattle.stream_lex.specs.machine.Machine.{Turn, goes, stops, letters, fixed_end, fixed_fault, is_fixed, in_fixed}
+use Rattle.stream_lex.specs.machine.Machine.{in_declaration, in_reference, in_number, in_name, in_tag, ascii}
+use Rattle.stream_lex.specs.machine.Machine.{yields as tells_and_goes}
 
 pub data Sort : Type 0 where
   at_begin : Sort  -- before the first tag, where a declaration may come

@@ -19,14 +19,15 @@ use Rattle.stream_lex.specs.declared.characters.Pending.{Pending}
 use Rattle.stream_lex.specs.declared.characters.Pending.TheVariants as pending
 use Rattle.stream_lex.specs.declared.characters.Reach.{Reach}
 use Rattle.stream_lex.specs.declared.characters.Reach.TheVariants.{Whole, Begun, Broken}
-use Rattle.stream_lex.specs.Classes.{has_between, class_of}
-use Rattle.stream_lex.specs.Kinds.{ascii_kind}
-use Rattle.stream_lex.specs.Characters.{is_nothing, reach}
-use Rattle.stream_lex.specs.Machine.{Turn, goes, stops, ascii, in_name, allowed_at, voice, through}
-use Rattle.stream_lex.specs.Machine.{yields as tells_and_goes}
-use Rattle.stream_lex.specs.Turns.{Outcome, leads, fails, at, byte_told, end_told, settled, turn_ascii, turn_wide, turn}
+use Rattle.stream_lex.specs.grammar.Classes.{has_between, class_of}
+use Rattle.stream_lex.specs.grammar.Kinds.{ascii_kind}
+use Rattle.stream_lex.specs.machine.Characters.{is_nothing, reach}
+use Rattle.stream_lex.specs.machine.Machine.{Turn, goes, stops, ascii, in_name, allowed_at, voice, through}
+use Rattle.stream_lex.specs.machine.Machine.{yields as tells_and_goes}
+use Rattle.stream_lex.specs.machine.Turns.{Outcome, leads, fails, at, byte_told, end_told, settled, turn_ascii, turn_wide, turn}
 use Rattle.stream_lex.proofs.Lists.{false-true}
-use Rattle.stream_grammar.proofs.Sorts.{Sort, at_name, sort, twin_stage, twin_turn, where_opens, where_ends, to_words, moves-ascii, may_return, turn_returns, returns-space}
+use Rattle.stream_grammar.proofs.Sorts.{Sort, at_name, sort, twin_stage, twin_turn, where_opens, where_ends, to_words}
+use Rattle.stream_grammar.proofs.Sorts.{moves-ascii, may_return, turn_returns, returns-space}
 use Rattle.stream_grammar.proofs.Moving.{sort_of, calm}
 
 abbrev pub twin : State → State

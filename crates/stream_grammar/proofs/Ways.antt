@@ -9,12 +9,12 @@ use Rattle.stream_lex.specs.declared.stages.Literal.{Literal}
 use Rattle.stream_lex.specs.declared.stages.Literal.TheVariants as literal
 use Rattle.stream_lex.specs.declared.stages.Stage.{Stage}
 use Rattle.stream_lex.specs.declared.stages.Stage.TheVariants as stage
-use Rattle.stream_lex.specs.Kinds.{ascii_kind}
-use Rattle.stream_lex.specs.Machine.{in_fixed, in_declaration, in_reference, in_number, in_name, in_tag, ascii, allowed_at}
-use Rattle.stream_lex.specs.Turns.{at, turn_ascii}
-use Rattle.stream_lex.specs.Live.{is_live_stage}
+use Rattle.stream_lex.specs.grammar.Kinds.{ascii_kind}
+use Rattle.stream_lex.specs.machine.Machine.{in_fixed, in_declaration, in_reference, in_number, in_name, in_tag, ascii, allowed_at}
+use Rattle.stream_lex.specs.machine.Turns.{at, turn_ascii}
+use Rattle.stream_lex.specs.machine.Live.{is_live_stage}
 use Rattle.stream_lex.proofs.Lists.{false-true}
-use Rattle.stream_grammar.specs.Trees.{declaration_tokens}
+use Rattle.stream_grammar.specs.grammar.Trees.{declaration_tokens}
 use Rattle.stream_grammar.proofs.Sorts.{Sort, at_begin, at_prolog, at_content, at_tag, at_attribute, at_value, sort}
 use Rattle.stream_grammar.proofs.Twins.{words}
 use Rattle.stream_grammar.proofs.Running.{Ways, both, tag_told}

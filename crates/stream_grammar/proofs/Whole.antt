@@ -1,5 +1,6 @@
 -- The frame that bytes lead to is open exactly where they begin a stream.
-use Rattle.std.proofs.Common.{◌≡◌, ℕ, zero, suc, ◌+◌, ◌<◌, ◌≤◌, ◌⊎◌, inl, inr, List, [], ◌∷◌, ◌++◌, length, refl, sym, ap, ◌∙◌, subst, append-nil, length-append, Bool, true, false, not, ◌||◌, arith, encode_utf8}
+use Rattle.std.proofs.Common.{◌≡◌, ℕ, zero, suc, ◌+◌, ◌<◌, ◌≤◌, ◌⊎◌, inl, inr, List, [], ◌∷◌, ◌++◌, length, refl, sym, ap, ◌∙◌}
+use Rattle.std.proofs.Common.{subst, append-nil, length-append, Bool, true, false, not, ◌||◌, arith, encode_utf8}
 use Rattle.std.proofs.lemmas.Bool.{cond-true}
 use Rattle.std.specs.Char.{IsScalar}
 use lib.Utf8.{scalar_cases}
@@ -17,25 +18,26 @@ use Rattle.stream_lex.specs.declared.characters.Pending.{Pending}
 use Rattle.stream_lex.specs.declared.characters.Pending.TheVariants as pending
 use Rattle.stream_lex.specs.declared.characters.Reach.{Reach}
 use Rattle.stream_lex.specs.declared.characters.Reach.TheVariants.{Whole, Begun, Broken}
-use Rattle.stream_lex.specs.Classes.{has_between, class_of}
-use Rattle.stream_lex.specs.Characters.{bytes_of, is_nothing, is_begun, reach, reach_first, reach_second, reach_third}
-use Rattle.stream_lex.specs.Expressions.{all_said}
-use Rattle.stream_lex.specs.Machine.{allowed_at, through, voice}
-use Rattle.stream_lex.specs.Turns.{leads, at, byte_told, end_told, turn_wide, turn}
-use Rattle.stream_lex.specs.Live.{is_met, is_awaited, is_live}
-use Rattle.stream_lex.specs.Rests.{rest_at}
-use Rattle.stream_lex.specs.Reading.{Reads}
-use Rattle.stream_lex.specs.Leading.{Left}
+use Rattle.stream_lex.specs.grammar.Classes.{has_between, class_of}
+use Rattle.stream_lex.specs.machine.Characters.{bytes_of, is_nothing, is_begun, reach, reach_first, reach_second, reach_third}
+use Rattle.stream_lex.specs.grammar.Expressions.{all_said}
+use Rattle.stream_lex.specs.machine.Machine.{allowed_at, through, voice}
+use Rattle.stream_lex.specs.machine.Turns.{leads, at, byte_told, end_told, turn_wide, turn}
+use Rattle.stream_lex.specs.machine.Live.{is_met, is_awaited, is_live}
+use Rattle.stream_lex.specs.machine.Rests.{rest_at}
+use Rattle.stream_lex.specs.grammar.Reading.{Reads}
+use Rattle.stream_lex.specs.machine.Leading.{Left}
 use Rattle.stream_lex.proofs.Lists.{false-true, cons_not_nil}
 use Rattle.stream_lex.proofs.Spans.{Within, IsRest, reach-within, reach-starts}
 use Rattle.stream_lex.proofs.Classing.{has_between-of, has_between-has, proper-class, class-scalar}
 use Rattle.stream_lex.proofs.ByteSteps.{Spelt, reach-spelt, left-plain, plain-left}
 use Rattle.stream_lex.proofs.Living.{LeadsLive, begun-symbol, begun-two, live-parts}
-use Rattle.stream_grammar.specs.Trees.{RawName, Stream, stream_tokens, declaration_tokens, is_space}
+use Rattle.stream_grammar.specs.grammar.Trees.{RawName, Stream, stream_tokens, declaration_tokens, is_space}
 use Rattle.stream_grammar.specs.declared.rules.Rules.{Rules}
-use Rattle.stream_grammar.specs.Streams.{IsShortest, Spells, Begins as BeginsStream}
-use Rattle.stream_grammar.specs.Nesting.{Nest, start, declared, inside, naming, in_tag, naming_attribute, in_value, closing, lost, may_stand, nest, nest_all}
-use Rattle.stream_grammar.specs.Framing.{comes_to_space, is_empty_mark, goes_with, Frame, open_at, ended, broken, frame_after, first_frame, is_broken}
+use Rattle.stream_grammar.specs.grammar.Streams.{IsShortest, Spells, Begins as BeginsStream}
+use Rattle.stream_grammar.specs.machine.Nesting.{Nest, start, declared, inside, naming, in_tag, naming_attribute}
+use Rattle.stream_grammar.specs.machine.Nesting.{in_value, closing, lost, may_stand, nest, nest_all}
+use Rattle.stream_grammar.specs.machine.Framing.{comes_to_space, is_empty_mark, goes_with, Frame, open_at, ended, broken, frame_after, first_frame, is_broken}
 use Rattle.stream_grammar.proofs.Nested.{Room, all-room}
 use Rattle.stream_grammar.proofs.Sorts.{Sort, at_begin, at_prolog, at_content, at_name, at_tag, at_attribute, at_value, sort, may_move}
 use Rattle.stream_grammar.proofs.Moving.{sort_of, calm, Led, turn-led}

@@ -1,7 +1,7 @@
 //! What a stream consists of, and the limits on it.
 
 ghost use Rattle.std.specs.Prelude.{◌≡◌};
-ghost use Rattle.stream_grammar.specs.Reading.{rules_of};
+ghost use Rattle.stream_grammar.specs.grammar.Bounds.{rules_of};
 
 use crate::FrameFault;
 use crate::rules::Rules;

@@ -1,7 +1,7 @@
 //! What a stream is held to.
 
 ghost use Rattle.std.specs.Prelude.{◌≡◌, ◌<◌, ◌^◌};
-ghost use Rattle.stream_grammar.specs.Faults.{deeper, wider, looser};
+ghost use Rattle.stream_grammar.specs.grammar.Faults.{deeper, wider, looser};
 
 /// What the tags and words of a stream are held to.
 #[derive(Clone, Copy)]

@@ -1,5 +1,6 @@
 -- What `next` hands out in all.
-use Rattle.std.proofs.Common.{◌≡◌, ℕ, zero, suc, ◌+◌, ◌≤◌, inl, inr, List, [], ◌∷◌, ◌++◌, length, take, drop, refl, sym, ap, ◌∙◌, subst, append_assoc, append-nil, Bool, true, false, arith}
+use Rattle.std.proofs.Common.{◌≡◌, ℕ, zero, suc, ◌+◌, ◌≤◌, inl, inr, List, [], ◌∷◌, ◌++◌, length, take, drop, refl, sym}
+use Rattle.std.proofs.Common.{ap, ◌∙◌, subst, append_assoc, append-nil, Bool, true, false, arith}
 use Rattle.std.specs.Prelude.{Option, Some, None, option_to_list, if◌then◌else◌}
 use Rattle.std.proofs.lemmas.List.{take-append-drop, take-append-le}
 use Rattle.stream_lex.proofs.Lists.{false-true}
@@ -8,13 +9,16 @@ use Rattle.stream_grammar.specs.declared.item.Item.{Item}
 use Rattle.stream_grammar.specs.declared.item.Item.TheVariants as item
 use Rattle.stream_grammar.specs.declared.item.Limits.{Limits}
 use Rattle.stream_grammar.specs.declared.rules.Rules.{Rules}
-use Rattle.stream_grammar.specs.Building.{Building}
-use Rattle.stream_grammar.specs.Framing.{Frame}
-use Rattle.stream_grammar.specs.Parts.{IsItem}
-use Rattle.stream_grammar.specs.Reading.{Reading, reads, stopped, first_reading, reading_next, reading_after, is_stopped, is_ready, is_none, is_done, handed, taken, taken_reading, waiting, went, rules_of}
+use Rattle.stream_grammar.specs.machine.Building.{Building}
+use Rattle.stream_grammar.specs.machine.Framing.{Frame}
+use Rattle.stream_grammar.specs.grammar.Parts.{IsItem}
+use Rattle.stream_grammar.specs.machine.Reading.{Reading, reads, stopped, first_reading, reading_next, reading_after, is_stopped}
+use Rattle.stream_grammar.specs.machine.Reading.{is_ready, is_none, is_done, handed, taken, taken_reading, waiting, went}
+use Rattle.stream_grammar.specs.grammar.Bounds.{rules_of}
 use Rattle.stream_grammar.proofs.FeedLemmas.{stopped_stays}
 use Rattle.stream_laws.specs.ItemLists.{AreEnding, AreItems, brought, items_from}
-use Rattle.stream_laws.specs.CallLists.{Call, feeds, falls_short, hands, Fed, bytes_taken, IsFedBy, is_fault, to_fault}
+use Rattle.stream_grammar.specs.machine.Calls.{Call, feeds, falls_short, hands, Called, bytes_taken}
+use Rattle.stream_laws.specs.CallLists.{IsFedBy, is_fault, to_fault}
 use Rattle.stream_laws.proofs.Handing.{stopped-went, went-more}
 use Rattle.stream_laws.proofs.ItemListLemmas.{brings-more, stopped-brings, ending-is, items_are}
 use Rattle.stream_laws.proofs.TakenLemmas.{handed-ready, going-ready, going-none}
@@ -103,7 +107,7 @@ told-handed l (reads f b n k) later rest e =
     same [] = refl
     same (c ∷ cs) = refl
 
-pub fed-tells : (calls : List Call) (l : Limits) (s t : Reading) (items : List Item) → Fed l s calls items t → to_fault (items ++ option_to_list (waiting t)) ≡ to_fault (told_on l s (bytes_taken calls))
+pub fed-tells : (calls : List Call) (l : Limits) (s t : Reading) (items : List Item) → Called l s calls items t → to_fault (items ++ option_to_list (waiting t)) ≡ to_fault (told_on l s (bytes_taken calls))
 fed-tells [] l s t items (none, e) = ap (λ (x : List Item). to_fault (x ++ option_to_list (waiting t))) none ∙ (ap (λ (x : Reading). to_fault (option_to_list (waiting x))) e ∙ ap to_fault (sym (append-nil (option_to_list (waiting s)))))
 fed-tells (feeds piece n ∷ calls) l s t items (h, count, more) =
     fed-tells calls l (reading_after l s (take n piece)) t items more ∙ ap to_fault (told-fed l s piece (bytes_taken calls) n h (let e : n ≤ taken l s piece = omega (arith, count) in e))
@@ -129,7 +133,7 @@ fed-on l (reads f b m k) piece n h few = (reached piece l (reads f b m k) n refl
 stands-more : (l : Limits) (s t : Reading) (piece rest : List ℕ) (n : ℕ) → is_ready s ≡ true → IsFew l s piece n → handed t ≡ handed (went l (reading_after l s (take n piece)) rest) → handed t ≡ handed (went l s (take n piece ++ rest))
 stands-more l s t piece rest n h few e = e ∙ (ap (λ (x : Reading). handed (went l x rest)) (fed-on l s piece n h few) ∙ ap handed (sym (went-more l s (take n piece) rest)))
 
-pub fed-stands : (calls : List Call) (l : Limits) (s t : Reading) (items : List Item) → Fed l s calls items t → handed t ≡ handed (went l s (bytes_taken calls))
+pub fed-stands : (calls : List Call) (l : Limits) (s t : Reading) (items : List Item) → Called l s calls items t → handed t ≡ handed (went l s (bytes_taken calls))
 fed-stands [] l s t items (none, e) = ap handed e
 fed-stands (feeds piece n ∷ calls) l s t items (h, count, more) =
     stands-more l s t piece (bytes_taken calls) n h (let e : n ≤ taken l s piece = omega (arith, count) in e) (fed-stands calls l (reading_after l s (take n piece)) t items more)
@@ -158,7 +162,7 @@ items-whole : (l : Limits) (bytes : List ℕ) (items : List Item) → AreItems l
 items-whole l bytes items (inl (none, ending)) = ap to_fault (sym (append-nil items)) ∙ (ending-whole (rules_of l) [] bytes items [] ending ∙ append-nil items)
 items-whole l bytes items (inr (k, f, before, is, ending, e)) = ap to_fault e ∙ (ending-whole (rules_of l) [] _ before (item.Broken f _ ∷ []) ending ∙ sym e)
 
-pub all_handed : (l : Limits) (calls : List Call) (items : List Item) (t : Reading) → Fed l first_reading calls items t → AreItems l (bytes_taken calls) (to_fault (items ++ option_to_list (waiting t)))
+pub all_handed : (l : Limits) (calls : List Call) (items : List Item) (t : Reading) → Called l first_reading calls items t → AreItems l (bytes_taken calls) (to_fault (items ++ option_to_list (waiting t)))
 all_handed l calls items t fed =
     let are = items_are l (bytes_taken calls) in
     subst (AreItems l (bytes_taken calls)) (sym (fed-tells calls l first_reading t items fed ∙ items-whole l (bytes_taken calls) (items_from l first_reading (bytes_taken calls)) are)) are
@@ -192,7 +196,7 @@ nothing-stopped (stopped f k) (stopped g m) none e = absurd (some-none _ none)
     some-none : {X : Type 0} (x : X) → Some x ≡ None → ⊥
     some-none x e = cc
 
-pub none_left : (l : Limits) (calls : List Call) (items : List Item) (t : Reading) → Fed l first_reading calls items t → waiting t ≡ None → AreItems l (bytes_taken calls) items
+pub none_left : (l : Limits) (calls : List Call) (items : List Item) (t : Reading) → Called l first_reading calls items t → waiting t ≡ None → AreItems l (bytes_taken calls) items
 none_left l calls items t fed none =
     let bytes : List ℕ = bytes_taken calls in
     let on : is_stopped (went l first_reading bytes) ≡ false = nothing-stopped (went l first_reading bytes) t none (fed-stands calls l first_reading t items fed) in
@@ -204,7 +208,7 @@ none_left l calls items t fed none =
     ap to_fault (sym (append-nil items)) ∙ (ap (λ (o : Option Item). to_fault (items ++ option_to_list o)) (sym none) ∙ (fed-tells calls l first_reading t items fed ∙ same)) in
     subst (AreItems l bytes) (sym told ∙ clean-whole items (subst HasNoFault (sym told) clean)) are
 
-pub stands_there : (l : Limits) (calls : List Call) (items : List Item) (t : Reading) → Fed l first_reading calls items t → handed t ≡ handed (went l first_reading (bytes_taken calls))
+pub stands_there : (l : Limits) (calls : List Call) (items : List Item) (t : Reading) → Called l first_reading calls items t → handed t ≡ handed (went l first_reading (bytes_taken calls))
 stands_there l calls items t fed = fed-stands calls l first_reading t items fed
 
 -- The bytes that were fed are those that were taken, and the rest.
@@ -228,7 +232,7 @@ one-fed l s piece more bytes after rest n few e h =
     let front : take n bytes ≡ take n piece = ap (take n) e ∙ take-append-le n piece more short in
     sym (take-append-drop n bytes) ∙ (ap (λ (x : List ℕ). x ++ drop n bytes) front ∙ (ap (λ (x : List ℕ). take n piece ++ x) h ∙ sym (append_assoc (take n piece) after rest)))
 
-pub fed-bytes : (calls : List Call) (l : Limits) (s t : Reading) (items : List Item) (bytes rest : List ℕ) → Fed l s calls items t → IsFedBy bytes calls rest → bytes ≡ bytes_taken calls ++ rest
+pub fed-bytes : (calls : List Call) (l : Limits) (s t : Reading) (items : List Item) (bytes rest : List ℕ) → Called l s calls items t → IsFedBy bytes calls rest → bytes ≡ bytes_taken calls ++ rest
 fed-bytes [] l s t items bytes rest fed e = e
 fed-bytes (feeds piece n ∷ calls) l s t items bytes rest (h, count, more) ((later, e), go) =
     one-fed l s piece later bytes (bytes_taken calls) rest n (let e : n ≤ taken l s piece = omega (arith, count) in e) e (fed-bytes calls l (reading_after l s (take n piece)) t items (drop n bytes) rest more go)
@@ -238,13 +242,13 @@ fed-bytes (hands next ∷ calls) l s t items bytes rest (is, (later, all, more))
 
 -- Where `next` was the last call.
 
-asked-last : (l : Limits) (s t : Reading) (next : Option Item) (items : List Item) → Fed l s (hands next ∷ []) items t → to_fault (items ++ option_to_list (waiting t)) ≡ to_fault items
+asked-last : (l : Limits) (s t : Reading) (next : Option Item) (items : List Item) → Called l s (hands next ∷ []) items t → to_fault (items ++ option_to_list (waiting t)) ≡ to_fault items
 asked-last l (stopped f k) t next items (is, (later, all, (none, e))) =
     let same : items ≡ item.Broken f k ∷ later = all ∙ ap (λ (o : Option Item). option_to_list o ++ later) is in
     ap (λ (x : List Item). to_fault (x ++ option_to_list (waiting t))) same ∙ sym (ap to_fault same)
 asked-last l (reads f b n k) t next items (is, (later, all, (none, e))) = ap (λ (x : Reading). to_fault (items ++ option_to_list (waiting x))) e ∙ ap to_fault (append-nil items)
 
-pub asked-all : (calls : List Call) (l : Limits) (s t : Reading) (next : Option Item) (items : List Item) → Fed l s (calls ++ hands next ∷ []) items t → to_fault (items ++ option_to_list (waiting t)) ≡ to_fault items
+pub asked-all : (calls : List Call) (l : Limits) (s t : Reading) (next : Option Item) (items : List Item) → Called l s (calls ++ hands next ∷ []) items t → to_fault (items ++ option_to_list (waiting t)) ≡ to_fault items
 asked-all [] l s t next items fed = asked-last l s t next items fed
 asked-all (feeds piece n ∷ calls) l s t next items (h, count, more) = asked-all calls l (reading_after l s (take n piece)) t next items more
 asked-all (falls_short piece n ∷ calls) l s t next items (h, count, more) = asked-all calls l (reading_after l s (take n piece)) t next items more
@@ -259,7 +263,7 @@ taken-asked (feeds piece n ∷ calls) next = ap (λ (x : List ℕ). take n piece
 taken-asked (falls_short piece n ∷ calls) next = ap (λ (x : List ℕ). take n piece ++ x) (taken-asked calls next)
 taken-asked (hands before ∷ calls) next = taken-asked calls next
 
-pub all_asked : (l : Limits) (calls : List Call) (next : Option Item) (items : List Item) (t : Reading) → Fed l first_reading (calls ++ hands next ∷ []) items t → AreItems l (bytes_taken calls) (to_fault items)
+pub all_asked : (l : Limits) (calls : List Call) (next : Option Item) (items : List Item) (t : Reading) → Called l first_reading (calls ++ hands next ∷ []) items t → AreItems l (bytes_taken calls) (to_fault items)
 all_asked l calls next items t fed =
     subst (λ (x : List ℕ). AreItems l x (to_fault items)) (taken-asked calls next)
     (subst (AreItems l (bytes_taken (calls ++ hands next ∷ []))) (asked-all calls l first_reading t next items fed) (all_handed l (calls ++ hands next ∷ []) items t fed))

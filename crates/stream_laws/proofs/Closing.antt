@@ -1,15 +1,15 @@
 -- The frame is at its end exactly where the bytes are a stream.
 use Rattle.std.proofs.Common.{◌≡◌, ℕ, List, [], ◌++◌, refl, sym, subst, append-nil, true, false}
 use Rattle.stream_lex.specs.declared.stages.State.{State}
-use Rattle.stream_lex.specs.Expressions.{all_said}
-use Rattle.stream_lex.specs.Leading.{Left}
+use Rattle.stream_lex.specs.grammar.Expressions.{all_said}
+use Rattle.stream_lex.specs.machine.Leading.{Left}
 use Rattle.stream_lex.proofs.Lists.{nil_parts, said-same}
 use Rattle.stream_lex.proofs.Ended.{left-done}
 use Rattle.stream_grammar.specs.declared.rules.Rules.{Rules}
-use Rattle.stream_grammar.specs.Trees.{Stream}
-use Rattle.stream_grammar.specs.Streams.{Spells}
-use Rattle.stream_grammar.specs.Nesting.{Nest}
-use Rattle.stream_grammar.specs.Framing.{Frame, open_at, ended, broken, frame_after, first_frame, has_ended}
+use Rattle.stream_grammar.specs.grammar.Trees.{Stream}
+use Rattle.stream_grammar.specs.grammar.Streams.{Spells}
+use Rattle.stream_grammar.specs.machine.Nesting.{Nest}
+use Rattle.stream_grammar.specs.machine.Framing.{Frame, open_at, ended, broken, frame_after, first_frame, has_ended}
 use Rattle.stream_grammar.proofs.Following.{leaves-nothing, Over, Follows, IsSound, Sound, after-sound, after-to, after-from}
 use Rattle.stream_grammar.proofs.Whole.{first-sound, spells-follows, follows-spells}
 

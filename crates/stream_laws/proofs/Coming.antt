@@ -6,19 +6,20 @@ use Rattle.stream_lex.specs.declared.Token.TheVariants as token
 use Rattle.stream_lex.specs.declared.stages.Stage.TheVariants as stage
 use Rattle.stream_lex.specs.declared.stages.State.{State}
 use Rattle.stream_lex.specs.declared.characters.Pending.TheVariants as pending
-use Rattle.stream_lex.specs.Expressions.{all_said}
-use Rattle.stream_lex.specs.Turns.{Outcome, leads, fails, at, turn}
-use Rattle.stream_lex.specs.Live.{is_live}
-use Rattle.stream_lex.specs.Reading.{Reads}
-use Rattle.stream_lex.specs.Leading.{Left}
+use Rattle.stream_lex.specs.grammar.Expressions.{all_said}
+use Rattle.stream_lex.specs.machine.Turns.{Outcome, leads, fails, at, turn}
+use Rattle.stream_lex.specs.machine.Live.{is_live}
+use Rattle.stream_lex.specs.grammar.Reading.{Reads}
+use Rattle.stream_lex.specs.machine.Leading.{Left}
 use Rattle.stream_lex.proofs.Lists.{false-true, cons_not_nil}
 use Rattle.stream_lex.proofs.Living.{LeadsLive}
 use Rattle.stream_grammar.specs.declared.rules.Rules.{Rules}
-use Rattle.stream_grammar.specs.Trees.{RawName, RawTag, Content, nothing, Stream, end_tokens, stream_tokens, KeepsRoot}
-use Rattle.stream_grammar.specs.Streams.{IsShortest, IsStream}
-use Rattle.stream_grammar.specs.Nesting.{Nest, start, inside, lost, nest_all, Leaves}
-use Rattle.stream_grammar.specs.Framing.{goes_with, Frame, open_at, ended, broken, placed, settled, frame_next, frame_after, first_frame}
-use Rattle.stream_grammar.specs.Items.{head_tokens, EndsHeader, EndsTop, is_between_tops, tokens_told, told_at, is_start_end, is_element_end, is_header_end, is_top_end}
+use Rattle.stream_grammar.specs.grammar.Trees.{RawName, RawTag, Content, nothing, Stream, end_tokens, stream_tokens, KeepsRoot}
+use Rattle.stream_grammar.specs.grammar.Streams.{IsShortest, IsStream}
+use Rattle.stream_grammar.specs.machine.Nesting.{Nest, start, inside, lost, nest_all, Leaves}
+use Rattle.stream_grammar.specs.machine.Framing.{goes_with, Frame, open_at, ended, broken, placed, settled, frame_next, frame_after, first_frame}
+use Rattle.stream_grammar.specs.grammar.Items.{head_tokens, EndsHeader, EndsTop}
+use Rattle.stream_grammar.specs.machine.Ends.{is_between_tops, tokens_told, told_at, is_start_end, is_element_end, is_header_end, is_top_end}
 use Rattle.stream_grammar.proofs.Nested.{no_token, all-from, all-more}
 use Rattle.stream_grammar.proofs.Twins.{words, EndsSo, ends-so}
 use Rattle.stream_grammar.proofs.Following.{left-from, any-live, Tight, tight-from, IsSound, Sound, words-left, after-sound}
@@ -106,7 +107,7 @@ nil-back : (xs ys : List ℕ) → xs ++ ys ≡ [] → ys ≡ []
 nil-back [] ys e = e
 nil-back (x ∷ xs) ys e = absurd (cons_not_nil x (xs ++ ys) e)
 
-leaves-end : (r : Rules) (m : RawName) → Leaves r (inside (m ∷ [])) (end_tokens m)
+pub leaves-end : (r : Rules) (m : RawName) → Leaves r (inside (m ∷ [])) (end_tokens m)
 leaves-end r m = (nothing, [], tt, omega arith, sym (append-nil (end_tokens m)), refl)
 
 -- a byte that tells a token, and leads to where a text may end

@@ -2,8 +2,9 @@
 use Rattle.std.proofs.Common.{◌≡◌, ℕ, List, [], ◌∷◌, ◌++◌, map, refl, sym, ap, ◌∙◌, append_assoc, Bool, true, false}
 use Rattle.stream_lex.specs.declared.Token.{Token}
 use Rattle.stream_lex.specs.declared.Token.TheVariants as token
-use Rattle.stream_grammar.specs.Trees.{RawName, RawTag, Content, nothing, word, element, hollow, Stream, attributes_tokens, tag_tokens, content_tokens, end_tokens, declaration_tokens, stream_tokens}
-use Rattle.stream_grammar.specs.Items.{head_tokens, ends_so}
+use Rattle.stream_grammar.specs.grammar.Trees.{RawName, RawTag, Content, nothing, word, element, hollow, Stream, attributes_tokens}
+use Rattle.stream_grammar.specs.grammar.Trees.{tag_tokens, content_tokens, end_tokens, declaration_tokens, stream_tokens}
+use Rattle.stream_grammar.specs.grammar.Items.{head_tokens, ends_so}
 use Rattle.stream_grammar.proofs.Nested.{token_head, token_tail, no_token}
 
 -- The last token.

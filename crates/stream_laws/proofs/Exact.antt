@@ -10,16 +10,18 @@ use Rattle.stream_grammar.specs.declared.namespaces.NameFault.{NameFault}
 use Rattle.stream_grammar.specs.declared.namespaces.NameFault.TheVariants as name
 use Rattle.stream_grammar.specs.declared.item.Limits.{Limits}
 use Rattle.stream_grammar.specs.declared.rules.Rules.{Rules}
-use Rattle.stream_grammar.specs.Streams.{Begins}
-use Rattle.stream_grammar.specs.Faults.{rank, IsSyntaxKind}
-use Rattle.stream_grammar.specs.Framing.{Frame, frame_next, frame_after, first_frame, is_broken}
-use Rattle.stream_grammar.specs.Items.{told_at}
-use Rattle.stream_grammar.specs.Telling.{fault_told}
-use Rattle.stream_grammar.specs.Elements.{fault_of_tag}
-use Rattle.stream_grammar.specs.Building.{Building, nothing_built, build_all, is_all_text, named_fault, tag_judged, told_judged}
-use Rattle.stream_grammar.specs.Paths.{name_kind}
-use Rattle.stream_grammar.specs.Reading.{Reading, reads, stopped, first_reading, reading_next, concluded, byte_judged, or_else, fault_if, handed, is_stopped, went, rules_of, is_past, is_large_item, extent_after, told_number}
-use Rattle.stream_grammar.specs.Parts.{IsLargeEnd}
+use Rattle.stream_grammar.specs.grammar.Streams.{Begins}
+use Rattle.stream_grammar.specs.grammar.Faults.{rank, IsSyntaxKind}
+use Rattle.stream_grammar.specs.machine.Framing.{Frame, frame_next, frame_after, first_frame, is_broken}
+use Rattle.stream_grammar.specs.machine.Ends.{told_at}
+use Rattle.stream_grammar.specs.machine.Telling.{fault_told}
+use Rattle.stream_grammar.specs.grammar.Elements.{fault_of_tag}
+use Rattle.stream_grammar.specs.machine.Building.{Building, nothing_built, build_all, is_all_text, named_fault, tag_judged, told_judged}
+use Rattle.stream_grammar.specs.grammar.Paths.{name_kind}
+use Rattle.stream_grammar.specs.machine.Reading.{Reading, reads, stopped, first_reading, reading_next, concluded, byte_judged}
+use Rattle.stream_grammar.specs.machine.Reading.{or_else, fault_if, handed, is_stopped, went, is_past, extent_after}
+use Rattle.stream_grammar.specs.grammar.Bounds.{rules_of, is_large_item, told_number}
+use Rattle.stream_grammar.specs.grammar.Parts.{IsLargeEnd}
 use Rattle.stream_laws.proofs.Coming.{told_all}
 use Rattle.stream_laws.proofs.Handing.{clear, HasRead, went-read, went-more}
 use Rattle.stream_laws.proofs.Judged.{named_at, AreJudged, reading-judged}

@@ -1,5 +1,6 @@
 -- A reading counts the bytes of a header or top element from its `<`.
-use Rattle.std.proofs.Common.{◌≡◌, ℕ, suc, ◌+◌, ◌≤◌, ◌⊎◌, inl, inr, List, [], ◌∷◌, ◌++◌, length, refl, sym, ap, ◌∙◌, subst, append_assoc, append-nil, Bool, true, false, arith}
+use Rattle.std.proofs.Common.{◌≡◌, ℕ, suc, ◌+◌, ◌≤◌, ◌⊎◌, inl, inr, List, [], ◌∷◌, ◌++◌, length, refl, sym, ap}
+use Rattle.std.proofs.Common.{◌∙◌, subst, append_assoc, append-nil, Bool, true, false, arith}
 use Rattle.std.proofs.lemmas.Bool.{and_parts, leb-true, le-leb}
 use Rattle.std.proofs.lemmas.List.{length-append}
 use Rattle.std.specs.Prelude.{Option, Some, None, if◌then◌else◌, ◌||◌, ◌&&◌, nat_le}
@@ -7,16 +8,28 @@ use Rattle.stream_lex.proofs.Lists.{false-true}
 use Rattle.stream_grammar.specs.declared.FrameFault.{FrameFault}
 use Rattle.stream_grammar.specs.declared.item.Limits.{Limits}
 use Rattle.stream_grammar.specs.declared.rules.Rules.{Rules}
-use Rattle.stream_grammar.specs.Framing.{Frame, frame_next, frame_after, first_frame}
-use Rattle.stream_grammar.specs.Items.{told_at, in_item}
-use Rattle.stream_grammar.specs.Building.{Building, build_all}
-use Rattle.stream_grammar.specs.Reading.{Reading, reads, stopped, concluded, byte_judged, went, rules_of, is_past, extent_after, told_number}
-use Rattle.stream_grammar.specs.Extents.{HasOpenItem, IsSince, IsPastLimit}
+use Rattle.stream_grammar.specs.machine.Framing.{Frame, frame_next, frame_after, first_frame}
+use Rattle.stream_grammar.specs.machine.Ends.{told_at, in_item, is_open}
+use Rattle.stream_grammar.specs.machine.Building.{Building, build_all}
+use Rattle.stream_grammar.specs.machine.Reading.{Reading, reads, stopped, concluded, byte_judged, went, is_past, extent_after}
+use Rattle.stream_grammar.specs.grammar.Bounds.{rules_of, told_number}
 use Rattle.stream_grammar.proofs.Whole.{first-sound}
 use Rattle.stream_grammar.proofs.Following.{Sound, after-sound}
 use Rattle.stream_laws.proofs.Handing.{clear, stopped-went}
 use Rattle.stream_laws.proofs.StandingWhole.{frames-more}
 use Rattle.stream_laws.proofs.Opens.{AfterLess, opens-after, less-before}
+
+-- What is open, by frames.
+
+abbrev pub IsOpenAt : Rules → List ℕ → Type 0
+IsOpenAt r bytes = is_open r bytes ≡ true
+
+abbrev pub IsOpenSince : Rules → List ℕ → List ℕ → Type 0
+IsOpenSince r xs ys = (IsOpenAt r (xs ++ 60 ∷ []) → ⊥) × ((us vs : List ℕ) → ys ≡ us ++ vs → (us ≡ [] → ⊥) → IsOpenAt r (xs ++ (60 ∷ us)))
+
+abbrev pub IsPastAt : Limits → List ℕ → ℕ → Type 0
+IsPastAt l bytes byte = (IsOpenAt (rules_of l) bytes ⊎ IsOpenAt (rules_of l) (bytes ++ byte ∷ []))
+    × ((xs : List ℕ) × (ys : List ℕ) × (bytes ≡ xs ++ (60 ∷ ys)) × IsOpenSince (rules_of l) xs ys × (l.bytes ≤ length (60 ∷ ys)))
 
 -- The count, as a fold over the bytes.
 
@@ -159,7 +172,7 @@ is-less r xs y c low high =
 -- the byte before what is open is a `<`
 begun-less : (r : Rules) (xs : List ℕ) (y : ℕ) (ys : List ℕ) (byte : ℕ) → in_item (frame_after r first_frame (xs ++ y ∷ [])) ≡ false
     → ((us vs : List ℕ) → ys ≡ us ++ vs → (us ≡ [] → ⊥) → in_item (frame_after r first_frame (xs ++ (y ∷ us))) ≡ true)
-    → HasOpenItem r (xs ++ (y ∷ ys)) ⊎ HasOpenItem r ((xs ++ (y ∷ ys)) ++ byte ∷ []) → y ≡ 60
+    → IsOpenAt r (xs ++ (y ∷ ys)) ⊎ IsOpenAt r ((xs ++ (y ∷ ys)) ++ byte ∷ []) → y ≡ 60
 begun-less r xs y [] byte low each (inl h) = let bad : true ≡ false = sym h ∙ low in false-true (sym bad)
 begun-less r xs y [] byte low each (inr h) = is-less r xs y byte low h
 begun-less r xs y (c ∷ ys) byte low each o = is-less r xs y c low (ap (λ (l : List ℕ). in_item (frame_after r first_frame l)) (append_assoc xs (y ∷ []) (c ∷ [])) ∙ each (c ∷ []) ys refl (λ e. no-nil c [] e))
@@ -168,13 +181,13 @@ not-true : (t : Bool) → t ≡ false → t ≡ true → ⊥
 not-true t e f = false-true (sym e ∙ f)
 
 -- what is open began with a `<`
-pub open_since : (r : Rules) (bytes : List ℕ) → HasOpenItem r bytes → (xs : List ℕ) × (ys : List ℕ) × (bytes ≡ xs ++ (60 ∷ ys)) × IsSince r xs ys
+pub open_since : (r : Rules) (bytes : List ℕ) → IsOpenAt r bytes → (xs : List ℕ) × (ys : List ℕ) × (bytes ≡ xs ++ (60 ∷ ys)) × IsOpenSince r xs ys
 open_since r bytes h = by (counted r bytes)
   where
-    by : IsCounted r bytes (extent r first_frame 0 bytes) → (xs : List ℕ) × (ys : List ℕ) × (bytes ≡ xs ++ (60 ∷ ys)) × IsSince r xs ys
+    by : IsCounted r bytes (extent r first_frame 0 bytes) → (xs : List ℕ) × (ys : List ℕ) × (bytes ≡ xs ++ (60 ∷ ys)) × IsOpenSince r xs ys
     by (inl (none, z)) = false-true (ap (λ (x : List ℕ). in_item (frame_after r first_frame x)) (sym none) ∙ h)
     by (inr (xs, y, ys, split, size, low, each)) =
-        let less : y ≡ 60 = begun-less r xs y ys 0 low each (inl (subst (HasOpenItem r) split h)) in (
+        let less : y ≡ 60 = begun-less r xs y ys 0 low each (inl (subst (IsOpenAt r) split h)) in (
           xs,
           ys,
           split ∙ ap (λ (x : ℕ). xs ++ (x ∷ ys)) less,
@@ -185,7 +198,7 @@ or-open : (s t : Bool) → (s || t) ≡ true → (s ≡ true) ⊎ (t ≡ true)
 or-open true t e = inl refl
 or-open false t e = inr e
 
-pub past-is : (l : Limits) (bytes : List ℕ) (byte n : ℕ) (f : Frame) → f ≡ frame_after (rules_of l) first_frame bytes → n ≡ extent (rules_of l) first_frame 0 bytes → is_past l f (frame_next (rules_of l) f byte) n ≡ true → IsPastLimit l bytes byte
+pub past-is : (l : Limits) (bytes : List ℕ) (byte n : ℕ) (f : Frame) → f ≡ frame_after (rules_of l) first_frame bytes → n ≡ extent (rules_of l) first_frame 0 bytes → is_past l f (frame_next (rules_of l) f byte) n ≡ true → IsPastAt l bytes byte
 past-is l bytes byte n f e g h = by (counted r bytes) opened
   where
     r : Rules
@@ -194,20 +207,20 @@ past-is l bytes byte n f e g h = by (counted r bytes) opened
     long : l.bytes ≤ extent r first_frame 0 bytes
     long = subst (λ (m : ℕ). l.bytes ≤ m) g (leb-true l.bytes n (and_parts (in_item f || in_item (frame_next r f byte)) (nat_le l.bytes n) h).1)
 
-    opened : HasOpenItem r bytes ⊎ HasOpenItem r (bytes ++ byte ∷ [])
+    opened : IsOpenAt r bytes ⊎ IsOpenAt r (bytes ++ byte ∷ [])
     opened = elim (or-open (in_item f) (in_item (frame_next r f byte)) (and_parts (in_item f || in_item (frame_next r f byte)) (nat_le l.bytes n) h).0) [
       | inl k ↦ inl (ap in_item (sym e) ∙ k)
       | inr k ↦ inr (ap in_item (after-last r bytes byte ∙ ap (λ (x : Frame). frame_next r x byte) (sym e)) ∙ k)
     ]
 
-    none-open : bytes ≡ [] → HasOpenItem r bytes ⊎ HasOpenItem r (bytes ++ byte ∷ []) → ⊥
+    none-open : bytes ≡ [] → IsOpenAt r bytes ⊎ IsOpenAt r (bytes ++ byte ∷ []) → ⊥
     none-open none (inl k) = false-true (ap (λ (x : List ℕ). in_item (frame_after r first_frame x)) (sym none) ∙ k)
     none-open none (inr k) = never-first r byte (ap (λ (x : List ℕ). in_item (frame_after r first_frame (x ++ byte ∷ []))) (sym none) ∙ k)
 
-    by : IsCounted r bytes (extent r first_frame 0 bytes) → HasOpenItem r bytes ⊎ HasOpenItem r (bytes ++ byte ∷ []) → IsPastLimit l bytes byte
+    by : IsCounted r bytes (extent r first_frame 0 bytes) → IsOpenAt r bytes ⊎ IsOpenAt r (bytes ++ byte ∷ []) → IsPastAt l bytes byte
     by (inl (none, z)) o = absurd (none-open none o)
     by (inr (xs, y, ys, split, size, low, each)) o =
-        let less : y ≡ 60 = begun-less r xs y ys byte low each (subst (λ (x : List ℕ). HasOpenItem r x ⊎ HasOpenItem r (x ++ byte ∷ [])) split o) in (
+        let less : y ≡ 60 = begun-less r xs y ys byte low each (subst (λ (x : List ℕ). IsOpenAt r x ⊎ IsOpenAt r (x ++ byte ∷ [])) split o) in (
           o,
           (
             xs,
@@ -231,7 +244,7 @@ or-true true t h = refl
 or-true false t (inl e) = false-true e
 or-true false t (inr e) = e
 
-pub is-past : (l : Limits) (bytes : List ℕ) (byte n : ℕ) (f : Frame) → f ≡ frame_after (rules_of l) first_frame bytes → n ≡ extent (rules_of l) first_frame 0 bytes → IsPastLimit l bytes byte → is_past l f (frame_next (rules_of l) f byte) n ≡ true
+pub is-past : (l : Limits) (bytes : List ℕ) (byte n : ℕ) (f : Frame) → f ≡ frame_after (rules_of l) first_frame bytes → n ≡ extent (rules_of l) first_frame 0 bytes → IsPastAt l bytes byte → is_past l f (frame_next (rules_of l) f byte) n ≡ true
 is-past l bytes byte n f e g (o, (xs, ys, split, (low, each), long)) =
     let r : Rules = rules_of l in
     let at_xs : Frame = frame_after r first_frame xs in

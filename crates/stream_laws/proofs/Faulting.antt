@@ -7,15 +7,17 @@ use Rattle.stream_lex.specs.declared.Token.{Token}
 use Rattle.stream_grammar.specs.declared.item.Item.{Item}
 use Rattle.stream_grammar.specs.declared.item.Limits.{Limits}
 use Rattle.stream_grammar.specs.declared.rules.Rules.{Rules}
-use Rattle.stream_grammar.specs.Streams.{Begins}
-use Rattle.stream_grammar.specs.Faults.{IsSyntaxKind}
-use Rattle.stream_grammar.specs.Framing.{Frame, frame_next, frame_after, first_frame, is_broken, fault_at}
-use Rattle.stream_grammar.specs.Items.{told_at}
-use Rattle.stream_grammar.specs.Telling.{fault_told}
-use Rattle.stream_grammar.specs.Building.{Building, nothing_built, build_all, told_judged}
-use Rattle.stream_grammar.specs.Reading.{Reading, reads, stopped, first_reading, reading_next, concluded, byte_judged, or_else, fault_if, handed, is_stopped, went, rules_of, is_past, is_large_item, extent_after, told_number}
-use Rattle.stream_grammar.specs.Parts.{IsLargeEnd}
-use Rattle.stream_grammar.specs.Paths.{IsNameFault}
+use Rattle.stream_grammar.specs.grammar.Streams.{Begins}
+use Rattle.stream_grammar.specs.grammar.Faults.{IsSyntaxKind}
+use Rattle.stream_grammar.specs.machine.Framing.{Frame, frame_next, frame_after, first_frame, is_broken, fault_at}
+use Rattle.stream_grammar.specs.machine.Ends.{told_at}
+use Rattle.stream_grammar.specs.machine.Telling.{fault_told}
+use Rattle.stream_grammar.specs.machine.Building.{Building, nothing_built, build_all, told_judged}
+use Rattle.stream_grammar.specs.machine.Reading.{Reading, reads, stopped, first_reading, reading_next, concluded, byte_judged}
+use Rattle.stream_grammar.specs.machine.Reading.{or_else, fault_if, handed, is_stopped, went, is_past, extent_after}
+use Rattle.stream_grammar.specs.grammar.Bounds.{rules_of, is_large_item, told_number}
+use Rattle.stream_grammar.specs.grammar.Parts.{IsLargeEnd}
+use Rattle.stream_grammar.specs.grammar.Paths.{IsNameFault}
 use Rattle.stream_grammar.proofs.Whole.{open-begins, broken-begins}
 use Rattle.stream_grammar.proofs.Blaming.{fault-kind}
 use Rattle.stream_laws.proofs.Handing.{clear, HasRead, went-read, went-more}

@@ -3,8 +3,9 @@ use Rattle.std.proofs.Common.{◌≡◌, ℕ, ◌+◌, List, [], ◌∷◌, ◌+
 use Rattle.stream_lex.proofs.Lists.{false-true}
 use Rattle.stream_grammar.specs.declared.FrameFault.{FrameFault}
 use Rattle.stream_grammar.specs.declared.item.Limits.{Limits}
-use Rattle.stream_grammar.specs.Reading.{Reading, reads, stopped, first_reading, is_stopped, went, told_number}
-use Rattle.stream_grammar.specs.Parts.{AreFaultless, IsFirstFault}
+use Rattle.stream_grammar.specs.machine.Reading.{Reading, reads, stopped, first_reading, is_stopped, went}
+use Rattle.stream_grammar.specs.grammar.Bounds.{told_number}
+use Rattle.stream_grammar.specs.grammar.Parts.{AreFaultless, IsFirstFault}
 use Rattle.stream_laws.proofs.Handing.{stopped-went, went-more}
 use Rattle.stream_laws.proofs.FirstFaults.{fault_waits, fault_stops, none_waits}
 

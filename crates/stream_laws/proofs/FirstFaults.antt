@@ -3,14 +3,16 @@ use Rattle.std.proofs.Common.{◌≡◌, ℕ, ◌+◌, inl, inr, List, [], ◌�
 use Rattle.stream_lex.proofs.Lists.{false-true}
 use Rattle.stream_grammar.specs.declared.FrameFault.{FrameFault}
 use Rattle.stream_grammar.specs.declared.item.Limits.{Limits}
-use Rattle.stream_grammar.specs.Framing.{Frame, frame_next, frame_after, first_frame}
-use Rattle.stream_grammar.specs.Building.{nothing_built}
-use Rattle.stream_grammar.specs.Reading.{Reading, reads, stopped, first_reading, is_stopped, went, rules_of, is_past, told_number}
-use Rattle.stream_grammar.specs.Parts.{IsByteFault}
+use Rattle.stream_grammar.specs.machine.Framing.{Frame, frame_next, frame_after, first_frame}
+use Rattle.stream_grammar.specs.machine.Building.{nothing_built}
+use Rattle.stream_grammar.specs.machine.Reading.{Reading, reads, stopped, first_reading, is_stopped, went, is_past}
+use Rattle.stream_grammar.specs.grammar.Bounds.{rules_of, told_number}
+use Rattle.stream_grammar.specs.grammar.Parts.{IsByteFault}
 use Rattle.stream_laws.proofs.Handing.{HasRead, went-read}
 use Rattle.stream_laws.proofs.Faulting.{IsFaultAt, IsFaultIn, fault-waits, none-waits}
 use Rattle.stream_laws.proofs.Exact.{fault-stops}
-use Rattle.stream_laws.proofs.Extents.{extent, HasExtent, went-extent, past-is, is-past}
+use Rattle.stream_laws.proofs.Extents.{extent, HasExtent, went-extent}
+use Rattle.stream_laws.proofs.OpenGrammar.{past-limit, limit-past}
 
 abbrev Counts : Limits → List ℕ → Frame → ℕ → Type 0
 Counts l bytes f n = (f ≡ frame_after (rules_of l) first_frame bytes) × (n ≡ extent (rules_of l) first_frame 0 bytes)
@@ -19,15 +21,15 @@ not-both : (t : Bool) → t ≡ true → t ≡ false → ⊥
 not-both t e f = false-true (sym f ∙ e)
 
 at-byte : (l : Limits) (f : Frame) (n : ℕ) (bytes : List ℕ) (byte : ℕ) (g : FrameFault) → Counts l bytes f n → IsFaultAt l f n bytes byte g → IsByteFault l bytes byte g
-at-byte l f n bytes byte g (e, h) (inl (past, is)) = inl (past-is l bytes byte n f e h past, is)
-at-byte l f n bytes byte g (e, h) (inr (past, more)) = inr ((λ k. not-both _ (is-past l bytes byte n f e h k) past), more)
+at-byte l f n bytes byte g (e, h) (inl (past, is)) = inl (past-limit l bytes byte n f e h past, is)
+at-byte l f n bytes byte g (e, h) (inr (past, more)) = inr ((λ k. not-both _ (limit-past l bytes byte n f e h k) past), more)
 
 from-byte : (l : Limits) (f : Frame) (n : ℕ) (bytes : List ℕ) (byte : ℕ) (g : FrameFault) → Counts l bytes f n → IsByteFault l bytes byte g → IsFaultAt l f n bytes byte g
-from-byte l f n bytes byte g (e, h) (inl (past, is)) = inl (is-past l bytes byte n f e h past, is)
+from-byte l f n bytes byte g (e, h) (inl (past, is)) = inl (limit-past l bytes byte n f e h past, is)
 from-byte l f n bytes byte g (e, h) (inr (never, more)) = inr (by (is_past l f (frame_next (rules_of l) f byte) n) refl, more)
   where
     by : (t : Bool) → is_past l f (frame_next (rules_of l) f byte) n ≡ t → t ≡ false
-    by true k = absurd (never (past-is l bytes byte n f e h k))
+    by true k = absurd (never (past-limit l bytes byte n f e h k))
     by false k = refl
 
 reading-byte : (l : Limits) (bytes : List ℕ) (byte : ℕ) (s : Reading) (g : FrameFault) → HasRead (rules_of l) first_frame nothing_built bytes s → HasExtent (rules_of l) first_frame 0 bytes s → IsFaultIn l s bytes byte g → (is_stopped s ≡ false) × IsByteFault l bytes byte g

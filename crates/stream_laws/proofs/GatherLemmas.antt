@@ -3,8 +3,9 @@ use Rattle.std.proofs.Common.{◌≡◌, ℕ, List, [], ◌∷◌, ◌++◌, map
 use Rattle.stream_lex.specs.declared.Token.{Token}
 use Rattle.stream_lex.specs.declared.Token.TheVariants as token
 use Rattle.stream_grammar.specs.declared.namespaces.Written.{Written}
-use Rattle.stream_grammar.specs.Trees.{RawAttribute, RawTag, attribute_tokens, attributes_tokens, tag_tokens}
-use Rattle.stream_grammar.specs.Gathering.{Gathered, gather, gather_all, written, whole_tag}
+use Rattle.stream_grammar.specs.grammar.Trees.{RawAttribute, RawTag, attribute_tokens, attributes_tokens, tag_tokens}
+use Rattle.stream_grammar.specs.grammar.Tags.{Gathered, written, whole_tag}
+use Rattle.stream_grammar.specs.machine.Gathering.{gather, gather_all}
 
 pub more-gathered : (g : Gathered) (ts us : List Token) → gather_all g (ts ++ us) ≡ gather_all (gather_all g ts) us
 more-gathered g [] us = refl

@@ -1,5 +1,6 @@
 -- What is written is handed out.
-use Rattle.std.proofs.Common.{◌≡◌, ℕ, ◌<◌, ◌≤◌, ◌⊎◌, inl, inr, List, [], ◌∷◌, ◌++◌, length, map, take, refl, sym, ap, ◌∙◌, subst, append_assoc, append-nil, true, false, arith}
+use Rattle.std.proofs.Common.{◌≡◌, ℕ, ◌<◌, ◌≤◌, ◌⊎◌, inl, inr, List, [], ◌∷◌, ◌++◌, length, map, take, refl, sym}
+use Rattle.std.proofs.Common.{ap, ◌∙◌, subst, append_assoc, append-nil, true, false, arith}
 use Rattle.std.proofs.lemmas.Bool.{ltb-true}
 use Rattle.std.proofs.lemmas.List.{length-append, take_all}
 use Rattle.std.specs.List.{AllByRecursion}
@@ -11,16 +12,18 @@ use Rattle.stream_grammar.specs.declared.FrameFault.{FrameFault}
 use Rattle.stream_grammar.specs.declared.item.Item.{Item}
 use Rattle.stream_grammar.specs.declared.item.Item.TheVariants as item
 use Rattle.stream_grammar.specs.declared.item.Limits.{Limits}
-use Rattle.stream_grammar.specs.Elements.{default_of, IsNamed}
-use Rattle.stream_grammar.specs.Extents.{IsPastLimit}
-use Rattle.stream_grammar.specs.Items.{HasCome}
-use Rattle.stream_grammar.specs.Parts.{IsItem, IsLargeEnd, IsByteFault, AreFaultless}
-use Rattle.stream_grammar.specs.Reading.{Reading, reads, stopped, first_reading, handed, is_large_item, is_stopped, rules_of, taken, told_number, waiting, went}
-use Rattle.stream_grammar.specs.RoundTrips.{texts_of}
-use Rattle.stream_grammar.specs.Trees.{RawTag, Content}
+use Rattle.stream_grammar.specs.grammar.Elements.{default_of, IsNamed}
+use Rattle.stream_grammar.specs.grammar.Extents.{IsPastLimit}
+use Rattle.stream_grammar.specs.grammar.Items.{HasCome}
+use Rattle.stream_grammar.specs.grammar.Parts.{IsItem, IsLargeEnd, IsByteFault, AreFaultless}
+use Rattle.stream_grammar.specs.machine.Reading.{Reading, reads, stopped, first_reading, handed, is_stopped, taken, waiting, went}
+use Rattle.stream_grammar.specs.grammar.Bounds.{is_large_item, rules_of, told_number}
+use Rattle.stream_grammar.specs.grammar.RoundTrips.{texts_of}
+use Rattle.stream_grammar.specs.grammar.Trees.{RawTag, Content}
 use Rattle.stream_laws.specs.ItemLists.{AreItems, items_from}
 use Rattle.stream_laws.specs.Takes.{IsStop, HasNoStop, IsTaken}
 use Rattle.stream_laws.specs.Written.{IsWithin}
+use Rattle.stream_laws.proofs.OpenGrammar.{past-frames}
 use Rattle.stream_laws.proofs.CallLemmas.{reached}
 use Rattle.stream_laws.proofs.Faultless.{faultless_goes, cons-after}
 use Rattle.stream_laws.proofs.HandedOut.{item_given}
@@ -70,7 +73,7 @@ text-faultless : (l : Limits) (bytes : List ℕ) (e : Element) (a : IsAdding (ru
 text-faultless l bytes e a clean short small = λ us vs b g p is. by us vs b g p is (cut-less bytes (text e) us vs b p)
   where
     inner : (xs zs us : List ℕ) (b : ℕ) (g : FrameFault) → us ≡ bytes ++ xs → text e ≡ xs ++ (b ∷ zs) → bytes ++ text e ≡ us ++ (b ∷ zs) → IsByteFault l us b g → ⊥
-    inner xs zs us b g q h p (inl (past, is)) = no-past l bytes e a xs zs b h short (subst (λ (x : List ℕ). IsPastLimit l x b) q past)
+    inner xs zs us b g q h p (inl (past, is)) = no-past l bytes e a xs zs b h short (past-frames l (bytes ++ xs) b (subst (λ (x : List ℕ). IsPastLimit l x b) q past))
     inner xs zs us b g q h p (inr (past, inl (never, kind))) = never (a.whole (us ++ b ∷ []) zs (p ∙ sym (cons-after us zs b)))
     inner xs zs us b g q h p (inr (past, inr (begins, inl name))) = no-name (rules_of l) bytes e a us zs b g p name
     inner xs zs us b g q h p (inr (past, inr (begins, inr (large, is)))) = no-large l bytes e a xs zs b small h (subst (λ (x : List ℕ). IsLargeEnd l (x ++ b ∷ [])) q large)

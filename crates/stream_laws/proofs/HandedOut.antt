@@ -3,8 +3,8 @@ use Rattle.std.proofs.Common.{◌≡◌, ℕ, ◌+◌, List, [], ◌∷◌, ◌+
 use Rattle.std.specs.Prelude.{Option, Some, None, if◌then◌else◌}
 use Rattle.stream_lex.specs.declared.Token.{Token}
 use Rattle.stream_lex.specs.declared.Token.TheVariants as token
-use Rattle.stream_lex.specs.Turns.{Outcome}
-use Rattle.stream_lex.specs.Reading.{Reads}
+use Rattle.stream_lex.specs.machine.Turns.{Outcome}
+use Rattle.stream_lex.specs.grammar.Reading.{Reads}
 use Rattle.stanza_tree.specs.declared.node.Element.{Element}
 use Rattle.stream_grammar.specs.declared.FrameFault.{FrameFault}
 use Rattle.stream_grammar.specs.declared.namespaces.Binding.{Binding}
@@ -12,16 +12,20 @@ use Rattle.stream_grammar.specs.declared.item.Item.{Item}
 use Rattle.stream_grammar.specs.declared.item.Item.TheVariants as item
 use Rattle.stream_grammar.specs.declared.item.Limits.{Limits}
 use Rattle.stream_grammar.specs.declared.rules.Rules.{Rules}
-use Rattle.stream_grammar.specs.Trees.{RawTag, Content, nothing, Stream, tag_tokens, content_tokens, end_tokens, declaration_tokens, stream_tokens}
-use Rattle.stream_grammar.specs.Streams.{IsShortest, IsStream}
-use Rattle.stream_grammar.specs.Nesting.{start}
-use Rattle.stream_grammar.specs.Framing.{Frame, frame_next, frame_after, first_frame, is_broken}
-use Rattle.stream_grammar.specs.Items.{head_tokens, ends_so, HasCome, told_at, tokens_told}
-use Rattle.stream_grammar.specs.Gathering.{nothing_gathered, whole_tag}
-use Rattle.stream_grammar.specs.Elements.{inside_of, outside_all, header_of, default_of, tops_of, IsNamed}
-use Rattle.stream_grammar.specs.Building.{Opened, Building, nothing_built, ended_in, closed_in, build, build_all}
-use Rattle.stream_grammar.specs.Parts.{IsItem}
-use Rattle.stream_grammar.specs.Reading.{Reading, reads, stopped, first_reading, reading_next, concluded, byte_judged, waiting, handed, is_stopped, went, rules_of, extent_after, told_number}
+use Rattle.stream_grammar.specs.grammar.Trees.{RawTag, Content, nothing, Stream, tag_tokens, content_tokens, end_tokens, declaration_tokens, stream_tokens}
+use Rattle.stream_grammar.specs.grammar.Streams.{IsShortest, IsStream}
+use Rattle.stream_grammar.specs.machine.Nesting.{start}
+use Rattle.stream_grammar.specs.machine.Framing.{Frame, frame_next, frame_after, first_frame, is_broken}
+use Rattle.stream_grammar.specs.grammar.Items.{head_tokens, ends_so, HasCome}
+use Rattle.stream_grammar.specs.machine.Ends.{told_at, tokens_told}
+use Rattle.stream_grammar.specs.machine.Gathering.{nothing_gathered}
+use Rattle.stream_grammar.specs.grammar.Tags.{whole_tag}
+use Rattle.stream_grammar.specs.grammar.Elements.{inside_of, outside_all, header_of, default_of, tops_of, IsNamed}
+use Rattle.stream_grammar.specs.machine.Building.{Opened, Building, nothing_built, ended_in, closed_in, build, build_all}
+use Rattle.stream_grammar.specs.grammar.Parts.{IsItem}
+use Rattle.stream_grammar.specs.machine.Reading.{Reading, reads, stopped, first_reading, reading_next, concluded}
+use Rattle.stream_grammar.specs.machine.Reading.{byte_judged, waiting, handed, is_stopped, went, extent_after}
+use Rattle.stream_grammar.specs.grammar.Bounds.{rules_of, told_number}
 use Rattle.stream_laws.proofs.Ending.{ends_element, last_in, last-nothing, head-last, last-ends, regroup-stream}
 use Rattle.stream_laws.proofs.Coming.{told_all}
 use Rattle.stream_laws.proofs.Made.{made, last_item, head-made, end-made}

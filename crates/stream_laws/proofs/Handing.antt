@@ -6,16 +6,17 @@ use Rattle.stream_lex.specs.declared.Token.{Token}
 use Rattle.stream_lex.specs.declared.Token.TheVariants as token
 use Rattle.stream_lex.specs.declared.stages.State.{State}
 use Rattle.stanza_tree.specs.declared.node.Element.{Element}
-use Rattle.stream_grammar.specs.Gathering.{nothing_gathered}
+use Rattle.stream_grammar.specs.machine.Gathering.{nothing_gathered}
 use Rattle.stream_grammar.specs.declared.FrameFault.{FrameFault}
 use Rattle.stream_grammar.specs.declared.item.Limits.{Limits}
 use Rattle.stream_grammar.specs.declared.rules.Rules.{Rules}
-use Rattle.stream_grammar.specs.Trees.{RawName}
-use Rattle.stream_grammar.specs.Nesting.{Nest, start, declared, inside, naming, in_tag, naming_attribute, in_value, closing, lost, nest}
-use Rattle.stream_grammar.specs.Framing.{Frame, open_at, broken, placed, goes_with, frame_next, frame_after, is_broken, has_ended}
-use Rattle.stream_grammar.specs.Items.{is_between_tops, told_at}
-use Rattle.stream_grammar.specs.Building.{Opened, Building, ended_in, closed_in, worded_in, build, build_all}
-use Rattle.stream_grammar.specs.Reading.{Reading, reads, stopped, reading_next, concluded, byte_judged, went, handed, rules_of, extent_after, told_number}
+use Rattle.stream_grammar.specs.grammar.Trees.{RawName}
+use Rattle.stream_grammar.specs.machine.Nesting.{Nest, start, declared, inside, naming, in_tag, naming_attribute, in_value, closing, lost, nest}
+use Rattle.stream_grammar.specs.machine.Framing.{Frame, open_at, broken, placed, goes_with, frame_next, frame_after, is_broken, has_ended}
+use Rattle.stream_grammar.specs.machine.Ends.{is_between_tops, told_at}
+use Rattle.stream_grammar.specs.machine.Building.{Opened, Building, ended_in, closed_in, worded_in, build, build_all}
+use Rattle.stream_grammar.specs.machine.Reading.{Reading, reads, stopped, reading_next, concluded, byte_judged, went, handed, extent_after}
+use Rattle.stream_grammar.specs.grammar.Bounds.{rules_of, told_number}
 use Rattle.stream_laws.proofs.Coming.{told_all}
 use Rattle.stream_laws.proofs.Levels.{IsLevel, Levels}
 

@@ -6,8 +6,9 @@ use Rattle.stream_grammar.specs.declared.FrameFault.{FrameFault}
 use Rattle.stream_grammar.specs.declared.item.Item.{Item}
 use Rattle.stream_grammar.specs.declared.item.Item.TheVariants as item
 use Rattle.stream_grammar.specs.declared.item.Limits.{Limits}
-use Rattle.stream_grammar.specs.Parts.{AreFaultless, IsFirstFault, IsFault}
-use Rattle.stream_grammar.specs.Reading.{Reading, reads, stopped, first_reading, is_stopped, waiting, went, rules_of, told_number}
+use Rattle.stream_grammar.specs.grammar.Parts.{AreFaultless, IsFirstFault, IsFault}
+use Rattle.stream_grammar.specs.machine.Reading.{Reading, reads, stopped, first_reading, is_stopped, waiting, went}
+use Rattle.stream_grammar.specs.grammar.Bounds.{rules_of, told_number}
 use Rattle.stream_laws.specs.ItemLists.{AreEnding, AreItems, brought, items_from}
 use Rattle.stream_laws.proofs.Handing.{went-more}
 use Rattle.stream_laws.proofs.Judged.{none-some}

@@ -3,7 +3,7 @@ use Rattle.std.proofs.Common.{◌≡◌, ℕ, ◌+◌, List, [], ◌∷◌, ◌+
 use Rattle.std.specs.Prelude.{Option, Some, None}
 use Rattle.stream_lex.specs.declared.Token.{Token}
 use Rattle.stream_lex.specs.declared.Token.TheVariants as token
-use Rattle.stream_lex.specs.Turns.{Outcome, leads, fails, turn}
+use Rattle.stream_lex.specs.machine.Turns.{Outcome, leads, fails, turn}
 use Rattle.stream_grammar.specs.declared.FrameFault.{FrameFault}
 use Rattle.stream_grammar.specs.declared.namespaces.Binding.{Binding}
 use Rattle.stream_grammar.specs.declared.namespaces.NameFault.{NameFault}
@@ -12,16 +12,19 @@ use Rattle.stream_grammar.specs.declared.item.Item.{Item}
 use Rattle.stream_grammar.specs.declared.item.Item.TheVariants as item
 use Rattle.stream_grammar.specs.declared.item.Limits.{Limits}
 use Rattle.stream_grammar.specs.declared.rules.Rules.{Rules}
-use Rattle.stream_grammar.specs.Trees.{RawTag, Content, nothing, word, element, hollow, tag_tokens, end_tokens, content_tokens, declaration_tokens}
-use Rattle.stream_grammar.specs.Framing.{Frame, open_at, ended, broken, frame_next, first_frame}
-use Rattle.stream_grammar.specs.Items.{head_tokens, told_at, tokens_told}
-use Rattle.stream_grammar.specs.Telling.{are_words, is_few}
-use Rattle.stream_grammar.specs.Namespaces.{own}
-use Rattle.stream_grammar.specs.Resolving.{name_on, attrs_on}
-use Rattle.stream_grammar.specs.Gathering.{Gathered, nothing_gathered, whole_tag}
-use Rattle.stream_grammar.specs.Elements.{inside_of, outside_all, header_of, default_of, fault_of_tag, AreNamed, IsNamed}
-use Rattle.stream_grammar.specs.Building.{Opened, Building, nothing_built, settled_words, build, build_all, named_fault, tag_judged, told_judged}
-use Rattle.stream_grammar.specs.Reading.{Reading, reads, stopped, first_reading, concluded, byte_judged, or_else, is_stopped, went, rules_of, extent_after, told_number}
+use Rattle.stream_grammar.specs.grammar.Trees.{RawTag, Content, nothing, word, element, hollow, tag_tokens, end_tokens, content_tokens, declaration_tokens}
+use Rattle.stream_grammar.specs.machine.Framing.{Frame, open_at, ended, broken, frame_next, first_frame}
+use Rattle.stream_grammar.specs.grammar.Items.{head_tokens}
+use Rattle.stream_grammar.specs.machine.Ends.{told_at, tokens_told}
+use Rattle.stream_grammar.specs.machine.Telling.{are_words, is_few}
+use Rattle.stream_grammar.specs.grammar.Namespaces.{own}
+use Rattle.stream_grammar.specs.grammar.Resolving.{name_on, attrs_on}
+use Rattle.stream_grammar.specs.grammar.Tags.{Gathered, whole_tag}
+use Rattle.stream_grammar.specs.machine.Gathering.{nothing_gathered}
+use Rattle.stream_grammar.specs.grammar.Elements.{inside_of, outside_all, header_of, default_of, fault_of_tag, AreNamed, IsNamed}
+use Rattle.stream_grammar.specs.machine.Building.{Opened, Building, nothing_built, settled_words, build, build_all, named_fault, tag_judged, told_judged}
+use Rattle.stream_grammar.specs.machine.Reading.{Reading, reads, stopped, first_reading, concluded, byte_judged, or_else, is_stopped, went, extent_after}
+use Rattle.stream_grammar.specs.grammar.Bounds.{rules_of, told_number}
 use Rattle.stream_grammar.proofs.Few.{turn-few}
 use Rattle.stream_laws.proofs.Coming.{told_all}
 use Rattle.stream_laws.proofs.Made.{made, tag-body, body-then, body-made, tag-made, not-empty, start-if, regroup, content-made, tops-made, declared-made}

@@ -3,21 +3,21 @@ use Rattle.std.proofs.Common.{◌≡◌, ℕ, ◌⊎◌, inl, inr, List, [], ◌
 use Rattle.stream_lex.specs.declared.Token.{Token}
 use Rattle.stream_lex.specs.declared.Token.TheVariants as token
 use Rattle.stream_lex.specs.declared.stages.State.{State}
-use Rattle.stream_lex.specs.Expressions.{all_said}
-use Rattle.stream_lex.specs.Turns.{Outcome, leads, fails, turn}
-use Rattle.stream_lex.specs.Live.{is_live}
-use Rattle.stream_lex.specs.Leading.{Left}
-use Rattle.stream_lex.specs.Reading.{Reads}
+use Rattle.stream_lex.specs.grammar.Expressions.{all_said}
+use Rattle.stream_lex.specs.machine.Turns.{Outcome, leads, fails, turn}
+use Rattle.stream_lex.specs.machine.Live.{is_live}
+use Rattle.stream_lex.specs.machine.Leading.{Left}
+use Rattle.stream_lex.specs.grammar.Reading.{Reads}
 use Rattle.stream_lex.proofs.Lists.{cons_not_nil, said-same}
 use Rattle.stream_lex.proofs.Living.{LeadsLive}
 use Rattle.stream_lex.proofs.Ended.{left-done}
-use Rattle.stream_grammar.specs.Trees.{is_space}
+use Rattle.stream_grammar.specs.grammar.Trees.{is_space}
 use Rattle.stream_grammar.specs.declared.rules.Rules.{Rules}
-use Rattle.stream_grammar.specs.Streams.{AreSpaces, IsShortest}
-use Rattle.stream_grammar.specs.Nesting.{Nest, start, inside, lost, nest_all}
-use Rattle.stream_grammar.specs.Framing.{goes_with, Frame, open_at, ended, broken, placed, settled, frame_next, frame_after, first_frame, is_broken}
-use Rattle.stream_grammar.specs.Telling.{are_words, is_few}
-use Rattle.stream_grammar.specs.Items.{tokens_told}
+use Rattle.stream_grammar.specs.grammar.Streams.{AreSpaces, IsShortest}
+use Rattle.stream_grammar.specs.machine.Nesting.{Nest, start, inside, lost, nest_all}
+use Rattle.stream_grammar.specs.machine.Framing.{goes_with, Frame, open_at, ended, broken, placed, settled, frame_next, frame_after, first_frame, is_broken}
+use Rattle.stream_grammar.specs.machine.Telling.{are_words, is_few}
+use Rattle.stream_grammar.specs.machine.Ends.{tokens_told}
 use Rattle.stream_grammar.proofs.Nested.{token_head, token_tail, no_token}
 use Rattle.stream_grammar.proofs.Twins.{words}
 use Rattle.stream_grammar.proofs.Few.{turn-few}

@@ -8,10 +8,11 @@ use Rattle.stream_lex.specs.declared.Token.TheVariants as token
 use Rattle.stream_grammar.specs.declared.namespaces.Binding.{Binding}
 use Rattle.stream_grammar.specs.declared.rules.Rules.{Rules}
 use Rattle.stream_grammar.specs.declared.item.Item.{Item}
-use Rattle.stream_grammar.specs.Trees.{RawName}
-use Rattle.stream_grammar.specs.Nesting.{Nest, start, declared, inside, naming, in_tag, naming_attribute, in_value, closing, lost, may_stand, before_root, in_content, after_name, nest, nest_all}
-use Rattle.stream_grammar.specs.Gathering.{Gathered}
-use Rattle.stream_grammar.specs.Building.{Opened, Building, but_last, settled_words, worded_in, build, build_all, nothing_built}
+use Rattle.stream_grammar.specs.grammar.Trees.{RawName}
+use Rattle.stream_grammar.specs.machine.Nesting.{Nest, start, declared, inside, naming, in_tag, naming_attribute, in_value, closing, lost}
+use Rattle.stream_grammar.specs.machine.Nesting.{may_stand, before_root, in_content, after_name, nest, nest_all}
+use Rattle.stream_grammar.specs.grammar.Tags.{Gathered}
+use Rattle.stream_grammar.specs.machine.Building.{Opened, Building, but_last, settled_words, worded_in, build, build_all, nothing_built}
 use Rattle.stream_laws.proofs.Made.{made}
 
 -- how many bindings, and how many open elements below the stream's

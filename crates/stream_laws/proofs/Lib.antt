@@ -48,7 +48,14 @@ pub mod TakenLemmas
 pub mod CallLemmas
 pub mod OpenRuns
 pub mod OpenFrames
+pub mod AfterLessSign
+pub mod AtLessSign
+pub mod OpenTags
+pub mod BetweenTops
+pub mod OpenGrammar
 pub mod WrittenLemmas
 pub mod HandedLemmas
 pub mod PiecesLemmas
 pub mod NextCallLemmas
+pub mod JoinedCalls
+pub mod OneItem

@@ -1,5 +1,6 @@
 -- What is built of the tokens of a head and its content: the header, and the top elements.
-use Rattle.std.proofs.Common.{◌≡◌, ℕ, List, [], ◌∷◌, ◌++◌, map, length, refl, sym, ap, ◌∙◌, append_assoc, append-nil, Bool, true, false, ◌&&◌, ◌==◌, encode_utf8, arith}
+use Rattle.std.proofs.Common.{◌≡◌, ℕ, List, [], ◌∷◌, ◌++◌, map, length, refl, sym, ap, ◌∙◌, append_assoc}
+use Rattle.std.proofs.Common.{append-nil, Bool, true, false, ◌&&◌, ◌==◌, encode_utf8, arith}
 use Rattle.std.proofs.lemmas.Bool.{eqb-true, false_from_ne_true}
 use Rattle.std.specs.Prelude.{Option, Some, if◌then◌else◌}
 use Rattle.stream_lex.specs.declared.Token.{Token}
@@ -11,13 +12,15 @@ use Rattle.stanza_tree.specs.declared.node.Node.TheViews.{roll-Node}
 use Rattle.stream_grammar.specs.declared.namespaces.Binding.{Binding}
 use Rattle.stream_grammar.specs.declared.item.Item.{Item}
 use Rattle.stream_grammar.specs.declared.item.Item.TheVariants as item
-use Rattle.stream_grammar.specs.Trees.{RawName, RawAttribute, RawTag, Content, nothing, word, element, hollow, attribute_tokens, attributes_tokens, tag_tokens, end_tokens, content_tokens, declaration_tokens}
-use Rattle.stream_grammar.specs.Items.{head_tokens}
-use Rattle.stream_grammar.specs.Namespaces.{own}
-use Rattle.stream_grammar.specs.Resolving.{name_on, attrs_on}
-use Rattle.stream_grammar.specs.Gathering.{Gathered, nothing_gathered, gather, gather_all, whole_tag}
-use Rattle.stream_grammar.specs.Elements.{inside_of, element_with, with_words, nodes_on, elements_on, outside_all, header_of, default_of}
-use Rattle.stream_grammar.specs.Building.{Opened, Building, nothing_built, with_child, with_last, last_closed, settled_words, build, build_all}
+use Rattle.stream_grammar.specs.grammar.Trees.{RawName, RawAttribute, RawTag, Content, nothing, word, element, hollow, attribute_tokens}
+use Rattle.stream_grammar.specs.grammar.Trees.{attributes_tokens, tag_tokens, end_tokens, content_tokens, declaration_tokens}
+use Rattle.stream_grammar.specs.grammar.Items.{head_tokens}
+use Rattle.stream_grammar.specs.grammar.Namespaces.{own}
+use Rattle.stream_grammar.specs.grammar.Resolving.{name_on, attrs_on}
+use Rattle.stream_grammar.specs.grammar.Tags.{Gathered, whole_tag}
+use Rattle.stream_grammar.specs.machine.Gathering.{nothing_gathered, gather, gather_all}
+use Rattle.stream_grammar.specs.grammar.Elements.{inside_of, element_with, with_words, nodes_on, elements_on, outside_all, header_of, default_of}
+use Rattle.stream_grammar.specs.machine.Building.{Opened, Building, nothing_built, with_child, with_last, last_closed, settled_words, build, build_all}
 use Rattle.stream_laws.proofs.GatherLemmas.{more-gathered, tag-gathered}
 use Rattle.stream_grammar.proofs.LastLemmas.{but_last_layer, words_then}
 

@@ -4,22 +4,22 @@ use Rattle.std.specs.Prelude.{Option, Some, None}
 use Rattle.stream_lex.specs.declared.Token.{Token}
 use Rattle.stream_lex.specs.declared.Token.TheVariants as token
 use Rattle.stream_lex.specs.declared.stages.State.{State}
-use Rattle.stream_lex.specs.Turns.{Outcome, leads, fails, turn}
-use Rattle.stream_lex.specs.Reading.{Reads}
+use Rattle.stream_lex.specs.machine.Turns.{Outcome, leads, fails, turn}
+use Rattle.stream_lex.specs.grammar.Reading.{Reads}
 use Rattle.stream_grammar.specs.declared.FrameFault.{FrameFault}
 use Rattle.stream_grammar.specs.declared.namespaces.Binding.{Binding}
 use Rattle.stream_grammar.specs.declared.namespaces.NameFault.{NameFault}
 use Rattle.stream_grammar.specs.declared.namespaces.NameFault.TheVariants as name
 use Rattle.stream_grammar.specs.declared.rules.Rules.{Rules}
-use Rattle.stream_grammar.specs.Trees.{RawTag, Content, content_tokens, declaration_tokens}
-use Rattle.stream_grammar.specs.Streams.{IsShortest}
-use Rattle.stream_grammar.specs.Nesting.{Nest, start, nest, nest_all}
-use Rattle.stream_grammar.specs.Framing.{Frame, open_at, ended, broken, placed, settled, frame_next, frame_after, first_frame, is_broken}
-use Rattle.stream_grammar.specs.Items.{told_at, tokens_told}
-use Rattle.stream_grammar.specs.Gathering.{whole_tag}
-use Rattle.stream_grammar.specs.Elements.{fault_of_tag}
-use Rattle.stream_grammar.specs.Building.{Building, nothing_built, build_all, is_all_text, named_fault, tag_judged, told_judged}
-use Rattle.stream_grammar.specs.Paths.{Step, path_tokens, scope_of, IsRooted, tokens_to, EndsTag, name_kind, IsNameFault}
+use Rattle.stream_grammar.specs.grammar.Trees.{RawTag, Content, content_tokens, declaration_tokens}
+use Rattle.stream_grammar.specs.grammar.Streams.{IsShortest}
+use Rattle.stream_grammar.specs.machine.Nesting.{Nest, start, nest, nest_all}
+use Rattle.stream_grammar.specs.machine.Framing.{Frame, open_at, ended, broken, placed, settled, frame_next, frame_after, first_frame, is_broken}
+use Rattle.stream_grammar.specs.machine.Ends.{told_at, tokens_told}
+use Rattle.stream_grammar.specs.grammar.Tags.{whole_tag}
+use Rattle.stream_grammar.specs.grammar.Elements.{fault_of_tag}
+use Rattle.stream_grammar.specs.machine.Building.{Building, nothing_built, build_all, is_all_text, named_fault, tag_judged, told_judged}
+use Rattle.stream_grammar.specs.grammar.Paths.{Step, path_tokens, scope_of, IsRooted, tokens_to, EndsTag, name_kind, IsNameFault}
 use Rattle.stream_grammar.proofs.Nested.{token_head, token_tail, no_token}
 use Rattle.stream_grammar.proofs.Whole.{first-sound}
 use Rattle.stream_laws.proofs.Coming.{told_all, came, last-reads, tag-words}

@@ -6,15 +6,18 @@ use Rattle.stream_lex.specs.declared.Token.TheVariants as token
 use Rattle.stream_grammar.specs.declared.namespaces.Binding.{Binding}
 use Rattle.stream_grammar.specs.declared.item.Item.{Item}
 use Rattle.stream_grammar.specs.declared.item.Item.TheVariants as item
-use Rattle.stream_grammar.specs.Trees.{RawName, RawTag, Content, nothing, word, element, hollow, Stream, tag_tokens, end_tokens, content_tokens, declaration_tokens, stream_tokens}
-use Rattle.stream_grammar.specs.Items.{head_tokens}
-use Rattle.stream_grammar.specs.Namespaces.{own}
-use Rattle.stream_grammar.specs.Resolving.{name_on, attrs_on}
-use Rattle.stream_grammar.specs.Gathering.{Gathered, nothing_gathered, whole_tag}
-use Rattle.stream_grammar.specs.Elements.{inside_of, outside_all, header_of, default_of, fault_of_tag, AreNamed, IsNamed}
-use Rattle.stream_grammar.specs.Building.{Opened, Building, nothing_built, settled_words, build, build_all}
+use Rattle.stream_grammar.specs.grammar.Trees.{RawName, RawTag, Content, nothing, word, element, hollow, Stream, tag_tokens}
+use Rattle.stream_grammar.specs.grammar.Trees.{end_tokens, content_tokens, declaration_tokens, stream_tokens}
+use Rattle.stream_grammar.specs.grammar.Items.{head_tokens}
+use Rattle.stream_grammar.specs.grammar.Namespaces.{own}
+use Rattle.stream_grammar.specs.grammar.Resolving.{name_on, attrs_on}
+use Rattle.stream_grammar.specs.grammar.Tags.{Gathered, whole_tag}
+use Rattle.stream_grammar.specs.machine.Gathering.{nothing_gathered}
+use Rattle.stream_grammar.specs.grammar.Elements.{inside_of, outside_all, header_of, default_of, fault_of_tag, AreNamed, IsNamed}
+use Rattle.stream_grammar.specs.machine.Building.{Opened, Building, nothing_built, settled_words, build, build_all}
 use Rattle.stream_laws.proofs.Ending.{regroup-stream}
-use Rattle.stream_laws.proofs.Made.{made, gathering, all-gathering, gathering-name, gathering-body, both, tag-body, body-then, body-made, tag-made, not-empty, start-if, regroup, declared-made}
+use Rattle.stream_laws.proofs.Made.{made, gathering, all-gathering, gathering-name, gathering-body, both, tag-body, body-then}
+use Rattle.stream_laws.proofs.Made.{body-made, tag-made, not-empty, start-if, regroup, declared-made}
 use Rattle.stream_laws.proofs.Judged.{named_at, AreJudged, judged-more, IsOn, leaves-on}
 
 gathering-none : (b : Building) (t : Token) → gathering t ≡ true → named_at b t ≡ None

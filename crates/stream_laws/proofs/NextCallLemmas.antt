@@ -7,11 +7,11 @@ use Rattle.stanza_tree.specs.Spelling.{text}
 use Rattle.stream_grammar.specs.declared.item.Item.{Item}
 use Rattle.stream_grammar.specs.declared.item.Item.TheVariants as item
 use Rattle.stream_grammar.specs.declared.item.Limits.{Limits}
-use Rattle.stream_grammar.specs.Parts.{AreFaultless}
-use Rattle.stream_grammar.specs.Reading.{Reading, first_reading, handed, is_ready, reading_after, taken, waiting, went}
-use Rattle.stream_grammar.specs.Trees.{RawTag, Content}
+use Rattle.stream_grammar.specs.grammar.Parts.{AreFaultless}
+use Rattle.stream_grammar.specs.machine.Reading.{Reading, first_reading, handed, is_ready, reading_after, taken, waiting, went}
+use Rattle.stream_grammar.specs.grammar.Trees.{RawTag, Content}
 use Rattle.stream_grammar.proofs.FeedLemmas.{piece_went}
-use Rattle.stream_laws.specs.CallLists.{Call, feeds, hands, Fed, bytes_taken}
+use Rattle.stream_grammar.specs.machine.Calls.{Call, feeds, hands, Called, bytes_taken}
 use Rattle.stream_laws.specs.Takes.{IsTaken}
 use Rattle.stream_laws.specs.Written.{IsWithin}
 use Rattle.stream_laws.proofs.CallLemmas.{stands_there}
@@ -20,16 +20,16 @@ use Rattle.stream_laws.proofs.HandedLemmas.{HasBegun, text-some, handed-goes, wr
 use Rattle.stream_laws.proofs.TakenLemmas.{handed-ready, piece_taken}
 
 -- a framer that is ready stands where the bytes lead
-ready-stands : (l : Limits) (calls : List Call) (items : List Item) (t : Reading) → Fed l first_reading calls items t → is_ready t ≡ true → t ≡ handed (went l first_reading (bytes_taken calls))
+ready-stands : (l : Limits) (calls : List Call) (items : List Item) (t : Reading) → Called l first_reading calls items t → is_ready t ≡ true → t ≡ handed (went l first_reading (bytes_taken calls))
 ready-stands l calls items t fed ready = sym (handed-ready t ready) ∙ stands_there l calls items t fed
 
-pub next_taken : (l : Limits) (calls : List Call) (items later : List Item) (t u : Reading) (piece : List ℕ) (n : ℕ) → Fed l first_reading calls items t → AreFaultless l (bytes_taken calls) → Fed l t (feeds piece n ∷ []) later u
+pub next_taken : (l : Limits) (calls : List Call) (items later : List Item) (t u : Reading) (piece : List ℕ) (n : ℕ) → Called l first_reading calls items t → AreFaultless l (bytes_taken calls) → Called l t (feeds piece n ∷ []) later u
     → IsTaken l (bytes_taken calls) piece n
 next_taken l calls items later t u piece n fed clean (ready, count, more) =
     subst (IsTaken l (bytes_taken calls) piece) (sym (count ∙ ap (λ (s : Reading). taken l s piece) (ready-stands l calls items t fed ready))) (piece_taken l (bytes_taken calls) piece clean)
 
 pub next_text : (l : Limits) (calls : List Call) (items later : List Item) (t u : Reading) (root : RawTag) (f : Content) (e : Element) (more : List ℕ) (n : ℕ) (next : Option Item)
-    → Fed l first_reading calls items t → HasBegun l (bytes_taken calls) root f → IsWithin l e → Fed l t (feeds (text e ++ more) n ∷ hands next ∷ []) later u → (n ≡ length (text e)) × (next ≡ Some (item.Top e))
+    → Called l first_reading calls items t → HasBegun l (bytes_taken calls) root f → IsWithin l e → Called l t (feeds (text e ++ more) n ∷ hands next ∷ []) later u → (n ≡ length (text e)) × (next ≡ Some (item.Top e))
 next_text l calls items later t u root f e more n next fed begun within (ready, count, (is, rest)) =
     let bytes : List ℕ = bytes_taken calls in
     let s : Reading = handed (went l first_reading bytes) in

@@ -7,8 +7,9 @@ use Rattle.stream_grammar.specs.declared.FrameFault.{FrameFault}
 use Rattle.stream_grammar.specs.declared.item.Limits.{Limits}
 use Rattle.stream_grammar.specs.declared.item.Item.{Item}
 use Rattle.stream_grammar.specs.declared.item.Item.TheVariants as item
-use Rattle.stream_grammar.specs.Reading.{Reading, reads, stopped, first_reading, is_stopped, went, waiting, told_number, rules_of}
-use Rattle.stream_grammar.specs.Parts.{IsItem, AreFaultless, IsFirstFault, IsFault}
+use Rattle.stream_grammar.specs.machine.Reading.{Reading, reads, stopped, first_reading, is_stopped, went, waiting}
+use Rattle.stream_grammar.specs.grammar.Bounds.{told_number, rules_of}
+use Rattle.stream_grammar.specs.grammar.Parts.{IsItem, AreFaultless, IsFirstFault, IsFault}
 use Rattle.stream_laws.proofs.Handing.{stopped-went, went-more}
 use Rattle.stream_laws.proofs.Faulting.{some-same}
 use Rattle.stream_laws.proofs.Waiting.{item_waits}

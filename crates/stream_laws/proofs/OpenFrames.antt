@@ -4,14 +4,15 @@ use Rattle.std.specs.Prelude.{codes}
 use Rattle.stream_lex.specs.declared.LexFault.{LexFault}
 use Rattle.stream_lex.specs.declared.Token.{Token}
 use Rattle.stream_lex.specs.declared.stages.State.{State}
-use Rattle.stream_lex.specs.Turns.{Outcome, leads, fails, turn}
+use Rattle.stream_lex.specs.machine.Turns.{Outcome, leads, fails, turn}
 use Rattle.stream_lex.proofs.Lists.{false-true}
 use Rattle.stream_grammar.specs.declared.rules.Rules.{Rules}
-use Rattle.stream_grammar.specs.Trees.{RawName, RawTag, Content, is_space}
-use Rattle.stream_grammar.specs.Nesting.{Nest, start, inside, lost, nest_all}
-use Rattle.stream_grammar.specs.Framing.{Frame, open_at, ended, broken, placed, settled, frame_next, frame_after, first_frame, is_broken, has_ended}
-use Rattle.stream_grammar.specs.Items.{head_tokens, HasCome, tokens_told}
-use Rattle.stream_grammar.specs.Streams.{Spells}
+use Rattle.stream_grammar.specs.grammar.Trees.{RawName, RawTag, Content, is_space}
+use Rattle.stream_grammar.specs.machine.Nesting.{Nest, start, inside, lost, nest_all}
+use Rattle.stream_grammar.specs.machine.Framing.{Frame, open_at, ended, broken, placed, settled, frame_next, frame_after, first_frame, is_broken, has_ended}
+use Rattle.stream_grammar.specs.grammar.Items.{head_tokens, HasCome}
+use Rattle.stream_grammar.specs.machine.Ends.{tokens_told}
+use Rattle.stream_grammar.specs.grammar.Streams.{Spells}
 use Rattle.stream_grammar.proofs.Following.{Sound}
 use Rattle.stream_grammar.proofs.Nested.{all-more}
 use Rattle.stream_grammar.proofs.Running.{then_run, run_on, run}

@@ -1,27 +1,29 @@
 -- A header or a top element is open up to the byte that ends it.
-use Rattle.std.proofs.Common.{◌≡◌, ℕ, suc, ◌⊎◌, inl, inr, List, [], ◌∷◌, ◌++◌, length, refl, sym, ap, ◌∙◌, subst, Bool, true, false, cond, ◌&&◌, ◌==◌, nat_lt, ◌+◌, arith}
+use Rattle.std.proofs.Common.{◌≡◌, ℕ, suc, ◌⊎◌, inl, inr, List, [], ◌∷◌, ◌++◌, length, refl, sym, ap, ◌∙◌}
+use Rattle.std.proofs.Common.{subst, Bool, true, false, cond, ◌&&◌, ◌==◌, nat_lt, ◌+◌, arith}
 use Rattle.stream_lex.specs.declared.Token.{Token}
 use Rattle.stream_lex.specs.declared.Token.TheVariants as token
 use Rattle.stream_lex.specs.declared.stages.State.{State}
-use Rattle.stream_lex.specs.Turns.{Outcome, leads, fails, turn}
-use Rattle.stream_lex.specs.Reading.{Reads}
+use Rattle.stream_lex.specs.machine.Turns.{Outcome, leads, fails, turn}
+use Rattle.stream_lex.specs.grammar.Reading.{Reads}
 use Rattle.stream_lex.proofs.Lists.{false-true}
-use Rattle.stream_grammar.specs.Gathering.{nothing_gathered}
+use Rattle.stream_grammar.specs.machine.Gathering.{nothing_gathered}
 use Rattle.stream_grammar.specs.declared.rules.Rules.{Rules}
-use Rattle.stream_grammar.specs.Trees.{RawName, RawTag, Content, nothing}
-use Rattle.stream_grammar.specs.Streams.{IsShortest, Begins}
-use Rattle.stream_grammar.specs.Nesting.{Nest, start, declared, inside, naming, in_tag, naming_attribute, in_value, closing, lost, may_stand, in_content, after_hollow, after_name, nest, nest_all}
-use Rattle.stream_grammar.specs.Framing.{Frame, open_at, ended, broken, placed, settled, frame_next, frame_after, first_frame, is_broken}
-use Rattle.stream_grammar.specs.Telling.{are_words, is_few}
-use Rattle.stream_grammar.specs.Items.{head_tokens, HasCome, EndsHeader, EndsTop, is_between_tops, tokens_told, is_start_end, is_element_end, is_header_end, is_top_end, in_item_nest, in_item}
-use Rattle.stream_grammar.specs.RoundTrips.{end_tag_of}
+use Rattle.stream_grammar.specs.grammar.Trees.{RawName, RawTag, Content, nothing}
+use Rattle.stream_grammar.specs.grammar.Streams.{IsShortest, Begins}
+use Rattle.stream_grammar.specs.machine.Nesting.{Nest, start, declared, inside, naming, in_tag, naming_attribute, in_value, closing, lost}
+use Rattle.stream_grammar.specs.machine.Nesting.{may_stand, in_content, after_hollow, after_name, nest, nest_all}
+use Rattle.stream_grammar.specs.machine.Framing.{Frame, open_at, ended, broken, placed, settled, frame_next, frame_after, first_frame, is_broken}
+use Rattle.stream_grammar.specs.machine.Telling.{are_words, is_few}
+use Rattle.stream_grammar.specs.grammar.Items.{head_tokens, HasCome, EndsHeader, EndsTop}
+use Rattle.stream_grammar.specs.machine.Ends.{is_between_tops, tokens_told, is_start_end, is_element_end, is_header_end, is_top_end, in_item_nest, in_item}
+use Rattle.stream_grammar.specs.grammar.RoundTrips.{end_tag_of}
 use Rattle.stanza_tree.specs.declared.node.Element.{Element}
 use Rattle.std.specs.Prelude.{Option, Some}
 use Rattle.stream_grammar.specs.declared.item.Item.{Item}
 use Rattle.stream_grammar.specs.declared.item.Item.TheVariants as item
-use Rattle.stream_grammar.specs.Elements.{header_of, default_of, tops_of}
-use Rattle.stream_grammar.specs.Building.{Opened, Building, nothing_built, closed_in, build, build_all}
-use Rattle.stream_grammar.specs.Extents.{HasOpenItem}
+use Rattle.stream_grammar.specs.grammar.Elements.{header_of, default_of, tops_of}
+use Rattle.stream_grammar.specs.machine.Building.{Opened, Building, nothing_built, closed_in, build, build_all}
 use Rattle.stream_grammar.proofs.Nested.{all-more}
 use Rattle.stream_grammar.proofs.Few.{turn-few}
 use Rattle.stream_grammar.proofs.Whole.{first-sound, broken-begins}
@@ -34,7 +36,7 @@ use Rattle.stream_laws.proofs.Levels.{Levels, level-from}
 use Rattle.stream_laws.proofs.LastTold.{ends_tag, Placed, placed-cases, ends-at}
 use Rattle.stream_laws.proofs.HandedOut.{head-snoc, element-tag}
 use Rattle.stream_laws.proofs.RoundTripInsert.{come-ends}
-use Rattle.stream_laws.proofs.Extents.{after-last}
+use Rattle.stream_laws.proofs.Extents.{IsOpenAt, after-last}
 
 not-both : (t : Bool) → t ≡ true → t ≡ false → ⊥
 not-both t e f = false-true (sym f ∙ e)
@@ -179,7 +181,7 @@ not-true : (t : Bool) → (t ≡ true → ⊥) → t ≡ false
 not-true true h = absurd (h refl)
 not-true false h = refl
 
-pub item_ends : (r : Rules) (bytes : List ℕ) (b : ℕ) → HasOpenItem r bytes → (HasOpenItem r (bytes ++ b ∷ []) → ⊥) → Begins r (bytes ++ b ∷ []) → EndsHeader r (bytes ++ b ∷ []) ⊎ EndsTop r (bytes ++ b ∷ [])
+pub item_ends : (r : Rules) (bytes : List ℕ) (b : ℕ) → IsOpenAt r bytes → (IsOpenAt r (bytes ++ b ∷ []) → ⊥) → Begins r (bytes ++ b ∷ []) → EndsHeader r (bytes ++ b ∷ []) ⊎ EndsTop r (bytes ++ b ∷ [])
 item_ends r bytes b h never begins =
     let f : Frame = frame_after r first_frame bytes in
     let next : frame_after r first_frame (bytes ++ b ∷ []) ≡ frame_next r f b = after-last r bytes b in
@@ -271,7 +273,7 @@ header-not : (e : Element) (space : List ℕ) → Some (item.Header e space) ≡
 header-not e space k = cc
 
 come-open : (r : Rules) (bytes : List ℕ) (b : ℕ) (d : Bool) (root : RawTag) (f : Content) (front : List Token) (t : Token) → head_tokens d root f ≡ front ++ t ∷ [] → ends_tag t ≡ true → Reads (bytes ++ b ∷ []) (head_tokens d root f) → IsShortest (bytes ++ b ∷ []) (head_tokens d root f)
-    → is_broken (frame_after r first_frame (bytes ++ b ∷ [])) ≡ false → HasOpenItem r bytes × (HasOpenItem r (bytes ++ b ∷ []) → ⊥)
+    → is_broken (frame_after r first_frame (bytes ++ b ∷ [])) ≡ false → IsOpenAt r bytes × (IsOpenAt r (bytes ++ b ∷ []) → ⊥)
 come-open r bytes b d root f front t split h told short whole =
     let (to, m, s, at_it, step, same) = ends-at r bytes b front t h (subst (Reads (bytes ++ b ∷ [])) split told) (subst (IsShortest (bytes ++ b ∷ [])) split short) whole in
     let (leads_to, carried) = came bytes r _ to start m (first-sound r).live at_it in
@@ -290,7 +292,7 @@ come-open r bytes b d root f front t split h told short whole =
 pub come-whole : (r : Rules) (bytes : List ℕ) (root : RawTag) (f : Content) → HasCome r bytes root f → is_broken (frame_after r first_frame bytes) ≡ false
 come-whole r bytes root f come = let (d, spells) = come-ends r bytes root f come in goes-whole r bytes (end_tag_of root, record { declared = d; root = root; content = f }, spells)
 
-pub item_was_open : (r : Rules) (bytes : List ℕ) (b : ℕ) → EndsHeader r (bytes ++ b ∷ []) ⊎ EndsTop r (bytes ++ b ∷ []) → HasOpenItem r bytes × (HasOpenItem r (bytes ++ b ∷ []) → ⊥)
+pub item_was_open : (r : Rules) (bytes : List ℕ) (b : ℕ) → EndsHeader r (bytes ++ b ∷ []) ⊎ EndsTop r (bytes ++ b ∷ []) → IsOpenAt r bytes × (IsOpenAt r (bytes ++ b ∷ []) → ⊥)
 item_was_open r bytes b (inl (root, (d, told, short, keeps))) =
     let (front, t, e) = head-snoc d root nothing in
     let is : token.TagEnds false ≡ t = sym (last-nothing (token.TagEnds false)) ∙ head-last d root nothing front t e in

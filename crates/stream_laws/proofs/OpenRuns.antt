@@ -1,13 +1,16 @@
 -- An element is open from the first token of its start tag to the one before its last.
-use Rattle.std.proofs.Common.{◌≡◌, ℕ, ◌+◌, ◌⊎◌, inl, inr, List, [], ◌∷◌, ◌++◌, map, length, refl, sym, ap, ◌∙◌, subst, append_assoc, Bool, true, false, cond, ◌&&◌, ◌==◌, nat_lt}
+use Rattle.std.proofs.Common.{◌≡◌, ℕ, ◌+◌, ◌⊎◌, inl, inr, List, [], ◌∷◌, ◌++◌, map, length, refl, sym, ap, ◌∙◌}
+use Rattle.std.proofs.Common.{subst, append_assoc, Bool, true, false, cond, ◌&&◌, ◌==◌, nat_lt}
 use Rattle.std.specs.Prelude.{Option, Some, None}
 use Rattle.stream_lex.specs.declared.Token.{Token}
 use Rattle.stream_lex.specs.declared.Token.TheVariants as token
 use Rattle.stream_lex.proofs.Lists.{false-true}
 use Rattle.stream_grammar.specs.declared.rules.Rules.{Rules}
-use Rattle.stream_grammar.specs.Trees.{RawName, RawTag, Content, nothing, word, element, hollow, tag_tokens, end_tokens, content_tokens, declaration_tokens}
-use Rattle.stream_grammar.specs.Nesting.{Nest, start, declared, inside, naming, in_tag, naming_attribute, in_value, closing, lost, may_stand, after_hollow, after_name, nest, nest_all}
-use Rattle.stream_grammar.specs.Items.{in_item_nest}
+use Rattle.stream_grammar.specs.grammar.Trees.{RawName, RawTag, Content, nothing, word, element, hollow, tag_tokens}
+use Rattle.stream_grammar.specs.grammar.Trees.{end_tokens, content_tokens, declaration_tokens}
+use Rattle.stream_grammar.specs.machine.Nesting.{Nest, start, declared, inside, naming, in_tag, naming_attribute, in_value, closing}
+use Rattle.stream_grammar.specs.machine.Nesting.{lost, may_stand, after_hollow, after_name, nest, nest_all}
+use Rattle.stream_grammar.specs.machine.Ends.{in_item_nest}
 use Rattle.stream_grammar.proofs.Nested.{all-more}
 use Rattle.stream_laws.proofs.Ending.{ends_element}
 use Rattle.stream_laws.proofs.Made.{gathering, all-gathering, tag-body, body-then, gathering-body}

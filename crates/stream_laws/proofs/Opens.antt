@@ -13,21 +13,22 @@ use Rattle.stream_lex.specs.declared.characters.Pending.{Pending}
 use Rattle.stream_lex.specs.declared.characters.Pending.TheVariants as pending
 use Rattle.stream_lex.specs.declared.characters.Reach.{Reach}
 use Rattle.stream_lex.specs.declared.characters.Reach.TheVariants.{Whole, Begun, Broken}
-use Rattle.stream_lex.specs.Classes.{has_between, class_of}
-use Rattle.stream_lex.specs.Kinds.{ascii_kind}
-use Rattle.stream_lex.specs.Characters.{bytes_of, is_nothing, reach}
-use Rattle.stream_lex.specs.Machine.{Turn, goes, stops, ascii, allowed_at, voice, through}
-use Rattle.stream_lex.specs.Machine.{yields as tells_and_goes}
-use Rattle.stream_lex.specs.Turns.{Outcome, leads, fails, at, byte_told, end_told, settled, turn_ascii, turn_wide, turn}
+use Rattle.stream_lex.specs.grammar.Classes.{has_between, class_of}
+use Rattle.stream_lex.specs.grammar.Kinds.{ascii_kind}
+use Rattle.stream_lex.specs.machine.Characters.{bytes_of, is_nothing, reach}
+use Rattle.stream_lex.specs.machine.Machine.{Turn, goes, stops, ascii, allowed_at, voice, through}
+use Rattle.stream_lex.specs.machine.Machine.{yields as tells_and_goes}
+use Rattle.stream_lex.specs.machine.Turns.{Outcome, leads, fails, at, byte_told, end_told, settled, turn_ascii, turn_wide, turn}
 use Rattle.stream_lex.proofs.Lists.{false-true, cons_not_nil}
 use Rattle.stream_lex.proofs.ByteSteps.{Spelt, reach-spelt}
 use Rattle.stream_grammar.specs.declared.rules.Rules.{Rules}
-use Rattle.stream_grammar.specs.Trees.{RawName}
-use Rattle.stream_grammar.specs.Nesting.{Nest, start, declared, inside, naming, in_tag, naming_attribute, in_value, closing, lost, may_stand, before_root, in_content, nest, nest_all}
-use Rattle.stream_grammar.specs.Framing.{Frame, open_at, ended, broken, placed, frame_next}
-use Rattle.stream_grammar.specs.Framing.{settled as frame_settled}
-use Rattle.stream_grammar.specs.Items.{in_item_nest, in_item}
-use Rattle.stream_grammar.specs.Telling.{are_words, is_few}
+use Rattle.stream_grammar.specs.grammar.Trees.{RawName}
+use Rattle.stream_grammar.specs.machine.Nesting.{Nest, start, declared, inside, naming, in_tag, naming_attribute, in_value, closing}
+use Rattle.stream_grammar.specs.machine.Nesting.{lost, may_stand, before_root, in_content, nest, nest_all}
+use Rattle.stream_grammar.specs.machine.Framing.{Frame, open_at, ended, broken, placed, frame_next}
+use Rattle.stream_grammar.specs.machine.Framing.{settled as frame_settled}
+use Rattle.stream_grammar.specs.machine.Ends.{in_item_nest, in_item}
+use Rattle.stream_grammar.specs.machine.Telling.{are_words, is_few}
 use Rattle.stream_laws.proofs.RoundTripNames.{all_under, under, implied}
 use Rattle.stream_grammar.proofs.Sorts.{is_less, is_less_kind, opens, to_less, opens_tag, moves-ascii, may_return}
 use Rattle.stream_grammar.proofs.Moving.{calm, calm-was}
@@ -201,7 +202,7 @@ words-stay r [] n w h = h
 words-stay r (token.Word c ∷ us) n w h = words-stay r us (nest r n (token.Word c)) w (word-stays r n c h)
 words-stay r (u ∷ us) n w h = false-true w
 
-few-opens : (r : Rules) (n : Nest) (us : List Token) → is_few us ≡ true → in_item_nest n ≡ false → in_item_nest (nest_all r n us) ≡ true → opens us ≡ true
+pub few-opens : (r : Rules) (n : Nest) (us : List Token) → is_few us ≡ true → in_item_nest n ≡ false → in_item_nest (nest_all r n us) ≡ true → opens us ≡ true
 few-opens r n [] f h k = absurd (let bad : true ≡ false = sym k ∙ h in cc)
 few-opens r n (t ∷ []) f h k = one-opens r n t h k
 few-opens r n (t ∷ u ∷ us) f h k = absurd (let bad : true ≡ false = sym k ∙ words-stay r (t ∷ u ∷ us) n f h in cc)

@@ -2,14 +2,15 @@
 use Rattle.std.proofs.Common.{◌≡◌, ℕ, List, [], ◌∷◌, ◌++◌, length, refl, sym, ap, ◌∙◌, subst, append_assoc, append-nil, Bool, true, false, ◌==◌}
 use Rattle.std.specs.Prelude.{None, if◌then◌else◌}
 use Rattle.stream_lex.specs.declared.Token.{Token}
-use Rattle.stream_lex.specs.Reading.{Reads}
+use Rattle.stream_lex.specs.grammar.Reading.{Reads}
 use Rattle.stream_grammar.specs.declared.namespaces.Binding.{Binding}
-use Rattle.stream_grammar.specs.Trees.{RawTag, Content, nothing, tag_tokens, content_tokens, declaration_tokens}
-use Rattle.stream_grammar.specs.Namespaces.{own}
-use Rattle.stream_grammar.specs.Gathering.{nothing_gathered, whole_tag}
-use Rattle.stream_grammar.specs.Elements.{inside_of, fault_of_tag}
-use Rattle.stream_grammar.specs.Building.{Building, nothing_built, build_all}
-use Rattle.stream_grammar.specs.Paths.{Step, path_tokens, scope_of, IsRooted, tokens_to}
+use Rattle.stream_grammar.specs.grammar.Trees.{RawTag, Content, nothing, tag_tokens, content_tokens, declaration_tokens}
+use Rattle.stream_grammar.specs.grammar.Namespaces.{own}
+use Rattle.stream_grammar.specs.machine.Gathering.{nothing_gathered}
+use Rattle.stream_grammar.specs.grammar.Tags.{whole_tag}
+use Rattle.stream_grammar.specs.grammar.Elements.{inside_of, fault_of_tag}
+use Rattle.stream_grammar.specs.machine.Building.{Building, nothing_built, build_all}
+use Rattle.stream_grammar.specs.grammar.Paths.{Step, path_tokens, scope_of, IsRooted, tokens_to}
 use Rattle.stream_laws.proofs.Made.{made, tag-body, body-made, tag-made, not-empty, declared-made}
 use Rattle.stream_laws.proofs.Handing.{build-more}
 use Rattle.stream_laws.proofs.Judged.{AreJudged, judged-front, judged-back, tag-judged, IsOn, leaves-on}

@@ -1,13 +1,16 @@
 -- Where tokens lead to: the elements that are open, what has come in the innermost of them, and what has come of a tag.
-use Rattle.std.proofs.Common.{◌≡◌, ℕ, ◌+◌, List, [], ◌∷◌, ◌++◌, map, length, refl, sym, ap, ◌∙◌, subst, append_assoc, append-nil, Bool, true, false, cond, ◌==◌, nat_lt}
+use Rattle.std.proofs.Common.{◌≡◌, ℕ, ◌+◌, List, [], ◌∷◌, ◌++◌, map, length, refl, sym, ap, ◌∙◌, subst}
+use Rattle.std.proofs.Common.{append_assoc, append-nil, Bool, true, false, cond, ◌==◌, nat_lt}
 use Rattle.std.proofs.lemmas.Bool.{eqb-true}
 use Rattle.std.proofs.lemmas.List.{map-append}
 use Rattle.stream_lex.specs.declared.Token.{Token}
 use Rattle.stream_lex.specs.declared.Token.TheVariants as token
 use Rattle.stream_grammar.specs.declared.rules.Rules.{Rules}
-use Rattle.stream_grammar.specs.Trees.{RawName, RawAttribute, RawTag, Content, nothing, word, element, hollow, attribute_tokens, attributes_tokens, tag_tokens, content_tokens, end_tokens, declaration_tokens}
-use Rattle.stream_grammar.specs.Nesting.{Nest, start, declared, inside, naming, in_tag, naming_attribute, in_value, closing, lost, may_stand, before_root, in_content, after_name, nest, nest_all}
-use Rattle.stream_grammar.specs.Paths.{Step, path_tokens, IsRooted, tokens_to}
+use Rattle.stream_grammar.specs.grammar.Trees.{RawName, RawAttribute, RawTag, Content, nothing, word, element, hollow, attribute_tokens}
+use Rattle.stream_grammar.specs.grammar.Trees.{attributes_tokens, tag_tokens, content_tokens, end_tokens, declaration_tokens}
+use Rattle.stream_grammar.specs.machine.Nesting.{Nest, start, declared, inside, naming, in_tag, naming_attribute, in_value, closing, lost}
+use Rattle.stream_grammar.specs.machine.Nesting.{may_stand, before_root, in_content, after_name, nest, nest_all}
+use Rattle.stream_grammar.specs.grammar.Paths.{Step, path_tokens, IsRooted, tokens_to}
 use Rattle.stream_laws.proofs.Made.{tag-body, body-then}
 use Rattle.stream_laws.proofs.RoundTripInsert.{then_content, then-tokens}
 

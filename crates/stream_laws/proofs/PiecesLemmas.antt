@@ -1,12 +1,15 @@
 -- Pieces that are fed to the end.
-use Rattle.std.proofs.Common.{◌≡◌, ℕ, zero, suc, ◌+◌, ◌<◌, ◌≤◌, List, [], ◌∷◌, ◌++◌, length, take, drop, refl, sym, ap, ◌∙◌, subst, append-nil, Bool, true, false, arith}
+use Rattle.std.proofs.Common.{◌≡◌, ℕ, zero, suc, ◌+◌, ◌<◌, ◌≤◌, List, [], ◌∷◌, ◌++◌, length, take, drop, refl}
+use Rattle.std.proofs.Common.{sym, ap, ◌∙◌, subst, append-nil, Bool, true, false, arith}
 use Rattle.std.proofs.lemmas.List.{drop-append-le}
 use Rattle.std.specs.Prelude.{option_to_list, if◌then◌else◌}
 use Rattle.stream_grammar.specs.declared.item.Item.{Item}
 use Rattle.stream_grammar.specs.declared.item.Limits.{Limits}
-use Rattle.stream_grammar.specs.Reading.{Reading, reads, stopped, first_reading, reading_next, reading_after, is_done, is_ready, handed, taken, taken_reading, waiting}
+use Rattle.stream_grammar.specs.machine.Reading.{Reading, reads, stopped, first_reading, reading_next, reading_after}
+use Rattle.stream_grammar.specs.machine.Reading.{is_done, is_ready, handed, taken, taken_reading, waiting}
 use Rattle.stream_laws.specs.ItemLists.{AreItems}
-use Rattle.stream_laws.specs.CallLists.{Call, feeds, falls_short, hands, Fed, bytes_taken, IsFedBy, to_fault, joined, left_before, AreFed}
+use Rattle.stream_grammar.specs.machine.Calls.{Call, feeds, falls_short, hands, Called, bytes_taken}
+use Rattle.stream_laws.specs.CallLists.{IsFedBy, to_fault, joined, left_before, AreFed}
 use Rattle.stream_laws.proofs.CallLemmas.{taken-fits, all_handed, fed-bytes}
 
 joined-left : (left : List ℕ) (pieces : List (List ℕ)) → joined (left_before left pieces) ≡ left ++ joined pieces
@@ -23,7 +26,7 @@ one-piece l s fed piece pieces n calls few same go =
     let left : joined (left_before (drop n piece) pieces) ≡ drop n (joined (piece ∷ pieces)) = joined-left (drop n piece) pieces ∙ sym (drop-append-le n piece (joined pieces) short) in
     ((joined pieces, ap (λ (x : List ℕ). x ++ joined pieces) (sym same)), subst (λ (x : List ℕ). IsFedBy x calls []) left go)
 
-pieces-fed : (calls : List Call) (l : Limits) (s t : Reading) (items : List Item) (pieces : List (List ℕ)) → Fed l s calls items t → AreFed pieces calls → IsFedBy (joined pieces) calls []
+pieces-fed : (calls : List Call) (l : Limits) (s t : Reading) (items : List Item) (pieces : List (List ℕ)) → Called l s calls items t → AreFed pieces calls → IsFedBy (joined pieces) calls []
 pieces-fed [] l s t items pieces fed are = ap joined are
 pieces-fed (hands next ∷ calls) l s t items pieces (is, (later, all, more)) are = pieces-fed calls l (handed s) t later pieces more are
 pieces-fed (feeds fed n ∷ calls) l s t items [] (h, count, more) are = absurd are
@@ -33,7 +36,7 @@ pieces-fed (falls_short fed n ∷ calls) l s t items [] (h, count, more) are = a
 pieces-fed (falls_short fed n ∷ calls) l s t items (piece ∷ pieces) (h, count, more) (same, are) =
     one-piece l s fed piece pieces n calls (let e : n ≤ taken l s fed = omega (arith, count) in e) same (pieces-fed calls l (reading_after l s (take n fed)) t items (left_before (drop n piece) pieces) more are)
 
-pub pieces_handed : (l : Limits) (pieces : List (List ℕ)) (calls : List Call) (items : List Item) (t : Reading) → Fed l first_reading calls items t → AreFed pieces calls → AreItems l (joined pieces) (to_fault (items ++ option_to_list (waiting t)))
+pub pieces_handed : (l : Limits) (pieces : List (List ℕ)) (calls : List Call) (items : List Item) (t : Reading) → Called l first_reading calls items t → AreFed pieces calls → AreItems l (joined pieces) (to_fault (items ++ option_to_list (waiting t)))
 pieces_handed l pieces calls items t fed are =
     subst (λ (x : List ℕ). AreItems l x (to_fault (items ++ option_to_list (waiting t))))
     (sym (fed-bytes calls l first_reading t items (joined pieces) [] fed (pieces-fed calls l first_reading t items pieces fed are) ∙ append-nil (bytes_taken calls))) (all_handed l calls items t fed)
@@ -78,7 +81,7 @@ handed-is-ready (reads f b n k) = refl
 handed-is-ready (stopped f k) = refl
 
 abbrev pub Driven : Limits → Reading → List (List ℕ) → Type 0
-Driven l s pieces = (calls : List Call) × (items : List Item) × (t : Reading) × Fed l s calls items t × AreFed pieces calls × (is_ready t ≡ true)
+Driven l s pieces = (calls : List Call) × (items : List Item) × (t : Reading) × Called l s calls items t × AreFed pieces calls × (is_ready t ≡ true)
 
 drive : (m : ℕ) (l : Limits) (s : Reading) (pieces : List (List ℕ)) → is_ready s ≡ true → size pieces < m → Driven l s pieces
 unfolding size

@@ -10,14 +10,20 @@ use Rattle.stream_lex.specs.declared.stages.Context.{Context}
 use Rattle.stream_lex.specs.declared.stages.Context.TheVariants.{Words, Value}
 use Rattle.stream_lex.specs.declared.stages.NameOwner.TheVariants.{StartTag, EndTag, Attribute}
 use Rattle.stream_lex.specs.declared.stages.Base.TheVariants.{Decimal, Hexadecimal}
-use Rattle.stream_lex.specs.Classes.{is_xml}
-use Rattle.stream_lex.specs.Kinds.{kind, is_plain, is_plain_after, is_cdata, is_cdata_after, is_value_character, is_allowed, quote}
-use Rattle.stream_lex.specs.Expressions.{Expression, all_said}
-use Rattle.stream_lex.specs.Derivatives.{concat_of}
-use Rattle.stream_lex.specs.Grammar.{told, text_token, numeric, named, expects, after_a, entity_reference, any_reference, equals, value_part, quoted, attribute_text, tag_end, tag, end_tag, bracket, clump, clumps, section, plain, plain_after, brackets, run, char_data, markup, content, rest_of_first_tag, prolog, declaration_end, choice, in_quotes, standalone, expects_of_charset, is_either_case, charset, charset_end, charset_value, encoding, rest_of_minor, version_value, version, rest_of_declaration, document}
+use Rattle.stream_lex.specs.grammar.Classes.{is_xml}
+use Rattle.stream_lex.specs.grammar.Kinds.{kind, is_plain, is_plain_after, is_cdata, is_cdata_after, is_value_character, is_allowed, quote}
+use Rattle.stream_lex.specs.grammar.Expressions.{Expression, all_said, concat_of}
+use Rattle.stream_lex.specs.grammar.Grammar.{told, text_token, numeric, named, expects, after_a, entity_reference, any_reference, equals}
+use Rattle.stream_lex.specs.grammar.Grammar.{value_part, quoted, attribute_text, tag_end, tag, end_tag, bracket, clump, clumps, section}
+use Rattle.stream_lex.specs.grammar.Grammar.{plain, plain_after, brackets, run, char_data, markup, content, rest_of_first_tag, prolog}
+use Rattle.stream_lex.specs.grammar.Grammar.{declaration_end, choice, in_quotes, standalone, expects_of_charset, is_either_case, charset}
+use Rattle.stream_lex.specs.grammar.Grammar.{charset_end, charset_value, encoding, rest_of_minor, version_value, version}
+use Rattle.stream_lex.specs.grammar.Grammar.{rest_of_declaration, document}
 use Rattle.stream_lex.proofs.Lists.{false-true}
 use Rattle.stream_lex.proofs.Derivative.{concat_of-from}
-use Rattle.stream_laws.proofs.ProperTokens.{EndsName, may, name_after, Checks, Pass, pass-silent, pass-concat, pass-union, pass-star, pass-tells, pass-told, pass-refused, pass-refused_symbol, pass-spaces, pass-word, pass-digits, pass-name, allowed-kind}
+use Rattle.stream_laws.proofs.ProperTokens.{EndsName, may, name_after, Checks, Pass, pass-silent, pass-concat, pass-union}
+use Rattle.stream_laws.proofs.ProperTokens.{pass-star, pass-tells, pass-told, pass-refused, pass-refused_symbol, pass-spaces}
+use Rattle.stream_laws.proofs.ProperTokens.{pass-word, pass-digits, pass-name, allowed-kind}
 
 pass-join : (p q : Expression) → Pass p → Pass q → Pass (concat_of p q)
 pass-join p q a b = λ n e cs ms m. pass-concat p q a b n e cs ms (concat_of-from p q cs ms m)

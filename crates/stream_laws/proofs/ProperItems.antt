@@ -5,11 +5,12 @@ use Rattle.std.specs.List.{Contains}
 use Rattle.stanza_tree.specs.declared.node.Element.{Element}
 use Rattle.stream_grammar.specs.declared.item.Item.TheVariants as item
 use Rattle.stream_grammar.specs.declared.item.Limits.{Limits}
-use Rattle.stream_grammar.specs.Trees.{nothing}
-use Rattle.stream_grammar.specs.Elements.{tops_of}
-use Rattle.stream_grammar.specs.Parts.{IsItem}
-use Rattle.stream_grammar.specs.Proper.{IsProper}
-use Rattle.stream_grammar.specs.Reading.{first_reading, waiting, went, rules_of}
+use Rattle.stream_grammar.specs.grammar.Trees.{nothing}
+use Rattle.stream_grammar.specs.grammar.Elements.{tops_of}
+use Rattle.stream_grammar.specs.grammar.Parts.{IsItem}
+use Rattle.stream_grammar.specs.grammar.Proper.{IsProper}
+use Rattle.stream_grammar.specs.machine.Reading.{first_reading, waiting, went}
+use Rattle.stream_grammar.specs.grammar.Bounds.{rules_of}
 use Rattle.stream_laws.proofs.OneFault.{item_or_fault}
 use Rattle.stream_laws.proofs.ProperStreams.{header-proper}
 use Rattle.stream_laws.proofs.ProperTops.{come-all}

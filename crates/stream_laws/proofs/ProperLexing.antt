@@ -3,12 +3,14 @@ use Rattle.std.proofs.Common.{◌≡◌, ℕ, inl, inr, List, [], ◌∷◌, ◌
 use Rattle.std.specs.List.{AllByRecursion}
 use Rattle.stream_lex.specs.declared.Token.{Token}
 use Rattle.stream_lex.specs.declared.Token.TheVariants as token
-use Rattle.stream_lex.specs.Classes.{is_xml}
-use Rattle.stream_lex.specs.Expressions.{all_said}
-use Rattle.stream_lex.specs.Reading.{Reads}
+use Rattle.stream_lex.specs.grammar.Classes.{is_xml}
+use Rattle.stream_lex.specs.grammar.Expressions.{all_said}
+use Rattle.stream_lex.specs.grammar.Reading.{Reads}
 use Rattle.stream_lex.proofs.Lists.{cons_not_nil}
-use Rattle.stream_grammar.specs.Trees.{RawName, RawAttribute, RawTag, Content, nothing, word, element, hollow, Stream, attribute_tokens, attributes_tokens, tag_tokens, end_tokens, content_tokens, declaration_tokens, stream_tokens}
-use Rattle.stream_grammar.specs.Items.{head_tokens}
+use Rattle.stream_grammar.specs.grammar.Trees.{RawName, RawAttribute, RawTag, Content, nothing, word, element, hollow}
+use Rattle.stream_grammar.specs.grammar.Trees.{Stream, attribute_tokens, attributes_tokens, tag_tokens, end_tokens}
+use Rattle.stream_grammar.specs.grammar.Trees.{content_tokens, declaration_tokens, stream_tokens}
+use Rattle.stream_grammar.specs.grammar.Items.{head_tokens}
 use Rattle.stream_laws.proofs.RoundTripTags.{IsQName}
 use Rattle.stream_laws.proofs.ProperTokens.{EndsName, Checks}
 use Rattle.stream_laws.proofs.ProperGrammar.{pass-document}

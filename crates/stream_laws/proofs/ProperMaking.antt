@@ -12,10 +12,12 @@ use Rattle.stanza_tree.specs.declared.node.Node.TheOpen.{Node-F, Child, Words}
 use Rattle.stanza_tree.specs.declared.node.Node.TheViews.{out-Node, out-Element, roll-Node, roll-out-Node}
 use Rattle.stanza_tree.specs.Attributes.{is_named, with_attr, without_attr}
 use Rattle.stanza_tree.specs.Stamps.{sent_by}
-use Rattle.stream_lex.specs.Classes.{is_xml}
+use Rattle.stream_lex.specs.grammar.Classes.{is_xml}
 use Rattle.stream_lex.proofs.Lists.{false-true}
 use Rattle.stream_lex.proofs.Spans.{encode1}
-use Rattle.stream_grammar.specs.Proper.{starts_name, continues_name, IsNcName, IsXmlText, IsAttribute, same_name, IsProperPart, IsProper, IsProperNode, IsProperInParts, starts_ascii_name, continues_ascii_name, continue_ascii_name, is_ascii_name, is_ascii_text}
+use Rattle.stream_grammar.specs.grammar.Proper.{starts_name, continues_name, IsNcName, IsXmlText, IsAttribute, same_name}
+use Rattle.stream_grammar.specs.grammar.Proper.{IsProperPart, IsProper, IsProperNode, IsProperInParts, starts_ascii_name}
+use Rattle.stream_grammar.specs.grammar.Proper.{continues_ascii_name, continue_ascii_name, is_ascii_name, is_ascii_text}
 use Rattle.stream_laws.proofs.RoundTripTrees.{IsEvery, children-proper}
 use Rattle.stream_laws.proofs.ProperStreams.{made, child-proper, words-proper}
 

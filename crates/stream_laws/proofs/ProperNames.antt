@@ -9,16 +9,16 @@ use Rattle.std.specs.Prelude.{if◌then◌else◌, ◌||◌, ◌&&◌, ◌==◌,
 use Rattle.std.specs.Str.{is_utf8}
 use Rattle.stanza_tree.specs.declared.node.Attr.{Attr}
 use Rattle.stanza_tree.specs.declared.node.Name.{Name}
-use Rattle.stream_lex.specs.Classes.{is_xml}
+use Rattle.stream_lex.specs.grammar.Classes.{is_xml}
 use Rattle.stream_lex.proofs.Lists.{false-true}
 use Rattle.stream_grammar.specs.declared.namespaces.Binding.{Binding}
-use Rattle.stream_grammar.specs.Trees.{RawTag}
-use Rattle.stream_grammar.specs.Namespaces.{space_of}
-use Rattle.stream_grammar.specs.Resolving.{or_none, name_on, attrs_on, is_text_name, are_text_attrs, is_text_tag}
-use Rattle.stream_grammar.specs.Gathering.{Gathered, written, whole_tag}
-use Rattle.stream_grammar.specs.Elements.{inside_of, fault_of_tag}
-use Rattle.stream_grammar.specs.Building.{Building, is_header, is_all_text}
-use Rattle.stream_grammar.specs.Proper.{starts_name, continues_name, IsNcName, IsXmlText, IsElementName, IsAttribute}
+use Rattle.stream_grammar.specs.grammar.Trees.{RawTag}
+use Rattle.stream_grammar.specs.grammar.Namespaces.{space_of}
+use Rattle.stream_grammar.specs.grammar.Resolving.{or_none, name_on, attrs_on, is_text_name, are_text_attrs, is_text_tag}
+use Rattle.stream_grammar.specs.grammar.Tags.{Gathered, written, whole_tag}
+use Rattle.stream_grammar.specs.grammar.Elements.{inside_of, fault_of_tag}
+use Rattle.stream_grammar.specs.machine.Building.{Building, is_header, is_all_text}
+use Rattle.stream_grammar.specs.grammar.Proper.{starts_name, continues_name, IsNcName, IsXmlText, IsElementName, IsAttribute}
 use Rattle.stream_laws.proofs.ProperTokens.{start-xml, further-xml}
 use Rattle.stream_laws.proofs.ProperLexing.{IsReadTag}
 use Rattle.stream_laws.proofs.ProperStreams.{AreFair, IsFound, space-fair, name-proper, written-read, attributes-proper, inside-fair}

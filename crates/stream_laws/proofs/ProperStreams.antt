@@ -1,5 +1,6 @@
 -- The elements of a stream are proper.
-use Rattle.std.proofs.Common.{◌≡◌, ℕ, ◌⊎◌, inl, inr, List, [], ◌∷◌, ◌++◌, map, refl, sym, ap, ◌∙◌, subst, append_assoc, append-nil, Bool, true, false, not, codes}
+use Rattle.std.proofs.Common.{◌≡◌, ℕ, ◌⊎◌, inl, inr, List, [], ◌∷◌, ◌++◌, map, refl, sym, ap, ◌∙◌, subst}
+use Rattle.std.proofs.Common.{append_assoc, append-nil, Bool, true, false, not, codes}
 use Rattle.std.proofs.lemmas.Bool.{cond-true, cond-false, cond_both, and_parts}
 use Rattle.std.specs.List.{AllByRecursion, IsDistinct}
 use Rattle.std.specs.Prelude.{encode_utf8, encode_utf8_all, if◌then◌else◌, bytes_eq, ◌||◌, ◌&&◌, Option, Some, None}
@@ -11,19 +12,23 @@ use Rattle.stanza_tree.specs.declared.node.Node.{Node}
 use Rattle.stanza_tree.specs.declared.node.Node.TheFolds.{every_made-Element, every_made-Node}
 use Rattle.stanza_tree.specs.declared.node.Node.TheOpen.{Node-F, Child, Words}
 use Rattle.stanza_tree.specs.declared.node.Node.TheViews.{roll-Node, out-roll-Node}
-use Rattle.stream_lex.specs.Classes.{is_xml}
+use Rattle.stream_lex.specs.grammar.Classes.{is_xml}
 use Rattle.stream_lex.proofs.Lists.{false-true, true-false}
 use Rattle.stream_grammar.specs.declared.namespaces.Binding.{Binding}
 use Rattle.stream_grammar.specs.declared.namespaces.Written.{Written}
 use Rattle.stream_grammar.specs.declared.rules.Rules.{Rules}
-use Rattle.stream_grammar.specs.Trees.{RawAttribute, RawTag, Content, nothing, word, element, hollow, Stream}
-use Rattle.stream_grammar.specs.Streams.{Spells}
-use Rattle.stream_grammar.specs.Items.{HasCome}
-use Rattle.stream_grammar.specs.Namespaces.{space_before, xml_space, xmlns_space, has_prefix, prefix_of, local_of, is_declaration, declared_prefix, may_undo, may_declare, last_space, last_layer, space_of, attribute_space, own, is_unbound, has_unbound, is_forbidden, has_forbidden, is_bound_to, same_space, is_twin, has_twin, has_twins}
-use Rattle.stream_grammar.specs.Resolving.{or_none, name_on, attr_on, attrs_on}
-use Rattle.stream_grammar.specs.Gathering.{written, whole_tag}
-use Rattle.stream_grammar.specs.Elements.{inside_of, element_with, with_words, nodes_on, elements_on, fault_of_tag, AreNamed, outside_all, header_of, tops_of, IsNamed}
-use Rattle.stream_grammar.specs.Proper.{IsNcName, IsXmlText, IsElementName, IsAttribute, same_name, IsJoined, AreJoined, IsProperPart, IsProper}
+use Rattle.stream_grammar.specs.grammar.Trees.{RawAttribute, RawTag, Content, nothing, word, element, hollow, Stream}
+use Rattle.stream_grammar.specs.grammar.Streams.{Spells}
+use Rattle.stream_grammar.specs.grammar.Items.{HasCome}
+use Rattle.stream_grammar.specs.grammar.Namespaces.{space_before, xml_space, xmlns_space, has_prefix, prefix_of, local_of}
+use Rattle.stream_grammar.specs.grammar.Namespaces.{is_declaration, declared_prefix, may_undo, may_declare, last_space, last_layer}
+use Rattle.stream_grammar.specs.grammar.Namespaces.{space_of, attribute_space, own, is_unbound, has_unbound, is_forbidden, has_forbidden}
+use Rattle.stream_grammar.specs.grammar.Namespaces.{is_bound_to, same_space, is_twin, has_twin, has_twins}
+use Rattle.stream_grammar.specs.grammar.Resolving.{or_none, name_on, attr_on, attrs_on}
+use Rattle.stream_grammar.specs.grammar.Tags.{written, whole_tag}
+use Rattle.stream_grammar.specs.grammar.Elements.{inside_of, element_with, with_words, nodes_on, elements_on, fault_of_tag}
+use Rattle.stream_grammar.specs.grammar.Elements.{AreNamed, outside_all, header_of, tops_of, IsNamed}
+use Rattle.stream_grammar.specs.grammar.Proper.{IsNcName, IsXmlText, IsElementName, IsAttribute, same_name, IsJoined, AreJoined, IsProperPart, IsProper}
 use Rattle.stream_laws.proofs.RoundTripTags.{IsQName, name-byte}
 use Rattle.stream_laws.proofs.RoundTripText.{by_test}
 use Rattle.stream_laws.proofs.RoundTripSpelling.{each-append}

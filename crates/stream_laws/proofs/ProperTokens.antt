@@ -1,5 +1,6 @@
 -- What tokens tell of names and characters: each name is whole where it ends, and each character is one of XML.
-use Rattle.std.proofs.Common.{◌≡◌, ℕ, zero, suc, ◌<◌, ◌⊎◌, inl, inr, List, [], ◌∷◌, ◌++◌, map, refl, sym, ap, ◌∙◌, subst, append_assoc, append-nil, Bool, true, false, not, arith}
+use Rattle.std.proofs.Common.{◌≡◌, ℕ, zero, suc, ◌<◌, ◌⊎◌, inl, inr, List, [], ◌∷◌, ◌++◌, map, refl, sym, ap, ◌∙◌}
+use Rattle.std.proofs.Common.{subst, append_assoc, append-nil, Bool, true, false, not, arith}
 use Rattle.std.proofs.lemmas.Bool.{cond_both, ltb-true, eqb-true, and_parts}
 use Rattle.std.proofs.lemmas.Bool.Decides.{nat_tests}
 use Rattle.std.specs.List.{AllByRecursion}
@@ -12,13 +13,16 @@ use Rattle.stream_lex.specs.declared.kinds.Kind.TheVariants as kinds
 use Rattle.stream_lex.specs.declared.stages.NameOwner.{NameOwner}
 use Rattle.stream_lex.specs.declared.stages.NameOwner.TheVariants.{StartTag, EndTag, Attribute}
 use Rattle.stream_lex.specs.declared.stages.Base.{Base}
-use Rattle.stream_lex.specs.Classes.{CharacterClass, has_between, is_xml, name_starts, name_characters, characters}
-use Rattle.stream_lex.specs.Kinds.{kind, ascii_kind, wide_kind, is_kind, is_wide, is_name_start, is_name_further, is_wide_name_start, is_wide_name_further, is_allowed}
-use Rattle.stream_lex.specs.Expressions.{Sign, says, refuses, all_said, Expression, empty, silent_symbol, symbol, digits, concat, union, star, Times, IsText}
-use Rattle.stream_lex.specs.Grammar.{first_name_token, next_name_token, spread, a, optional, tells, told, refused, optional_space, word, first_character, later_first, further_character, local, colon, qualified_name}
+use Rattle.stream_lex.specs.grammar.Classes.{CharacterClass, has_between, is_xml, name_starts, name_characters, characters}
+use Rattle.stream_lex.specs.grammar.Kinds.{kind, ascii_kind, wide_kind, is_kind, is_wide, is_name_start, is_name_further}
+use Rattle.stream_lex.specs.grammar.Kinds.{is_wide_name_start, is_wide_name_further, is_allowed}
+use Rattle.stream_lex.specs.grammar.Expressions.{Sign, says, refuses, all_said, Expression, empty, silent_symbol}
+use Rattle.stream_lex.specs.grammar.Expressions.{symbol, digits, concat, union, star, Times, IsText}
+use Rattle.stream_lex.specs.grammar.Grammar.{first_name_token, next_name_token, spread, a, optional, tells, told, refused, optional_space, word}
+use Rattle.stream_lex.specs.grammar.Grammar.{first_character, later_first, further_character, local, colon, qualified_name}
 use Rattle.stream_lex.proofs.Lists.{false-true, true-false, said-append}
 use Rattle.stream_lex.proofs.Spans.{encode1}
-use Rattle.stream_grammar.specs.Proper.{starts_name, continues_name, IsNcName}
+use Rattle.stream_grammar.specs.grammar.Proper.{starts_name, continues_name, IsNcName}
 use Rattle.stream_laws.proofs.RoundTripNames.{all_under, under, implied, start-continues, or-later, spread-more, spread-map, first-byte}
 use Rattle.stream_laws.proofs.RoundTripTags.{IsQName}
 

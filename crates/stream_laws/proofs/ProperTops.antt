@@ -5,11 +5,11 @@ use Rattle.std.specs.List.{All, Contains}
 use Rattle.stanza_tree.specs.declared.node.Element.{Element}
 use Rattle.stanza_tree.specs.Spelling.{text}
 use Rattle.stream_grammar.specs.declared.rules.Rules.{Rules}
-use Rattle.stream_grammar.specs.Trees.{RawTag, Content, nothing}
-use Rattle.stream_grammar.specs.Items.{HasCome}
-use Rattle.stream_grammar.specs.Elements.{tops_of, IsNamed}
-use Rattle.stream_grammar.specs.Proper.{IsProper}
-use Rattle.stream_grammar.specs.RoundTrips.{end_tag_of, bare_header, bare_root, IsTop}
+use Rattle.stream_grammar.specs.grammar.Trees.{RawTag, Content, nothing}
+use Rattle.stream_grammar.specs.grammar.Items.{HasCome}
+use Rattle.stream_grammar.specs.grammar.Elements.{tops_of, IsNamed}
+use Rattle.stream_grammar.specs.grammar.Proper.{IsProper}
+use Rattle.stream_grammar.specs.grammar.RoundTrips.{end_tag_of, bare_header, bare_root, IsTop}
 use Rattle.stream_laws.proofs.ProperStreams.{tops-proper, come-proper}
 use Rattle.stream_laws.proofs.RoundTripInsert.{written-reads, short-writable, bare-comes, bare-named, bare-default}
 

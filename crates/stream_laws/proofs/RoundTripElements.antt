@@ -1,5 +1,6 @@
 -- Proper elements: the content that their canonical text spells.
-use Rattle.std.proofs.Common.{◌≡◌, ℕ, suc, ◌+◌, ◌<◌, ◌≤◌, ◌^◌, ◌⊎◌, inl, inr, max, List, [], ◌∷◌, ◌++◌, length, map, refl, sym, ap, ◌∙◌, subst, append_assoc, append-nil, Bool, true, false, arith, codes, length-append}
+use Rattle.std.proofs.Common.{◌≡◌, ℕ, suc, ◌+◌, ◌<◌, ◌≤◌, ◌^◌, ◌⊎◌, inl, inr, max, List, [], ◌∷◌, ◌++◌, length, map, refl, sym, ap, ◌∙◌}
+use Rattle.std.proofs.Common.{subst, append_assoc, append-nil, Bool, true, false, arith, codes, length-append}
 use Rattle.std.proofs.lemmas.Bool.{cond-false, cond_both, eqb-true}
 use Rattle.std.proofs.lemmas.Bool.Decides.{nat_tests}
 use Rattle.std.specs.List.{AllByRecursion}
@@ -11,7 +12,8 @@ use Rattle.stanza_tree.specs.declared.node.Node.{Node}
 use Rattle.stanza_tree.specs.declared.node.Node.TheFolds.{fold-Node, fold-Element, fold_out-Node, fold_out-Element, map-Node}
 use Rattle.stanza_tree.specs.declared.node.Node.TheOpen.{Node-F, Child, Words}
 use Rattle.stanza_tree.specs.declared.node.Node.TheViews.{out-Node, out-Element, roll-Node, roll-out-Node}
-use Rattle.stanza_tree.specs.Spelling.{Spelled, prefix, escaped_in_words, words_text, node_text, element_text, text_under, texts_under, needs_prefix, closed, opened}
+use Rattle.stanza_tree.specs.Spelling.{Spelled, prefix, escaped_in_words, words_text, node_text, element_text}
+use Rattle.stanza_tree.specs.Spelling.{text_under, texts_under, needs_prefix, closed, opened}
 use Rattle.stanza_tree.proofs.SpellingLemmas.{text_under-parts, texts-child, texts-words}
 use Rattle.stream_lex.specs.declared.Token.{Token}
 use Rattle.stream_lex.specs.declared.Token.TheVariants as token
@@ -19,16 +21,19 @@ use Rattle.stream_lex.proofs.Lists.{false-true}
 use Rattle.stream_grammar.specs.declared.namespaces.Binding.{Binding}
 use Rattle.stream_grammar.specs.declared.namespaces.Written.{Written}
 use Rattle.stream_grammar.specs.declared.rules.Rules.{Rules}
-use Rattle.stream_grammar.specs.Trees.{RawAttribute, RawTag, Content, nothing, word, element, hollow, tag_tokens, attributes_tokens, end_tokens, content_tokens, levels, is_space, Keeps}
-use Rattle.stream_grammar.specs.Namespaces.{own, tag_fault}
-use Rattle.stream_grammar.specs.Resolving.{attrs_on}
-use Rattle.stream_grammar.specs.Gathering.{written, whole_tag}
-use Rattle.stream_grammar.specs.Elements.{inside_of, element_with, with_words, nodes_on, fault_of_tag, AreNamed}
-use Rattle.stream_grammar.specs.Proper.{IsNcName, IsXmlText, IsJoined, AreJoined, IsProperPart, IsProper}
-use Rattle.stream_grammar.specs.Widths.{node_depth, element_depth, depth_of, depth_of_all, prefixes_of, tag_width, Measured, node_width, element_width, width_under, width_under_all}
+use Rattle.stream_grammar.specs.grammar.Trees.{RawAttribute, RawTag, Content, nothing, word, element, hollow, tag_tokens}
+use Rattle.stream_grammar.specs.grammar.Trees.{attributes_tokens, end_tokens, content_tokens, levels, is_space, Keeps}
+use Rattle.stream_grammar.specs.grammar.Namespaces.{own, tag_fault}
+use Rattle.stream_grammar.specs.grammar.Resolving.{attrs_on}
+use Rattle.stream_grammar.specs.grammar.Tags.{written, whole_tag}
+use Rattle.stream_grammar.specs.grammar.Elements.{inside_of, element_with, with_words, nodes_on, fault_of_tag, AreNamed}
+use Rattle.stream_grammar.specs.grammar.Proper.{IsNcName, IsXmlText, IsJoined, AreJoined, IsProperPart, IsProper}
+use Rattle.stream_grammar.specs.grammar.Widths.{node_depth, element_depth, depth_of, depth_of_all, prefixes_of, tag_width}
+use Rattle.stream_grammar.specs.grammar.Widths.{Measured, node_width, element_width, width_under, width_under_all}
 use Rattle.stream_laws.proofs.RoundTripRuns.{Runs, RunsLast, runs-last, last-then, last-told, last-text, runs-none, runs-then, runs-told, runs-text, between}
 use Rattle.stream_laws.proofs.RoundTripText.{Gap, plain, gap_stage, characters-words}
-use Rattle.stream_laws.proofs.RoundTripTags.{written_text, written_one, name-byte, TagAt, named_tag, tag_stage, gap_state, attributes-run, start-runs, tag-ends, hollow-ends, end-runs}
+use Rattle.stream_laws.proofs.RoundTripTags.{written_text, written_one, name-byte, TagAt, named_tag, tag_stage, gap_state}
+use Rattle.stream_laws.proofs.RoundTripTags.{attributes-run, start-runs, tag-ends, hollow-ends, end-runs}
 use Rattle.stream_laws.proofs.RoundTripSpelling.{default_written, declared_written, attributes_written, tag_written, tag-are, opened-text}
 use Rattle.stream_laws.proofs.RoundTripScopes.{Under, inner, inner-under, tag-named, tag-own}
 use Rattle.stream_laws.proofs.RoundTripFaults.{IsResolved, tag-resolved}

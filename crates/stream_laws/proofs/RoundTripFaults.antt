@@ -9,9 +9,11 @@ use Rattle.stanza_tree.specs.Spelling.{needs_prefix, prefix}
 use Rattle.stream_lex.proofs.Lists.{false-true}
 use Rattle.stream_grammar.specs.declared.namespaces.Binding.{Binding}
 use Rattle.stream_grammar.specs.declared.namespaces.Written.{Written}
-use Rattle.stream_grammar.specs.Namespaces.{xml_space, xmlns_space, is_declaration, prefix_of, local_of, space_of, attribute_space, may_declare, is_forbidden, has_forbidden, is_unbound, has_unbound, is_bound_to, same_space, is_twin, has_twin, has_twins, tag_fault}
-use Rattle.stream_grammar.specs.Resolving.{attrs_on, attr_on, or_none, name_on}
-use Rattle.stream_grammar.specs.Proper.{IsNcName, IsAttribute, IsElementName, same_name}
+use Rattle.stream_grammar.specs.grammar.Namespaces.{xml_space, xmlns_space, is_declaration, prefix_of, local_of, space_of}
+use Rattle.stream_grammar.specs.grammar.Namespaces.{attribute_space, may_declare, is_forbidden, has_forbidden, is_unbound, has_unbound}
+use Rattle.stream_grammar.specs.grammar.Namespaces.{is_bound_to, same_space, is_twin, has_twin, has_twins, tag_fault}
+use Rattle.stream_grammar.specs.grammar.Resolving.{attrs_on, attr_on, or_none, name_on}
+use Rattle.stream_grammar.specs.grammar.Proper.{IsNcName, IsAttribute, IsElementName, same_name}
 use Rattle.stream_laws.proofs.RoundTripSpelling.{default_written, declared_written, attributes_written, tag_written, each-append}
 use Rattle.stream_laws.proofs.RoundTripSpaces.{bare, ncname-colon, prefix-other, declares, IsCut, cut}
 use Rattle.stream_laws.proofs.RoundTripScopes.{Under, inner, inner-under, flipped, NamedAll, tag-named, named-attrs}

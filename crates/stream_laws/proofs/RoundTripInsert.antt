@@ -1,5 +1,6 @@
 -- After the top elements of a stream, the text of a proper element is one more; and an end tag ends the stream.
-use Rattle.std.proofs.Common.{◌≡◌, ℕ, ◌+◌, ◌<◌, ◌≤◌, ◌^◌, List, [], ◌∷◌, ◌++◌, length, refl, sym, ap, ◌∙◌, subst, append_assoc, append-nil, Bool, true, false, not, arith, codes}
+use Rattle.std.proofs.Common.{◌≡◌, ℕ, ◌+◌, ◌<◌, ◌≤◌, ◌^◌, List, [], ◌∷◌, ◌++◌, length, refl, sym, ap, ◌∙◌, subst}
+use Rattle.std.proofs.Common.{append_assoc, append-nil, Bool, true, false, not, arith, codes}
 use Rattle.std.proofs.lemmas.Bool.{cond_both}
 use Rattle.std.specs.List.{AllByRecursion}
 use Rattle.std.specs.Prelude.{if◌then◌else◌, bytes_eq, ◌||◌, ◌&&◌, Option, Some, None}
@@ -10,26 +11,30 @@ use Rattle.stream_lex.specs.declared.Token.{Token}
 use Rattle.stream_lex.specs.declared.Token.TheVariants as token
 use Rattle.stream_lex.specs.declared.stages.Stage.TheVariants as stage
 use Rattle.stream_lex.specs.declared.stages.State.{State}
-use Rattle.stream_lex.specs.Kinds.{ascii_kind}
-use Rattle.stream_lex.specs.Machine.{ascii, in_name, in_tag}
-use Rattle.stream_lex.specs.Turns.{turn_ascii}
-use Rattle.stream_lex.specs.Live.{is_live}
-use Rattle.stream_lex.specs.Reading.{Reads}
+use Rattle.stream_lex.specs.grammar.Kinds.{ascii_kind}
+use Rattle.stream_lex.specs.machine.Machine.{ascii, in_name, in_tag}
+use Rattle.stream_lex.specs.machine.Turns.{turn_ascii}
+use Rattle.stream_lex.specs.machine.Live.{is_live}
+use Rattle.stream_lex.specs.grammar.Reading.{Reads}
 use Rattle.stream_lex.proofs.Lists.{false-true}
 use Rattle.stream_grammar.specs.declared.namespaces.Binding.{Binding}
 use Rattle.stream_grammar.specs.declared.namespaces.NameFault.{NameFault}
 use Rattle.stream_grammar.specs.declared.namespaces.NameFault.TheVariants as fault
 use Rattle.stream_grammar.specs.declared.namespaces.Written.{Written}
 use Rattle.stream_grammar.specs.declared.rules.Rules.{Rules}
-use Rattle.stream_grammar.specs.Trees.{RawTag, Content, nothing, word, element, hollow, tag_tokens, content_tokens, end_tokens, declaration_tokens, stream_tokens, levels, Keeps}
-use Rattle.stream_grammar.specs.Streams.{Spells}
-use Rattle.stream_grammar.specs.Items.{head_tokens, HasCome}
-use Rattle.stream_grammar.specs.Namespaces.{xml_space, prefix_of, is_unbound, has_unbound, is_bound_to, has_twins, tag_fault, is_declaration, declared_prefix, last_space, last_layer, space_of, own, may_declare, is_forbidden, has_forbidden, space_before}
-use Rattle.stream_grammar.specs.Resolving.{or_none}
-use Rattle.stream_grammar.specs.Gathering.{written, whole_tag}
-use Rattle.stream_grammar.specs.Elements.{tops_of, inside_of, element_with, nodes_on, elements_on, fault_of_tag, AreNamed, outside_all, default_of, IsNamed}
-use Rattle.stream_grammar.specs.Proper.{IsProper}
-use Rattle.stream_grammar.specs.RoundTrips.{HasMore, IsReadBack, IsWritable, texts_of, end_tag_of, bare_header, bare_root}
+use Rattle.stream_grammar.specs.grammar.Trees.{RawTag, Content, nothing, word, element, hollow, tag_tokens, content_tokens}
+use Rattle.stream_grammar.specs.grammar.Trees.{end_tokens, declaration_tokens, stream_tokens, levels, Keeps}
+use Rattle.stream_grammar.specs.grammar.Streams.{Spells}
+use Rattle.stream_grammar.specs.grammar.Items.{head_tokens, HasCome}
+use Rattle.stream_grammar.specs.grammar.Namespaces.{xml_space, prefix_of, is_unbound, has_unbound, is_bound_to, has_twins, tag_fault}
+use Rattle.stream_grammar.specs.grammar.Namespaces.{is_declaration, declared_prefix, last_space, last_layer, space_of, own}
+use Rattle.stream_grammar.specs.grammar.Namespaces.{may_declare, is_forbidden, has_forbidden, space_before}
+use Rattle.stream_grammar.specs.grammar.Resolving.{or_none}
+use Rattle.stream_grammar.specs.grammar.Tags.{written, whole_tag}
+use Rattle.stream_grammar.specs.grammar.Elements.{tops_of, inside_of, element_with, nodes_on, elements_on}
+use Rattle.stream_grammar.specs.grammar.Elements.{fault_of_tag, AreNamed, outside_all, default_of, IsNamed}
+use Rattle.stream_grammar.specs.grammar.Proper.{IsProper}
+use Rattle.stream_grammar.specs.grammar.RoundTrips.{HasMore, IsReadBack, IsWritable, texts_of, end_tag_of, bare_header, bare_root}
 use Rattle.stream_grammar.proofs.Whole.{first-sound, first-left}
 use Rattle.stream_laws.proofs.ProperLexing.{head-read}
 use Rattle.stream_laws.proofs.RoundTripRuns.{Runs, RunsLast, last-then, last-told, between}

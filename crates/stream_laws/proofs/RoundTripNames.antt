@@ -13,16 +13,16 @@ use Rattle.stream_lex.specs.declared.stages.Half.TheVariants.{Prefix, Local}
 use Rattle.stream_lex.specs.declared.stages.Stage.{Stage}
 use Rattle.stream_lex.specs.declared.stages.Stage.TheVariants as stage
 use Rattle.stream_lex.specs.declared.characters.Allowed.TheVariants as allowed
-use Rattle.stream_lex.specs.Classes.{has_between, class_of, name_starts, name_characters}
-use Rattle.stream_lex.specs.Kinds.{ascii_kind, is_name_start, is_name_further}
-use Rattle.stream_lex.specs.Grammar.{first_name_token, next_name_token, spread}
-use Rattle.stream_lex.specs.Machine.{yields, in_name, in_tag, ascii, allowed_at, voice, voiced, by_byte, through}
-use Rattle.stream_lex.specs.Turns.{settled}
-use Rattle.stream_lex.specs.Live.{is_live}
+use Rattle.stream_lex.specs.grammar.Classes.{has_between, class_of, name_starts, name_characters}
+use Rattle.stream_lex.specs.grammar.Kinds.{ascii_kind, is_name_start, is_name_further}
+use Rattle.stream_lex.specs.grammar.Grammar.{first_name_token, next_name_token, spread}
+use Rattle.stream_lex.specs.machine.Machine.{yields, in_name, in_tag, ascii, allowed_at, voice, voiced, by_byte, through}
+use Rattle.stream_lex.specs.machine.Turns.{settled}
+use Rattle.stream_lex.specs.machine.Live.{is_live}
 use Rattle.stream_lex.proofs.Lists.{false-true}
 use Rattle.stream_lex.proofs.Spans.{encode1}
-use Rattle.stream_grammar.specs.Trees.{RawName}
-use Rattle.stream_grammar.specs.Proper.{starts_name, continues_name, IsNcName}
+use Rattle.stream_grammar.specs.grammar.Trees.{RawName}
+use Rattle.stream_grammar.specs.grammar.Proper.{starts_name, continues_name, IsNcName}
 use Rattle.stream_laws.proofs.RoundTripRuns.{Runs, runs-none, runs-then, runs-one, runs-told, between, ascii-turn, wide-runs, high-first}
 
 -- A test of all numbers below one.

@@ -11,13 +11,13 @@ use Rattle.stream_lex.specs.declared.characters.Pending.{Pending}
 use Rattle.stream_lex.specs.declared.characters.Pending.TheVariants as pending
 use Rattle.stream_lex.specs.declared.characters.Reach.{Reach}
 use Rattle.stream_lex.specs.declared.characters.Reach.TheVariants.{Whole, Begun, Broken}
-use Rattle.stream_lex.specs.Classes.{has_between, class_of}
-use Rattle.stream_lex.specs.Kinds.{ascii_kind}
-use Rattle.stream_lex.specs.Characters.{bytes_of, is_begun, reach}
-use Rattle.stream_lex.specs.Machine.{Voice, whole, by_byte, voice, voiced, through, allowed_at, ascii}
-use Rattle.stream_lex.specs.Turns.{Outcome, leads, fails, at, byte_told, end_told, settled, turn_ascii, turn_wide, turn}
-use Rattle.stream_lex.specs.Live.{is_live}
-use Rattle.stream_lex.specs.Leading.{heard}
+use Rattle.stream_lex.specs.grammar.Classes.{has_between, class_of}
+use Rattle.stream_lex.specs.grammar.Kinds.{ascii_kind}
+use Rattle.stream_lex.specs.machine.Characters.{bytes_of, is_begun, reach}
+use Rattle.stream_lex.specs.machine.Machine.{Voice, whole, by_byte, voice, voiced, through, allowed_at, ascii}
+use Rattle.stream_lex.specs.machine.Turns.{Outcome, leads, fails, at, byte_told, end_told, settled, turn_ascii, turn_wide, turn}
+use Rattle.stream_lex.specs.machine.Live.{is_live}
+use Rattle.stream_lex.specs.machine.Leading.{heard}
 use Rattle.stream_lex.proofs.Lists.{same_tail, cons_not_nil}
 use Rattle.stream_lex.proofs.Spans.{Within, IsRest, Width, width1, width2, width3, width4, width_of, reach-within, reach-starts}
 use Rattle.stream_lex.proofs.Classing.{has_between-of, class-scalar}

@@ -9,9 +9,9 @@ use Rattle.stanza_tree.specs.Spelling.{needs_prefix, prefix}
 use Rattle.stream_lex.proofs.Lists.{true-false}
 use Rattle.stream_grammar.specs.declared.namespaces.Binding.{Binding}
 use Rattle.stream_grammar.specs.declared.namespaces.Written.{Written}
-use Rattle.stream_grammar.specs.Namespaces.{space_before, xml_space, is_declaration, declared_prefix, local_of, last_space, last_layer, own}
-use Rattle.stream_grammar.specs.Resolving.{attrs_on, attr_on, or_none}
-use Rattle.stream_grammar.specs.Proper.{IsAttribute}
+use Rattle.stream_grammar.specs.grammar.Namespaces.{space_before, xml_space, is_declaration, declared_prefix, local_of, last_space, last_layer, own}
+use Rattle.stream_grammar.specs.grammar.Resolving.{attrs_on, attr_on, or_none}
+use Rattle.stream_grammar.specs.grammar.Proper.{IsAttribute}
 use Rattle.stream_laws.proofs.RoundTripSpelling.{default_written, declared_written, attributes_written, tag_written}
 use Rattle.stream_laws.proofs.RoundTripSpaces.{same-bytes, other-bytes, prefix-other, declares, IsNamed, prefixed-named, unprefixed-named}
 

@@ -1,5 +1,6 @@
 -- The names of a canonical start tag in their namespaces: what each is, one by one.
-use Rattle.std.proofs.Common.{◌≡◌, ℕ, suc, ◌+◌, ◌<◌, ◌≤◌, ◌^◌, inl, inr, List, [], ◌∷◌, ◌++◌, length, take, drop, refl, sym, ap, ◌∙◌, subst, Bool, true, false, not, arith, codes, length-append}
+use Rattle.std.proofs.Common.{◌≡◌, ℕ, suc, ◌+◌, ◌<◌, ◌≤◌, ◌^◌, inl, inr, List, [], ◌∷◌, ◌++◌, length, take, drop, refl, sym}
+use Rattle.std.proofs.Common.{ap, ◌∙◌, subst, Bool, true, false, not, arith, codes, length-append}
 use Rattle.std.proofs.lemmas.Bool.{cond-true, cond-false, cases_lt, lt-ltb, le-ltb}
 use Rattle.std.proofs.lemmas.Bool.Decides.{nat_tests}
 use Rattle.std.proofs.lemmas.Fmt.{decimal_is_IsNumeral, decimal_injective}
@@ -14,10 +15,11 @@ use Rattle.stanza_tree.specs.declared.node.Attr.{Attr}
 use Rattle.stanza_tree.specs.Spelling.{needs_prefix, prefix}
 use Rattle.stream_lex.proofs.Lists.{false-true, true-false, same_tail}
 use Rattle.stream_lex.proofs.Spans.{encode1}
-use Rattle.stream_lex.specs.Classes.{name_starts, name_characters}
+use Rattle.stream_lex.specs.grammar.Classes.{name_starts, name_characters}
 use Rattle.stream_grammar.specs.declared.namespaces.Binding.{Binding}
-use Rattle.stream_grammar.specs.Namespaces.{space_before, xml_space, colon_at, has_prefix, prefix_of, local_of, is_declaration, declared_prefix, last_layer, space_of, attribute_space}
-use Rattle.stream_grammar.specs.Proper.{continues_name, IsNcName, IsAttribute}
+use Rattle.stream_grammar.specs.grammar.Namespaces.{space_before, xml_space, colon_at, has_prefix, prefix_of, local_of}
+use Rattle.stream_grammar.specs.grammar.Namespaces.{is_declaration, declared_prefix, last_layer, space_of, attribute_space}
+use Rattle.stream_grammar.specs.grammar.Proper.{continues_name, IsNcName, IsAttribute}
 use Rattle.stream_laws.proofs.RoundTripNames.{all_under, under, implied, start-continues}
 use Rattle.stream_laws.proofs.RoundTripText.{AllHigh, high-bytes, by_test}
 use Rattle.stream_laws.proofs.RoundTripSpelling.{prefixed_name, unprefixed_name, each-append}

@@ -1,5 +1,6 @@
 -- The attributes of a canonical start tag as they are written: declarations first.
-use Rattle.std.proofs.Common.{◌≡◌, ℕ, ◌+◌, ◌<◌, ◌≤◌, ◌^◌, inl, inr, List, [], ◌∷◌, ◌++◌, length, refl, sym, ap, ◌∙◌, append_assoc, append-nil, Bool, true, false, arith, codes}
+use Rattle.std.proofs.Common.{◌≡◌, ℕ, ◌+◌, ◌<◌, ◌≤◌, ◌^◌, inl, inr, List, [], ◌∷◌, ◌++◌, length, refl, sym, ap}
+use Rattle.std.proofs.Common.{◌∙◌, append_assoc, append-nil, Bool, true, false, arith, codes}
 use Rattle.std.proofs.lemmas.Bool.{cond_both}
 use Rattle.std.proofs.lemmas.Bool.Decides.{nat_tests}
 use Rattle.std.proofs.lemmas.Fmt.{decimal_is_IsNumeral}
@@ -11,10 +12,11 @@ use Rattle.std.specs.Prelude.{encode_utf8_all, if◌then◌else◌, bytes_eq}
 use lib.Utf8.{encode}
 use Rattle.stanza_tree.specs.declared.node.Attr.{Attr}
 use Rattle.stanza_tree.specs.declared.node.Name.{Name}
-use Rattle.stanza_tree.specs.Spelling.{assigned, needs_prefix, prefix, declaration, declarations, prefixed, unprefixed, attributes, default_space, named, opened}
+use Rattle.stanza_tree.specs.Spelling.{assigned, needs_prefix, prefix, declaration, declarations, prefixed}
+use Rattle.stanza_tree.specs.Spelling.{unprefixed, attributes, default_space, named, opened}
 use Rattle.stream_lex.proofs.Spans.{encode1}
 use Rattle.stream_grammar.specs.declared.namespaces.Written.{Written}
-use Rattle.stream_grammar.specs.Proper.{continues_name, IsNcName, IsXmlText, IsAttribute}
+use Rattle.stream_grammar.specs.grammar.Proper.{continues_name, IsNcName, IsXmlText, IsAttribute}
 use Rattle.stream_laws.proofs.RoundTripTags.{IsQName, IsWritten, written_one, written_text}
 
 -- an element's namespace, where it differs from its parent's

@@ -17,22 +17,22 @@ use Rattle.stream_lex.specs.declared.stages.Stage.TheVariants as stage
 use Rattle.stream_lex.specs.declared.stages.State.{State}
 use Rattle.stream_lex.specs.declared.characters.Pending.{Pending}
 use Rattle.stream_lex.specs.declared.characters.Pending.TheVariants as pending
-use Rattle.stream_lex.specs.Characters.{bytes_of, is_begun, is_between}
-use Rattle.stream_lex.specs.Expressions.{all_said, IsText}
-use Rattle.stream_lex.specs.Derivatives.{empty_part}
-use Rattle.stream_lex.specs.Machine.{letters}
-use Rattle.stream_lex.specs.Turns.{Outcome, leads, fails, at, turn}
-use Rattle.stream_lex.specs.Live.{is_live_stage, is_live}
-use Rattle.stream_lex.specs.Leading.{Left}
-use Rattle.stream_lex.specs.Rests.{rest_of_fixed, rest_at}
+use Rattle.stream_lex.specs.machine.Characters.{bytes_of, is_begun, is_between}
+use Rattle.stream_lex.specs.grammar.Expressions.{all_said, IsText}
+use Rattle.stream_lex.specs.machine.Derivatives.{empty_part}
+use Rattle.stream_lex.specs.machine.Machine.{letters}
+use Rattle.stream_lex.specs.machine.Turns.{Outcome, leads, fails, at, turn}
+use Rattle.stream_lex.specs.machine.Live.{is_live_stage, is_live}
+use Rattle.stream_lex.specs.machine.Leading.{Left}
+use Rattle.stream_lex.specs.machine.Rests.{rest_of_fixed, rest_at}
 use Rattle.stream_lex.proofs.Lists.{same_head, same_tail, cons_not_nil, said-same}
 use Rattle.stream_lex.proofs.Derivative.{empty_part-to}
 use Rattle.stream_lex.proofs.Spans.{Width, width1, width2, width3, width4, width_of, between-parts}
 use Rattle.stream_lex.proofs.Living.{LeadsLive, live-parts}
 use Rattle.stream_lex.proofs.Ended.{left-done}
-use Rattle.stream_lex.specs.Reading.{lines, Reads}
+use Rattle.stream_lex.specs.grammar.Reading.{lines, Reads}
 use Rattle.stream_lex.proofs.ByteSteps.{left-plain}
-use Rattle.stream_grammar.specs.Streams.{IsShortest}
+use Rattle.stream_grammar.specs.grammar.Streams.{IsShortest}
 use Rattle.stream_grammar.proofs.Nested.{no_token}
 use Rattle.stream_grammar.proofs.Finishing.{carried}
 use Rattle.stream_grammar.proofs.Running.{then_run, run_on, run}

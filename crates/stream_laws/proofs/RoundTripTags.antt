@@ -14,14 +14,14 @@ use Rattle.stream_lex.specs.declared.stages.Stage.{Stage}
 use Rattle.stream_lex.specs.declared.stages.Stage.TheVariants as stage
 use Rattle.stream_lex.specs.declared.stages.State.{State}
 use Rattle.stream_lex.specs.declared.characters.Pending.TheVariants as pending
-use Rattle.stream_lex.specs.Kinds.{ascii_kind}
-use Rattle.stream_lex.specs.Grammar.{first_name_token, next_name_token, spread}
-use Rattle.stream_lex.specs.Machine.{ascii, in_name, in_tag}
-use Rattle.stream_lex.specs.Turns.{leads, at, turn, turn_ascii}
+use Rattle.stream_lex.specs.grammar.Kinds.{ascii_kind}
+use Rattle.stream_lex.specs.grammar.Grammar.{first_name_token, next_name_token, spread}
+use Rattle.stream_lex.specs.machine.Machine.{ascii, in_name, in_tag}
+use Rattle.stream_lex.specs.machine.Turns.{leads, at, turn, turn_ascii}
 use Rattle.stream_grammar.specs.declared.namespaces.Written.{Written}
-use Rattle.stream_grammar.specs.Trees.{RawName, RawAttribute, attribute_tokens, attributes_tokens, end_tokens}
-use Rattle.stream_grammar.specs.Gathering.{written}
-use Rattle.stream_grammar.specs.Proper.{IsNcName, IsXmlText}
+use Rattle.stream_grammar.specs.grammar.Trees.{RawName, RawAttribute, attribute_tokens, attributes_tokens, end_tokens}
+use Rattle.stream_grammar.specs.grammar.Tags.{written}
+use Rattle.stream_grammar.specs.grammar.Proper.{IsNcName, IsXmlText}
 use Rattle.stream_laws.proofs.RoundTripRuns.{Runs, RunsLast, last-then, runs-none, runs-then, runs-step, runs-one, runs-told, runs-text, between}
 use Rattle.stream_laws.proofs.RoundTripNames.{Begins, name-runs, first-byte, less-begins, mark-begins, attribute-begins, colon-begins, spread-more, spread-map}
 use Rattle.stream_laws.proofs.RoundTripText.{Gap, plain, bracketed, gap_stage, in_quotes, characters-value}
@@ -131,7 +131,7 @@ attributes-run t (a ∷ more) e =
 abbrev pub gap_state : Gap → Bool → State
 gap_state g r = at (gap_stage g) pending.Nothing r
 
-less-turn : (g : Gap) (r : Bool) → turn (gap_state g r) 60 ≡ leads (between stage.Less) []
+pub less-turn : (g : Gap) (r : Bool) → turn (gap_state g r) 60 ≡ leads (between stage.Less) []
 unfolding turn_ascii ascii_kind ascii
 less-turn plain true = refl
 less-turn plain false = refl

@@ -15,11 +15,11 @@ use Rattle.stream_lex.specs.declared.stages.Brackets.{Brackets}
 use Rattle.stream_lex.specs.declared.stages.Brackets.TheVariants.{One, Many}
 use Rattle.stream_lex.specs.declared.stages.Stage.{Stage}
 use Rattle.stream_lex.specs.declared.stages.Stage.TheVariants as stage
-use Rattle.stream_lex.specs.Classes.{has_between, characters, is_xml}
-use Rattle.stream_lex.specs.Kinds.{ascii_kind, is_kind, is_plain, is_value_character}
-use Rattle.stream_lex.specs.Machine.{yields, ascii, in_reference, in_number, in_tag, in_value, allowed_at, voice, through}
-use Rattle.stream_lex.specs.Turns.{settled, turn_ascii}
-use Rattle.stream_lex.specs.Live.{is_live}
+use Rattle.stream_lex.specs.grammar.Classes.{has_between, characters, is_xml}
+use Rattle.stream_lex.specs.grammar.Kinds.{ascii_kind, is_kind, is_plain, is_value_character}
+use Rattle.stream_lex.specs.machine.Machine.{yields, ascii, in_reference, in_number, in_tag, in_value, allowed_at, voice, through}
+use Rattle.stream_lex.specs.machine.Turns.{settled, turn_ascii}
+use Rattle.stream_lex.specs.machine.Live.{is_live}
 use Rattle.stream_lex.proofs.Lists.{false-true}
 use Rattle.stream_lex.proofs.Spans.{Width, width1, width2, width3, width4, width_of, encode1}
 use Rattle.stream_laws.proofs.RoundTripRuns.{Runs, runs-none, runs-then, runs-one, runs-text, between, ascii-turn, wide-runs}

@@ -3,10 +3,11 @@ use Rattle.std.proofs.Common.{◌≡◌, List, [], ◌∷◌, map, sym, ◌∙�
 use Rattle.std.specs.List.{AllByRecursion}
 use Rattle.stanza_tree.specs.declared.node.Element.{Element}
 use Rattle.stanza_tree.specs.declared.node.Node.{Node}
-use Rattle.stanza_tree.specs.declared.node.Node.TheFolds.{every-Node, every_here-Element, every_held-Element, every_held-Node, ind-Element, map-Node, map-Element}
+use Rattle.stanza_tree.specs.declared.node.Node.TheFolds.{every-Node, every_here-Element, every_held-Element}
+use Rattle.stanza_tree.specs.declared.node.Node.TheFolds.{every_held-Node, ind-Element, map-Node, map-Element}
 use Rattle.stanza_tree.specs.declared.node.Node.TheOpen.{Node-F, Element-F, Child, Words}
 use Rattle.stanza_tree.specs.declared.node.Node.TheViews.{out-Node, out-Element, roll-Node, roll-Element, out-roll-Node, out-roll-Element}
-use Rattle.stream_grammar.specs.Proper.{IsProperPart, IsProper}
+use Rattle.stream_grammar.specs.grammar.Proper.{IsProperPart, IsProper}
 
 -- of a node that is an element
 abbrev pub NodeIs : (Element → Type 0) → Node-F Node Element → Type 0

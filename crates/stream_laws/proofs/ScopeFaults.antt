@@ -7,16 +7,17 @@ use Rattle.stream_grammar.specs.declared.FrameFault.TheVariants as fault
 use Rattle.stream_grammar.specs.declared.namespaces.NameFault.{NameFault}
 use Rattle.stream_grammar.specs.declared.namespaces.NameFault.TheVariants as name
 use Rattle.stream_grammar.specs.declared.item.Limits.{Limits}
-use Rattle.stream_grammar.specs.Trees.{RawTag}
-use Rattle.stream_grammar.specs.Streams.{Begins}
-use Rattle.stream_grammar.specs.Framing.{frame_after, first_frame, is_broken}
-use Rattle.stream_grammar.specs.Gathering.{whole_tag}
-use Rattle.stream_grammar.specs.Elements.{fault_of_tag}
-use Rattle.stream_grammar.specs.Building.{nothing_built}
-use Rattle.stream_grammar.specs.Reading.{Reading, reads, stopped, first_reading, is_stopped, went, rules_of, told_number}
-use Rattle.stream_grammar.specs.Extents.{IsPastLimit}
-use Rattle.stream_grammar.specs.Paths.{Step, scope_of, EndsTag, name_kind, IsNameFault}
-use Rattle.stream_grammar.specs.Parts.{IsLargeEnd, IsByteFault}
+use Rattle.stream_grammar.specs.grammar.Trees.{RawTag}
+use Rattle.stream_grammar.specs.grammar.Streams.{Begins}
+use Rattle.stream_grammar.specs.machine.Framing.{frame_after, first_frame, is_broken}
+use Rattle.stream_grammar.specs.grammar.Tags.{whole_tag}
+use Rattle.stream_grammar.specs.grammar.Elements.{fault_of_tag}
+use Rattle.stream_grammar.specs.machine.Building.{nothing_built}
+use Rattle.stream_grammar.specs.machine.Reading.{Reading, reads, stopped, first_reading, is_stopped, went}
+use Rattle.stream_grammar.specs.grammar.Bounds.{rules_of, told_number}
+use Rattle.stream_grammar.specs.grammar.Extents.{IsPastLimit}
+use Rattle.stream_grammar.specs.grammar.Paths.{Step, scope_of, EndsTag, name_kind, IsNameFault}
+use Rattle.stream_grammar.specs.grammar.Parts.{IsLargeEnd, IsByteFault}
 use Rattle.stream_grammar.proofs.Whole.{broken-begins}
 use Rattle.stream_laws.proofs.Coming.{told_all}
 use Rattle.stream_laws.proofs.Handing.{HasRead, went-read}

@@ -4,11 +4,13 @@ use Rattle.std.specs.Prelude.{Option, Some, None}
 use Rattle.stream_grammar.specs.declared.FrameFault.{FrameFault}
 use Rattle.stream_grammar.specs.declared.item.Limits.{Limits}
 use Rattle.stream_grammar.specs.declared.rules.Rules.{Rules}
-use Rattle.stream_grammar.specs.Framing.{Frame, open_at, ended, broken, frame_next, frame_after, is_broken, fault_at}
-use Rattle.stream_grammar.specs.Items.{told_at}
-use Rattle.stream_grammar.specs.Telling.{fault_told}
-use Rattle.stream_grammar.specs.Building.{build_all}
-use Rattle.stream_grammar.specs.Reading.{Reading, reads, stopped, first_reading, reading_next, concluded, byte_judged, or_else, handed, went, rules_of, extent_after, told_number}
+use Rattle.stream_grammar.specs.machine.Framing.{Frame, open_at, ended, broken, frame_next, frame_after, is_broken, fault_at}
+use Rattle.stream_grammar.specs.machine.Ends.{told_at}
+use Rattle.stream_grammar.specs.machine.Telling.{fault_told}
+use Rattle.stream_grammar.specs.machine.Building.{build_all}
+use Rattle.stream_grammar.specs.machine.Reading.{Reading, reads, stopped, first_reading, reading_next, concluded}
+use Rattle.stream_grammar.specs.machine.Reading.{byte_judged, or_else, handed, went, extent_after}
+use Rattle.stream_grammar.specs.grammar.Bounds.{rules_of, told_number}
 use Rattle.stream_laws.proofs.Handing.{clear}
 
 pub none-some : {X : Type 0} (x : X) → None ≡ Some x → ⊥

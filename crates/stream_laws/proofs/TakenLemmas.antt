@@ -1,12 +1,14 @@
 -- How many bytes of a piece are taken, in the words of the grammar.
-use Rattle.std.proofs.Common.{◌≡◌, ℕ, ◌+◌, ◌<◌, ◌⊎◌, inl, inr, List, [], ◌∷◌, ◌++◌, length, refl, sym, ap, ◌∙◌, subst, append-nil, Bool, true, false, not, ◌||◌, arith}
+use Rattle.std.proofs.Common.{◌≡◌, ℕ, ◌+◌, ◌<◌, ◌⊎◌, inl, inr, List, [], ◌∷◌, ◌++◌, length, refl, sym, ap, ◌∙◌}
+use Rattle.std.proofs.Common.{subst, append-nil, Bool, true, false, not, ◌||◌, arith}
 use Rattle.std.specs.Prelude.{Option, Some, None, if◌then◌else◌}
 use Rattle.stream_lex.proofs.Lists.{same_head, same_tail, cons_not_nil, false-true}
 use Rattle.stream_grammar.specs.declared.FrameFault.{FrameFault}
 use Rattle.stream_grammar.specs.declared.item.Item.{Item}
 use Rattle.stream_grammar.specs.declared.item.Limits.{Limits}
-use Rattle.stream_grammar.specs.Parts.{AreFaultless, IsFault}
-use Rattle.stream_grammar.specs.Reading.{Reading, reads, stopped, first_reading, reading_next, is_stopped, is_ready, is_none, is_done, handed, taken, taken_reading, waiting, went}
+use Rattle.stream_grammar.specs.grammar.Parts.{AreFaultless, IsFault}
+use Rattle.stream_grammar.specs.machine.Reading.{Reading, reads, stopped, first_reading, reading_next, is_stopped, is_ready}
+use Rattle.stream_grammar.specs.machine.Reading.{is_none, is_done, handed, taken, taken_reading, waiting, went}
 use Rattle.stream_laws.specs.Takes.{IsStop, HasNoStop, IsTaken}
 use Rattle.stream_laws.proofs.Judged.{none-some}
 use Rattle.stream_laws.proofs.Waiting.{item_waits}

@@ -1,27 +1,33 @@
 -- The item that waits after a byte, by the token that the byte told.
-use Rattle.std.proofs.Common.{◌≡◌, ℕ, zero, suc, inl, inr, append_assoc, append-nil, List, [], ◌∷◌, ◌++◌, ◌+◌, length, refl, sym, ap, ◌∙◌, subst, Bool, true, false, cond, ◌==◌}
+use Rattle.std.proofs.Common.{◌≡◌, ℕ, zero, suc, inl, inr, append_assoc, append-nil, List, [], ◌∷◌, ◌++◌, ◌+◌}
+use Rattle.std.proofs.Common.{length, refl, sym, ap, ◌∙◌, subst, Bool, true, false, cond, ◌==◌}
 use Rattle.std.specs.Prelude.{Option, Some, None, if◌then◌else◌}
 use Rattle.stream_lex.specs.declared.Token.{Token}
 use Rattle.stream_lex.specs.declared.Token.TheVariants as token
 use Rattle.stream_lex.specs.declared.stages.State.{State}
-use Rattle.stream_lex.specs.Turns.{Outcome, leads, fails, turn}
+use Rattle.stream_lex.specs.machine.Turns.{Outcome, leads, fails, turn}
 use Rattle.stanza_tree.specs.declared.node.Element.{Element}
 use Rattle.stream_grammar.specs.declared.namespaces.Binding.{Binding}
 use Rattle.stream_grammar.specs.declared.item.Item.{Item}
 use Rattle.stream_grammar.specs.declared.item.Item.TheVariants as item
 use Rattle.stream_grammar.specs.declared.rules.Rules.{Rules}
-use Rattle.stream_grammar.specs.Trees.{RawTag, Content, nothing, word, element, hollow, tag_tokens, content_tokens, end_tokens, declaration_tokens, stream_tokens}
-use Rattle.stream_grammar.specs.Nesting.{Nest, nest, nest_all, start, declared, inside, naming, in_tag, naming_attribute, in_value, closing, lost}
-use Rattle.stream_grammar.specs.Framing.{Frame, open_at, ended, broken, placed, settled, frame_next, frame_after, first_frame, is_broken, has_ended}
-use Rattle.stream_grammar.specs.Items.{is_between_tops, told_at, tokens_told, head_tokens, ends_so, HasCome}
-use Rattle.stream_grammar.specs.Gathering.{nothing_gathered, whole_tag}
-use Rattle.stream_grammar.specs.Elements.{inside_of, element_with, elements_on, outside_all, header_of, default_of, IsNamed}
-use Rattle.stream_grammar.specs.Building.{Opened, Building, nothing_built, ended_in, closed_in, worded_in, build, build_all}
+use Rattle.stream_grammar.specs.grammar.Trees.{RawTag, Content, nothing, word, element, hollow, tag_tokens}
+use Rattle.stream_grammar.specs.grammar.Trees.{content_tokens, end_tokens, declaration_tokens, stream_tokens}
+use Rattle.stream_grammar.specs.machine.Nesting.{Nest, nest, nest_all, start, declared, inside, naming, in_tag, naming_attribute, in_value, closing, lost}
+use Rattle.stream_grammar.specs.machine.Framing.{Frame, open_at, ended, broken, placed, settled, frame_next, frame_after, first_frame, is_broken, has_ended}
+use Rattle.stream_grammar.specs.machine.Ends.{is_between_tops, told_at, tokens_told}
+use Rattle.stream_grammar.specs.grammar.Items.{head_tokens, ends_so, HasCome}
+use Rattle.stream_grammar.specs.machine.Gathering.{nothing_gathered}
+use Rattle.stream_grammar.specs.grammar.Tags.{whole_tag}
+use Rattle.stream_grammar.specs.grammar.Elements.{inside_of, element_with, elements_on, outside_all, header_of, default_of, IsNamed}
+use Rattle.stream_grammar.specs.machine.Building.{Opened, Building, nothing_built, ended_in, closed_in, worded_in, build, build_all}
 use Rattle.stream_grammar.specs.declared.FrameFault.{FrameFault}
 use Rattle.stream_grammar.specs.declared.item.Limits.{Limits}
-use Rattle.stream_grammar.specs.Parts.{IsItem}
-use Rattle.stream_grammar.specs.Telling.{are_words, fault_told}
-use Rattle.stream_grammar.specs.Reading.{Reading, reads, stopped, first_reading, reading_next, concluded, byte_judged, or_else, waiting, handed, is_stopped, went, rules_of, extent_after, told_number}
+use Rattle.stream_grammar.specs.grammar.Parts.{IsItem}
+use Rattle.stream_grammar.specs.machine.Telling.{are_words, fault_told}
+use Rattle.stream_grammar.specs.machine.Reading.{Reading, reads, stopped, first_reading, reading_next, concluded, byte_judged}
+use Rattle.stream_grammar.specs.machine.Reading.{or_else, waiting, handed, is_stopped, went, extent_after}
+use Rattle.stream_grammar.specs.grammar.Bounds.{rules_of, told_number}
 use Rattle.stream_grammar.proofs.Few.{turn-few}
 use Rattle.stream_grammar.proofs.Whole.{first-sound}
 use Rattle.stream_laws.proofs.Ending.{ends_element, head-ends, head-empty, regroup-stream}

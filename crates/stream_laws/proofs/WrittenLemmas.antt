@@ -1,5 +1,6 @@
 -- A framer that reads the text of a proper element has it waiting after the last byte, and nothing before.
-use Rattle.std.proofs.Common.{◌≡◌, ℕ, suc, ◌+◌, ◌≤◌, ◌⊎◌, inl, inr, List, [], ◌∷◌, ◌++◌, length, refl, sym, ap, ◌∙◌, subst, append_assoc, append-nil, Bool, true, false, arith}
+use Rattle.std.proofs.Common.{◌≡◌, ℕ, suc, ◌+◌, ◌≤◌, ◌⊎◌, inl, inr, List, [], ◌∷◌, ◌++◌, length, refl, sym, ap}
+use Rattle.std.proofs.Common.{◌∙◌, subst, append_assoc, append-nil, Bool, true, false, arith}
 use Rattle.std.proofs.lemmas.List.{length-append}
 use Rattle.std.specs.Prelude.{None}
 use Rattle.stanza_tree.specs.declared.node.Element.{Element}
@@ -7,7 +8,7 @@ use Rattle.stanza_tree.specs.Spelling.{text, client_space}
 use Rattle.stream_lex.specs.declared.Token.{Token}
 use Rattle.stream_lex.specs.declared.Token.TheVariants as token
 use Rattle.stream_lex.specs.declared.stages.State.{State}
-use Rattle.stream_lex.specs.Turns.{Outcome, leads, fails, turn}
+use Rattle.stream_lex.specs.machine.Turns.{Outcome, leads, fails, turn}
 use Rattle.stream_lex.proofs.Lists.{same_head, same_tail, cons_not_nil, false-true}
 use Rattle.stream_grammar.specs.declared.FrameFault.{FrameFault}
 use Rattle.stream_grammar.specs.declared.item.Item.{Item}
@@ -15,26 +16,26 @@ use Rattle.stream_grammar.specs.declared.item.Item.TheVariants as item
 use Rattle.stream_grammar.specs.declared.item.Limits.{Limits}
 use Rattle.stream_grammar.specs.declared.namespaces.Binding.{Binding}
 use Rattle.stream_grammar.specs.declared.rules.Rules.{Rules}
-use Rattle.stream_grammar.specs.Building.{Building, nothing_built, build_all}
-use Rattle.stream_grammar.specs.Elements.{inside_of, outside_all, default_of, tops_of, fault_of_tag, IsNamed}
-use Rattle.stream_grammar.specs.Extents.{HasOpenItem, IsPastLimit}
-use Rattle.stream_grammar.specs.Framing.{Frame, open_at, frame_after, first_frame, is_broken}
-use Rattle.stream_grammar.specs.Gathering.{whole_tag}
-use Rattle.stream_grammar.specs.Items.{head_tokens, HasCome, EndsHeader, EndsTop, in_item, told_at, tokens_told}
-use Rattle.stream_grammar.specs.Nesting.{Nest, inside, nest_all}
-use Rattle.stream_grammar.specs.Parts.{IsItem}
-use Rattle.stream_grammar.specs.Paths.{scope_of, tokens_to, IsNameFault}
-use Rattle.stream_grammar.specs.Reading.{rules_of}
-use Rattle.stream_grammar.specs.RoundTrips.{IsWritable, end_tag_of}
-use Rattle.stream_grammar.specs.Streams.{Begins, IsShortest, Spells}
-use Rattle.stream_lex.specs.Reading.{Reads}
-use Rattle.stream_grammar.specs.Trees.{RawName, RawTag, Content}
+use Rattle.stream_grammar.specs.machine.Building.{Building, nothing_built, build_all}
+use Rattle.stream_grammar.specs.grammar.Elements.{inside_of, outside_all, default_of, tops_of, fault_of_tag, IsNamed}
+use Rattle.stream_grammar.specs.machine.Framing.{Frame, open_at, frame_after, first_frame, is_broken}
+use Rattle.stream_grammar.specs.grammar.Tags.{whole_tag}
+use Rattle.stream_grammar.specs.grammar.Items.{head_tokens, HasCome, EndsHeader, EndsTop}
+use Rattle.stream_grammar.specs.machine.Ends.{in_item, told_at, tokens_told}
+use Rattle.stream_grammar.specs.machine.Nesting.{Nest, inside, nest_all}
+use Rattle.stream_grammar.specs.grammar.Parts.{IsItem}
+use Rattle.stream_grammar.specs.grammar.Paths.{scope_of, tokens_to, IsNameFault}
+use Rattle.stream_grammar.specs.grammar.Bounds.{rules_of}
+use Rattle.stream_grammar.specs.grammar.RoundTrips.{IsWritable, end_tag_of}
+use Rattle.stream_grammar.specs.grammar.Streams.{Begins, IsShortest, Spells}
+use Rattle.stream_lex.specs.grammar.Reading.{Reads}
+use Rattle.stream_grammar.specs.grammar.Trees.{RawName, RawTag, Content}
 use Rattle.stream_grammar.proofs.Following.{Sound}
 use Rattle.stream_grammar.proofs.Running.{then_run, run_on, run}
 use Rattle.stream_laws.proofs.Closing.{spells-ended}
 use Rattle.stream_laws.proofs.Coming.{told_all}
 use Rattle.stream_laws.proofs.Ending.{last-same, ends_element, head-ends}
-use Rattle.stream_laws.proofs.Extents.{after-last, sound-at}
+use Rattle.stream_laws.proofs.Extents.{IsOpenAt, IsPastAt, after-last, sound-at}
 use Rattle.stream_laws.proofs.Faulting.{some-same}
 use Rattle.stream_laws.proofs.Faultless.{cons-after}
 use Rattle.stream_laws.proofs.HandedOut.{item-set-by}
@@ -190,18 +191,18 @@ front-at r bytes e a xs zs p =
     }
 
 -- after a token of the element it is open
-token-open : (r : Rules) (bytes xs : List ℕ) (name : RawName) (told : List Token) (i : IsFront r bytes xs name told) → Stays r (inside (name ∷ [])) told → (i.us ≡ [] → ⊥) → HasOpenItem r (bytes ++ xs)
+token-open : (r : Rules) (bytes xs : List ℕ) (name : RawName) (told : List Token) (i : IsFront r bytes xs name told) → Stays r (inside (name ∷ [])) told → (i.us ≡ [] → ⊥) → IsOpenAt r (bytes ++ xs)
 token-open r bytes xs name told i stays some = by i.us i.frame (subst (Stays r (inside (name ∷ []))) i.cut stays) some
   where
-    deep : (us : List Token) → frame_after r first_frame (bytes ++ xs) ≡ open_at i.state (nest_all r (inside (name ∷ [])) us) → IsDeep (nest_all r (inside (name ∷ [])) us) → HasOpenItem r (bytes ++ xs)
+    deep : (us : List Token) → frame_after r first_frame (bytes ++ xs) ≡ open_at i.state (nest_all r (inside (name ∷ [])) us) → IsDeep (nest_all r (inside (name ∷ [])) us) → IsOpenAt r (bytes ++ xs)
     deep us e (inl h) = ap in_item e ∙ h
     deep us e (inr h) = absurd (subst (Sound r) (e ∙ ap (open_at i.state) h) (sound-at r (bytes ++ xs))).opens
 
-    by : (us : List Token) → frame_after r first_frame (bytes ++ xs) ≡ open_at i.state (nest_all r (inside (name ∷ [])) us) → Stays r (inside (name ∷ [])) (us ++ i.vs) → (us ≡ [] → ⊥) → HasOpenItem r (bytes ++ xs)
+    by : (us : List Token) → frame_after r first_frame (bytes ++ xs) ≡ open_at i.state (nest_all r (inside (name ∷ [])) us) → Stays r (inside (name ∷ [])) (us ++ i.vs) → (us ≡ [] → ⊥) → IsOpenAt r (bytes ++ xs)
     by [] e s some = absurd (some refl)
     by (u ∷ us) e s some = deep (u ∷ us) e (stays-last r u us (inside (name ∷ [])) (stays-front r (u ∷ us) i.vs (inside (name ∷ [])) s))
 
-none-open : (r : Rules) (bytes xs : List ℕ) (name : RawName) (told : List Token) (i : IsFront r bytes xs name told) → i.us ≡ [] → HasOpenItem r (bytes ++ xs) → ⊥
+none-open : (r : Rules) (bytes xs : List ℕ) (name : RawName) (told : List Token) (i : IsFront r bytes xs name told) → i.us ≡ [] → IsOpenAt r (bytes ++ xs) → ⊥
 none-open r bytes xs name told i none h = let bad : false ≡ true = sym (ap in_item (i.frame ∙ ap (λ (us : List Token). open_at i.state (nest_all r (inside (name ∷ [])) us)) none)) ∙ h in false-true bad
 
 -- No item ends before the last byte.
@@ -221,7 +222,7 @@ nothing-ends r bytes e a xs zs b p ends =
     let group : bytes ++ (xs ++ b ∷ []) ≡ (bytes ++ xs) ++ b ∷ [] = sym (append_assoc bytes xs (b ∷ [])) in
     let longer : told_all r first_frame bytes ++ after.us ≡ (told_all r first_frame bytes ++ before.us) ++ told_at (frame_after r first_frame (bytes ++ xs)) b =
     sym after.all ∙ (ap (told_all r first_frame) group ∙ (told-last r (bytes ++ xs) b ∙ ap (λ (l : List Token). l ++ told_at (frame_after r first_frame (bytes ++ xs)) b) before.all)) in
-    let open_not : HasOpenItem r (bytes ++ (xs ++ b ∷ [])) → ⊥ = λ h. never (subst (HasOpenItem r) group h) in
+    let open_not : IsOpenAt r (bytes ++ (xs ++ b ∷ [])) → ⊥ = λ h. never (subst (IsOpenAt r) group h) in
     by after.us (λ some. open_not (token-open r bytes (xs ++ b ∷ []) a.name a.told after a.stays some)) (λ none. none-open r bytes xs a.name a.told before (fewer (told_all r first_frame bytes) before.us after.us _ longer none) was)
   where
     by : (us : List Token) → ((us ≡ [] → ⊥) → ⊥) → (us ≡ [] → ⊥) → ⊥
@@ -301,7 +302,7 @@ gap-calm (bracketed b) c = refl
 closed-before : (r : Rules) (bytes : List ℕ) (e : Element) (a : IsAdding r bytes e) → in_item (frame_after r first_frame bytes) ≡ false
 closed-before r bytes e a = ap in_item a.frame
 
-closed-first : (r : Rules) (bytes : List ℕ) (e : Element) (a : IsAdding r bytes e) (x : ℕ) → HasOpenItem r (bytes ++ x ∷ []) → ⊥
+closed-first : (r : Rules) (bytes : List ℕ) (e : Element) (a : IsAdding r bytes e) (x : ℕ) → IsOpenAt r (bytes ++ x ∷ []) → ⊥
 closed-first r bytes e a x h =
     let less : AfterLess (frame_after r first_frame bytes) = opens-after r (frame_after r first_frame bytes) x (sound-at r bytes) (closed-before r bytes e a) (ap in_item (sym (after-last r bytes x)) ∙ h) in
     let bad : false ≡ true = sym (gap-calm a.gap a.returned) ∙ subst AfterLess a.frame less in false-true bad
@@ -313,7 +314,7 @@ two-bytes r bytes e a = by a.front a.way a.some (ap length (sym a.text_is) ∙ l
     by [] way (v, vs, some) long = absurd (let bad : [] ≡ v ∷ vs = lead-told (gap_state a.gap a.returned) a.state [] a.told way ∙ some in cc)
     by (x ∷ front) way some long = omega (arith, long)
 
-pub no-past : (l : Limits) (bytes : List ℕ) (e : Element) (a : IsAdding (rules_of l) bytes e) (xs zs : List ℕ) (b : ℕ) → text e ≡ xs ++ (b ∷ zs) → length (text e) ≤ l.bytes → IsPastLimit l (bytes ++ xs) b → ⊥
+pub no-past : (l : Limits) (bytes : List ℕ) (e : Element) (a : IsAdding (rules_of l) bytes e) (xs zs : List ℕ) (b : ℕ) → text e ≡ xs ++ (b ∷ zs) → length (text e) ≤ l.bytes → IsPastAt l (bytes ++ xs) b → ⊥
 no-past l bytes e a xs zs b p short (open_so, (us, vs, split, since, long)) = by (cut-less bytes xs us vs 60 split)
   where
     size : length (text e) ≡ length xs + suc (length zs)
@@ -324,8 +325,8 @@ no-past l bytes e a xs zs b p short (open_so, (us, vs, split, since, long)) = by
       where
         first : (xs : List ℕ) → vs ≡ xs → ⊥
         first [] h = let two : 2 ≤ length (text e) = two-bytes (rules_of l) bytes e a in let none : length vs ≡ 0 = ap length h in omega (arith, two, none, long, short)
-        first (x ∷ more) h = closed-first (rules_of l) bytes e a x (subst (HasOpenItem (rules_of l)) (sym (ap (λ (z : List ℕ). z ++ x ∷ []) q ∙ append_assoc us (60 ∷ []) (x ∷ []))) (since.1 (x ∷ []) more h (λ n. cons_not_nil x [] n)))
-    in_bytes (w ∷ ws) q h = let bad : false ≡ true = sym (closed-before (rules_of l) bytes e a) ∙ subst (HasOpenItem (rules_of l)) (sym q) (since.1 (w ∷ ws) xs h (λ n. cons_not_nil w ws n)) in false-true bad
+        first (x ∷ more) h = closed-first (rules_of l) bytes e a x (subst (IsOpenAt (rules_of l)) (sym (ap (λ (z : List ℕ). z ++ x ∷ []) q ∙ append_assoc us (60 ∷ []) (x ∷ []))) (since.1 (x ∷ []) more h (λ n. cons_not_nil x [] n)))
+    in_bytes (w ∷ ws) q h = let bad : false ≡ true = sym (closed-before (rules_of l) bytes e a) ∙ subst (IsOpenAt (rules_of l)) (sym q) (since.1 (w ∷ ws) xs h (λ n. cons_not_nil w ws n)) in false-true bad
 
     by : ((ws : List ℕ) × (bytes ≡ us ++ (60 ∷ ws)) × (vs ≡ ws ++ xs)) ⊎ ((ws : List ℕ) × (us ≡ bytes ++ ws) × (xs ≡ ws ++ (60 ∷ vs))) → ⊥
     by (inl (ws, q, h)) = in_bytes ws q h

@@ -1,30 +1,8 @@
--- Calls of a framer, one after the other, by their contracts.
-use Rattle.std.specs.Prelude.{◌≡◌, ℕ, ◌<◌, List, [], ◌∷◌, ◌++◌, take, drop, Bool, true, false, if◌then◌else◌, Option, option_to_list}
+-- What calls of a framer are fed, and what they hand out.
+use Rattle.std.specs.Prelude.{◌≡◌, ℕ, List, [], ◌∷◌, ◌++◌, drop, Bool, true, false, if◌then◌else◌}
 use Rattle.stream_grammar.specs.declared.item.Item.{Item}
 use Rattle.stream_grammar.specs.declared.item.Item.TheVariants as item
-use Rattle.stream_grammar.specs.declared.item.Limits.{Limits}
-use Rattle.stream_grammar.specs.Reading.{Reading, reading_after, taken, waiting, handed, is_ready}
-
--- A call and its answer: `feed` of a piece, and how many of its bytes were taken; `feed` that had no memory to read on, and how many were
--- taken before; `next`, and the item that it handed out.
-pub data Call : Type 0 where
-  feeds : List ℕ → ℕ → Call
-  falls_short : List ℕ → ℕ → Call
-  hands : Option Item → Call
-
--- From the reading s these calls lead to the reading t, and `next` hands these items out in all.
-abbrev pub Fed : Limits → Reading → List Call → List Item → Reading → Type 0
-Fed l s [] items t = (items ≡ []) × (t ≡ s)
-Fed l s (feeds piece n ∷ calls) items t = (is_ready s ≡ true) × (n ≡ taken l s piece) × Fed l (reading_after l s (take n piece)) calls items t
-Fed l s (falls_short piece n ∷ calls) items t = (is_ready s ≡ true) × (n < taken l s piece) × Fed l (reading_after l s (take n piece)) calls items t
-Fed l s (hands next ∷ calls) items t = (next ≡ waiting s) × ((later : List Item) × (items ≡ option_to_list next ++ later) × Fed l (handed s) calls later t)
-
--- the bytes that they took
-abbrev pub bytes_taken : List Call → List ℕ
-bytes_taken [] = []
-bytes_taken (feeds piece n ∷ calls) = take n piece ++ bytes_taken calls
-bytes_taken (falls_short piece n ∷ calls) = take n piece ++ bytes_taken calls
-bytes_taken (hands next ∷ calls) = bytes_taken calls
+use Rattle.stream_grammar.specs.machine.Calls.{Call, feeds, falls_short, hands}
 
 -- The calls are fed these bytes, cut anywhere, and leave the rest: each piece is what comes next, and of a piece that was not taken whole
 -- what is left comes next again.

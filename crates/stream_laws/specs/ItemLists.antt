@@ -5,8 +5,9 @@ use Rattle.stream_grammar.specs.declared.item.Item.{Item}
 use Rattle.stream_grammar.specs.declared.item.Item.TheVariants as item
 use Rattle.stream_grammar.specs.declared.item.Limits.{Limits}
 use Rattle.stream_grammar.specs.declared.rules.Rules.{Rules}
-use Rattle.stream_grammar.specs.Parts.{IsItem, AreFaultless, IsFault}
-use Rattle.stream_grammar.specs.Reading.{Reading, reads, stopped, waiting, went, rules_of, told_number}
+use Rattle.stream_grammar.specs.grammar.Parts.{IsItem, AreFaultless, IsFault}
+use Rattle.stream_grammar.specs.machine.Reading.{Reading, reads, stopped, waiting, went}
+use Rattle.stream_grammar.specs.grammar.Bounds.{rules_of, told_number}
 
 -- After the bytes xs these items end with bytes of ys, in the order of the bytes, and no others: at each byte the item of the grammar
 -- that ends with it, or none where none does.
@@ -23,6 +24,11 @@ AreItems l bytes items =
     (AreFaultless l bytes × AreEnding (rules_of l) [] bytes items)
     ⊎ ((k : ℕ) × (f : FrameFault) × (before : List Item) × IsFault l bytes k f × AreEnding (rules_of l) [] (take (k - 1) bytes) before
     × (items ≡ before ++ item.Broken f (told_number k) ∷ []))
+
+-- After the bytes before, these items end in further bytes, in their order, and then comes the fault of these: with the items of the bytes
+-- before they are those of all.
+abbrev pub AreNext : Limits → List ℕ → List ℕ → List Item → Type 0
+AreNext l before bytes items = (earlier : List Item) × AreItems l before earlier × AreItems l (before ++ bytes) (earlier ++ items)
 
 -- The same by the fold over the bytes, where each item is handed out before the next byte, and a fault once.
 

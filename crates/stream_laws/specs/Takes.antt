@@ -3,8 +3,8 @@ use Rattle.std.specs.Prelude.{◌≡◌, ℕ, ◌+◌, ◌⊎◌, List, [], ◌�
 use Rattle.stream_grammar.specs.declared.FrameFault.{FrameFault}
 use Rattle.stream_grammar.specs.declared.item.Item.{Item}
 use Rattle.stream_grammar.specs.declared.item.Limits.{Limits}
-use Rattle.stream_grammar.specs.Parts.{IsItem, IsByteFault}
-use Rattle.stream_grammar.specs.Reading.{rules_of}
+use Rattle.stream_grammar.specs.grammar.Parts.{IsItem, IsByteFault}
+use Rattle.stream_grammar.specs.grammar.Bounds.{rules_of}
 
 -- the byte after these ends an item, or it has a fault
 abbrev pub IsStop : Limits → List ℕ → ℕ → Type 0

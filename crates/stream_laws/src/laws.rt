@@ -2,11 +2,13 @@
 
 ghost use Rattle.std.specs.Prelude.{◌≡◌, ℕ, List, [], ◌∷◌, ◌++◌, Bool, true, false};
 ghost use Rattle.stream_grammar.specs.declared.rules.Rules.{Rules};
-ghost use Rattle.stream_grammar.specs.Streams.{Spells, Begins};
-ghost use Rattle.stream_grammar.specs.Trees.{RawTag, Stream, tag_tokens};
-ghost use Rattle.stream_grammar.specs.Gathering.{Gathered, gather_all, whole_tag};
-ghost use Rattle.stream_grammar.specs.Faults.{IsSyntaxKind};
-ghost use Rattle.stream_grammar.specs.Items.{EndsHeader, EndsTop, is_header_end, is_top_end};
+ghost use Rattle.stream_grammar.specs.grammar.Streams.{Spells, Begins};
+ghost use Rattle.stream_grammar.specs.grammar.Trees.{RawTag, Stream, tag_tokens};
+ghost use Rattle.stream_grammar.specs.grammar.Tags.{Gathered, whole_tag};
+ghost use Rattle.stream_grammar.specs.machine.Gathering.{gather_all};
+ghost use Rattle.stream_grammar.specs.grammar.Faults.{IsSyntaxKind};
+ghost use Rattle.stream_grammar.specs.grammar.Items.{EndsHeader, EndsTop};
+ghost use Rattle.stream_grammar.specs.machine.Ends.{is_header_end, is_top_end, is_open};
 ghost use Rattle.std.specs.Prelude.{◌+◌, ◌^◌, ◌<◌, ◌⊎◌, length, take, Some, None};
 ghost use Rattle.stream_grammar.specs.declared.FrameFault.{FrameFault};
 ghost use Rattle.stream_grammar.specs.declared.FrameFault.TheVariants as fault;
@@ -14,12 +16,13 @@ ghost use Rattle.stream_grammar.specs.declared.namespaces.NameFault.{NameFault};
 ghost use Rattle.stream_grammar.specs.declared.item.Item.{Item};
 ghost use Rattle.stream_grammar.specs.declared.item.Item.TheVariants as item;
 ghost use Rattle.stream_grammar.specs.declared.item.Limits.{Limits};
-ghost use Rattle.stream_grammar.specs.Reading.{Reading, reading_after, taken, is_ready, handed, first_reading, stopped, told_number, went, waiting, is_stopped, rules_of};
-ghost use Rattle.stream_grammar.specs.Elements.{fault_of_tag};
-ghost use Rattle.stream_grammar.specs.Extents.{HasOpenItem, IsSince, IsPastLimit};
-ghost use Rattle.stream_grammar.specs.Paths.{Step, scope_of, EndsTag, name_kind};
-ghost use Rattle.stream_grammar.specs.Parts.{IsItem, IsLargeEnd, AreFaultless, IsFirstFault, IsFault};
-ghost use Rattle.stream_grammar.specs.Framing.{frame_next, frame_after, first_frame, is_broken, has_ended, fault_at};
+ghost use Rattle.stream_grammar.specs.machine.Reading.{Reading, reading_after, taken, is_ready, handed, first_reading, stopped, went, waiting, is_stopped};
+ghost use Rattle.stream_grammar.specs.grammar.Bounds.{told_number, rules_of};
+ghost use Rattle.stream_grammar.specs.grammar.Elements.{fault_of_tag};
+ghost use Rattle.stream_grammar.specs.grammar.Extents.{HasOpenItem, IsSince, IsPastLimit};
+ghost use Rattle.stream_grammar.specs.grammar.Paths.{Step, scope_of, EndsTag, name_kind};
+ghost use Rattle.stream_grammar.specs.grammar.Parts.{IsItem, IsLargeEnd, AreFaultless, IsFirstFault, IsFault};
+ghost use Rattle.stream_grammar.specs.machine.Framing.{frame_next, frame_after, first_frame, is_broken, has_ended, fault_at};
 
 /// Bytes begin a stream exactly where the frame that they lead to is not broken, so the first byte that breaks
 /// it is the first with which no stream goes on. The frame is a fold over the bytes, however they are cut.
@@ -66,6 +69,12 @@ pub fn items_are_open_until_they_end()
         → EndsHeader r (bytes ++ b ∷ []) ⊎ EndsTop r (bytes ++ b ∷ []) }
     ensures ended { (r : Rules) (bytes : List ℕ) (b : ℕ)
         → EndsHeader r (bytes ++ b ∷ []) ⊎ EndsTop r (bytes ++ b ∷ []) → HasOpenItem r bytes × (HasOpenItem r (bytes ++ b ∷ []) → ⊥) }
+{}
+
+/// A header or a top element is open by the grammar exactly where it is by frames.
+pub fn open_items_are_those_of_frames()
+    ensures grammar { (r : Rules) (bytes : List ℕ) → is_open r bytes ≡ true → HasOpenItem r bytes }
+    ensures frames { (r : Rules) (bytes : List ℕ) → HasOpenItem r bytes → is_open r bytes ≡ true }
 {}
 
 /// The tokens of a tag give its name and its attributes, whatever came before.

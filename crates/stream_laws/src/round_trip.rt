@@ -6,15 +6,15 @@ ghost use Rattle.stanza_tree.specs.Attributes.{with_attr, without_attr};
 ghost use Rattle.stanza_tree.specs.Spelling.{text, client_space};
 ghost use Rattle.stanza_tree.specs.Stamps.{sent_by};
 ghost use Rattle.stream_grammar.specs.declared.rules.Rules.{Rules};
-ghost use Rattle.stream_grammar.specs.Trees.{RawTag, Content, nothing, Stream};
-ghost use Rattle.stream_grammar.specs.Streams.{Spells};
-ghost use Rattle.stream_grammar.specs.Items.{HasCome};
-ghost use Rattle.stream_grammar.specs.Elements.{default_of, header_of, tops_of, IsNamed};
-ghost use Rattle.stream_grammar.specs.Proper.{IsNcName, IsXmlText, IsProper, IsProperInParts, is_ascii_name, is_ascii_text};
-ghost use Rattle.stream_grammar.specs.Reading.{first_reading, waiting, went};
+ghost use Rattle.stream_grammar.specs.grammar.Trees.{RawTag, Content, nothing, Stream};
+ghost use Rattle.stream_grammar.specs.grammar.Streams.{Spells};
+ghost use Rattle.stream_grammar.specs.grammar.Items.{HasCome};
+ghost use Rattle.stream_grammar.specs.grammar.Elements.{default_of, header_of, tops_of, IsNamed};
+ghost use Rattle.stream_grammar.specs.grammar.Proper.{IsNcName, IsXmlText, IsProper, IsProperInParts, is_ascii_name, is_ascii_text};
+ghost use Rattle.stream_grammar.specs.machine.Reading.{first_reading, waiting, went};
 ghost use Rattle.stream_grammar.specs.declared.item.Item.TheVariants as item;
 ghost use Rattle.stream_grammar.specs.declared.item.Limits.{Limits};
-ghost use Rattle.stream_grammar.specs.RoundTrips.{HasMore, IsReadBack, IsWritable, IsTop, texts_of, end_tag_of, bare_header, bare_root};
+ghost use Rattle.stream_grammar.specs.grammar.RoundTrips.{HasMore, IsReadBack, IsWritable, IsTop, texts_of, end_tag_of, bare_header, bare_root};
 
 /// The canonical text of a proper element is read back as that element. It follows the start of a stream whose default
 /// namespace is `jabber:client`, and is one top element more there; with the end tag after it all is a stream. The rules

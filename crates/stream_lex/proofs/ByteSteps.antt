@@ -1,5 +1,6 @@
 -- What one byte does to what is left, in both directions.
-use Rattle.std.proofs.Common.{◌≡◌, ℕ, eq-eqb, ◌<◌, ◌≤◌, List, [], ◌∷◌, ◌++◌, inl, inr, map, refl, sym, ap, ◌∙◌, subst, append_assoc, Bool, true, false, not, ◌&&◌, ◌==◌, nat_lt, arith, IsUtf8, encode_utf8, encode_utf8_all}
+use Rattle.std.proofs.Common.{◌≡◌, ℕ, eq-eqb, ◌<◌, ◌≤◌, List, [], ◌∷◌, ◌++◌, inl, inr, map, refl, sym, ap, ◌∙◌, subst, append_assoc, Bool}
+use Rattle.std.proofs.Common.{true, false, not, ◌&&◌, ◌==◌, nat_lt, arith, IsUtf8, encode_utf8, encode_utf8_all}
 use Rattle.std.proofs.lemmas.Bool.{and_parts, and_from, cond_both, cond-true, cond-false, cases_lt, ne_eqb, eqb-true, ltb-true, ltb-false, false_from_ne_true}
 use Rattle.std.proofs.lemmas.List.{append-nil}
 use Rattle.std.proofs.lemmas.Str.{cons_from_encodes}
@@ -16,21 +17,23 @@ use Rattle.stream_lex.specs.declared.characters.Pending.{Pending}
 use Rattle.stream_lex.specs.declared.characters.Pending.TheVariants as pending
 use Rattle.stream_lex.specs.declared.characters.Reach.{Reach}
 use Rattle.stream_lex.specs.declared.characters.Reach.TheVariants.{Whole, Begun, Broken}
-use Rattle.stream_lex.specs.Classes.{has_between, class_of, scalar_values}
-use Rattle.stream_lex.specs.Kinds.{ascii_kind}
-use Rattle.stream_lex.specs.Characters.{bytes_of, is_begun, is_between, is_second, is_continuation, reach, reach_first, reach_second, reach_third, reach_fourth}
-use Rattle.stream_lex.specs.Expressions.{Sign, refuses, all_said, IsText}
-use Rattle.stream_lex.specs.Grammar.{spread}
-use Rattle.stream_lex.specs.Machine.{Turn, goes, stops, ascii, allowed_at, Voice, whole, by_byte, voice, voiced, through, wide_fault, passed}
-use Rattle.stream_lex.specs.Machine.{yields as tells_and_goes}
-use Rattle.stream_lex.specs.Turns.{Outcome, leads, fails, at, byte_told, end_told, settled, turn_ascii, fault_of, turn_wide, turn}
-use Rattle.stream_lex.specs.Live.{is_live_stage, is_met, is_awaited, is_live}
-use Rattle.stream_lex.specs.Rests.{rest_at, beyond_refusal}
-use Rattle.stream_lex.specs.Reading.{lines}
-use Rattle.stream_lex.specs.Leading.{heard, Left}
+use Rattle.stream_lex.specs.grammar.Classes.{has_between, class_of, scalar_values}
+use Rattle.stream_lex.specs.grammar.Kinds.{ascii_kind}
+use Rattle.stream_lex.specs.machine.Characters.{bytes_of, is_begun, is_between, is_second, is_continuation, reach}
+use Rattle.stream_lex.specs.machine.Characters.{reach_first, reach_second, reach_third, reach_fourth}
+use Rattle.stream_lex.specs.grammar.Expressions.{Sign, refuses, all_said, IsText}
+use Rattle.stream_lex.specs.grammar.Grammar.{spread}
+use Rattle.stream_lex.specs.machine.Machine.{Turn, goes, stops, ascii, allowed_at, Voice, whole, by_byte, voice, voiced, through, wide_fault, passed}
+use Rattle.stream_lex.specs.machine.Machine.{yields as tells_and_goes}
+use Rattle.stream_lex.specs.machine.Turns.{Outcome, leads, fails, at, byte_told, end_told, settled, turn_ascii, fault_of, turn_wide, turn}
+use Rattle.stream_lex.specs.machine.Live.{is_live_stage, is_met, is_awaited, is_live}
+use Rattle.stream_lex.specs.machine.Rests.{rest_at, beyond_refusal}
+use Rattle.stream_lex.specs.grammar.Reading.{lines}
+use Rattle.stream_lex.specs.machine.Leading.{heard, Left}
 use Rattle.stream_lex.proofs.Lists.{same_head, cons_not_nil, false-true, true-false, says-refuses, says-tail, said-append}
 use Rattle.stream_lex.proofs.Spans.{Within, IsRest, encode1, reach-within, reach-starts, between-parts}
-use Rattle.stream_lex.proofs.Classing.{has_between-of, has_between-has, proper-scalars, scalars-low, scalars-are, scalars-all, class-low, class-scalar, ascii-next, high-next}
+use Rattle.stream_lex.proofs.Classing.{has_between-of, has_between-has, proper-scalars, scalars-low, scalars-are}
+use Rattle.stream_lex.proofs.Classing.{scalars-all, class-low, class-scalar, ascii-next, high-next}
 use Rattle.stream_lex.proofs.Stepping.{Told, Leaves, step-to, step-from}
 use Rattle.stream_lex.proofs.Ending.{beyond_refusal-text, line-plain, clean-lines, clean-scalars}
 use Rattle.stream_lex.proofs.Living.{live-parts}

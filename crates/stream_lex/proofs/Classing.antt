@@ -9,9 +9,9 @@ use Rattle.stream_lex.specs.declared.characters.Allowed.TheVariants as allowed
 use Rattle.stream_lex.specs.declared.kinds.Kind.{Kind}
 use Rattle.stream_lex.specs.declared.kinds.Kind.TheVariants as kinds
 use Rattle.stream_lex.specs.declared.stages.Stage.{Stage}
-use Rattle.stream_lex.specs.Classes.{CharacterClass, has_between, characters, name_starts, name_characters, scalar_values, class_of}
-use Rattle.stream_lex.specs.Kinds.{ascii_kind, wide_kind, kind, is_wide}
-use Rattle.stream_lex.specs.Machine.{ascii, allowed_at, takes_start, takes_further, takes_other, passed, next}
+use Rattle.stream_lex.specs.grammar.Classes.{CharacterClass, has_between, characters, name_starts, name_characters, scalar_values, class_of}
+use Rattle.stream_lex.specs.grammar.Kinds.{ascii_kind, wide_kind, kind, is_wide}
+use Rattle.stream_lex.specs.machine.Machine.{ascii, allowed_at, takes_start, takes_further, takes_other, passed, next}
 use Rattle.stream_lex.proofs.Lists.{false-true}
 
 two : (a b c d : ℕ) → (nat_le a b && nat_le c d) ≡ true → (a ≤ b) × (c ≤ d)

@@ -1,14 +1,16 @@
 -- What may follow a first character is what `after` says.
-use Rattle.std.proofs.Common.{◌≡◌, ℕ, zero, suc, ◌+◌, ◌*◌, ◌<◌, List, [], ◌∷◌, ◌++◌, ◌⊎◌, inl, inr, refl, sym, ap, ◌∙◌, subst, append_assoc, Bool, true, false, cond, ◌&&◌, nat_lt, arith}
+use Rattle.std.proofs.Common.{◌≡◌, ℕ, zero, suc, ◌+◌, ◌*◌, ◌<◌, List, [], ◌∷◌, ◌++◌, ◌⊎◌, inl, inr, refl, sym, ap, ◌∙◌}
+use Rattle.std.proofs.Common.{subst, append_assoc, Bool, true, false, cond, ◌&&◌, nat_lt, arith}
 use Rattle.std.proofs.lemmas.Bool.{and_parts, and_from, lt-ltb}
 use Rattle.stream_lex.specs.declared.kinds.Kind.{Kind}
 use Rattle.stream_lex.specs.declared.kinds.Kind.TheVariants as kinds
 use Rattle.stream_lex.specs.declared.stages.Base.{Base}
 use Rattle.stream_lex.specs.declared.stages.Base.TheVariants.{Decimal, Hexadecimal}
-use Rattle.stream_lex.specs.Classes.{is_xml}
-use Rattle.stream_lex.specs.Kinds.{kind, is_digit, digit, base_of}
-use Rattle.stream_lex.specs.Expressions.{Sign, Expression, void, empty, yields, silent_symbol, symbol, digits, number, concat, union, star, value, IsNumber, Times, IsText}
-use Rattle.stream_lex.specs.Derivatives.{concat_of, union_of, empty_part, derivative}
+use Rattle.stream_lex.specs.grammar.Classes.{is_xml}
+use Rattle.stream_lex.specs.grammar.Kinds.{kind, is_digit, digit, base_of}
+use Rattle.stream_lex.specs.grammar.Expressions.{Sign, Expression, void, empty, yields, silent_symbol, symbol, digits, number, concat_of}
+use Rattle.stream_lex.specs.grammar.Expressions.{concat, union, star, value, IsNumber, Times, IsText}
+use Rattle.stream_lex.specs.machine.Derivatives.{union_of, empty_part, derivative}
 use Rattle.stream_lex.proofs.Lists.{same_head, same_tail, cons_not_nil, false-true, nil_parts, moved, Cut, within, before, cut}
 use Rattle.stream_lex.proofs.Numbers.{xml-bound, value-grows}
 

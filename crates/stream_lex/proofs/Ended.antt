@@ -1,5 +1,6 @@
 -- Where a text is whole, nothing is left to tell.
-use Rattle.std.proofs.Common.{◌≡◌, ℕ, ◌+◌, ◌<◌, ◌≤◌, arith, List, [], ◌∷◌, ◌++◌, drop, length, get_or, refl, sym, ap, ◌∙◌, subst, append_assoc, Bool, true, false, encode_utf8, encode_utf8_all}
+use Rattle.std.proofs.Common.{◌≡◌, ℕ, ◌+◌, ◌<◌, ◌≤◌, arith, List, [], ◌∷◌, ◌++◌, drop, length, get_or, refl, sym, ap, ◌∙◌}
+use Rattle.std.proofs.Common.{subst, append_assoc, Bool, true, false, encode_utf8, encode_utf8_all}
 use Rattle.std.proofs.lemmas.Bool.{ltb-true}
 use Rattle.std.proofs.lemmas.List.{drop_more}
 use Rattle.std.specs.Str.{all_scalars}
@@ -18,16 +19,16 @@ use Rattle.stream_lex.specs.declared.characters.Pending.{Pending}
 use Rattle.stream_lex.specs.declared.characters.Pending.TheVariants as pending
 use Rattle.stream_lex.specs.declared.characters.Reach.{Reach}
 use Rattle.stream_lex.specs.declared.characters.Reach.TheVariants.{Whole, Begun, Broken}
-use Rattle.stream_lex.specs.Classes.{class_of}
-use Rattle.stream_lex.specs.Characters.{bytes_of, is_begun, reach, reach_first, reach_second, reach_third}
-use Rattle.stream_lex.specs.Expressions.{Sign, Expression, void, empty, IsText}
-use Rattle.stream_lex.specs.Derivatives.{empty_part}
-use Rattle.stream_lex.specs.Machine.{letters, allowed_at}
-use Rattle.stream_lex.specs.Turns.{at}
-use Rattle.stream_lex.specs.Live.{is_live_stage, is_met, is_awaited, is_live}
-use Rattle.stream_lex.specs.Reading.{lines}
-use Rattle.stream_lex.specs.Leading.{Left}
-use Rattle.stream_lex.specs.Rests.{rest_of_fixed, rest_at}
+use Rattle.stream_lex.specs.grammar.Classes.{class_of}
+use Rattle.stream_lex.specs.machine.Characters.{bytes_of, is_begun, reach, reach_first, reach_second, reach_third}
+use Rattle.stream_lex.specs.grammar.Expressions.{Sign, Expression, void, empty, IsText}
+use Rattle.stream_lex.specs.machine.Derivatives.{empty_part}
+use Rattle.stream_lex.specs.machine.Machine.{letters, allowed_at}
+use Rattle.stream_lex.specs.machine.Turns.{at}
+use Rattle.stream_lex.specs.machine.Live.{is_live_stage, is_met, is_awaited, is_live}
+use Rattle.stream_lex.specs.grammar.Reading.{lines}
+use Rattle.stream_lex.specs.machine.Leading.{Left}
+use Rattle.stream_lex.specs.machine.Rests.{rest_of_fixed, rest_at}
 use Rattle.stream_lex.proofs.Lists.{false-true, cons_not_nil, nil_parts, same_tail}
 use Rattle.stream_lex.proofs.Derivative.{empty_part-to}
 use Rattle.stream_lex.proofs.Spans.{IsRest, Width, width1, width2, width3, width4, width_of, reach-starts, between-parts}

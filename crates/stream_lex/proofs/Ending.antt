@@ -1,5 +1,6 @@
 -- Each stage that is reached has a text, of characters below 128 without line ends.
-use Rattle.std.proofs.Common.{◌≡◌, ℕ, zero, suc, eq-eqb, ◌+◌, ◌*◌, ◌<◌, ◌≤◌, inl, inr, List, [], ◌∷◌, ◌++◌, drop, refl, sym, ap, ◌∙◌, subst, Bool, true, false, not, ◌&&◌, ◌==◌, nat_lt, arith, codes}
+use Rattle.std.proofs.Common.{◌≡◌, ℕ, zero, suc, eq-eqb, ◌+◌, ◌*◌, ◌<◌, ◌≤◌, inl, inr, List, [], ◌∷◌, ◌++◌, drop, refl, sym}
+use Rattle.std.proofs.Common.{ap, ◌∙◌, subst, Bool, true, false, not, ◌&&◌, ◌==◌, nat_lt, arith, codes}
 use Rattle.std.proofs.lemmas.Bool.{and_parts, and_from, cases_lt, cond-true, cond-false, ltb-true}
 use Rattle.std.proofs.lemmas.Bool.Decides.{nat_tests}
 use Rattle.std.specs.Str.{all_scalars}
@@ -25,15 +26,16 @@ use Rattle.stream_lex.specs.declared.stages.Literal.{Literal}
 use Rattle.stream_lex.specs.declared.stages.Literal.TheVariants as literal
 use Rattle.stream_lex.specs.declared.stages.Stage.{Stage}
 use Rattle.stream_lex.specs.declared.stages.Stage.TheVariants as stage
-use Rattle.stream_lex.specs.Classes.{is_xml}
-use Rattle.stream_lex.specs.Kinds.{ascii_kind, kind, is_wide}
-use Rattle.stream_lex.specs.Expressions.{all_said, Expression, silent_symbol, number, concat, value, AreDigits, IsText}
-use Rattle.stream_lex.specs.Grammar.{text_token, lower, word, is_letter, is_either_case, charset, charset_end}
-use Rattle.stream_lex.specs.Machine.{Turn, goes, stops, letters, in_fixed, in_declaration, in_reference, in_number, in_name, in_tag, ascii, allowed_at, next}
-use Rattle.stream_lex.specs.Machine.{yields as tells_and_goes}
-use Rattle.stream_lex.specs.Live.{is_live_stage}
-use Rattle.stream_lex.specs.Reading.{lines}
-use Rattle.stream_lex.specs.Rests.{rest_of_literal, rest_at, beyond_refusal, rest_of_text}
+use Rattle.stream_lex.specs.grammar.Classes.{is_xml}
+use Rattle.stream_lex.specs.grammar.Kinds.{ascii_kind, kind, is_wide}
+use Rattle.stream_lex.specs.grammar.Expressions.{all_said, Expression, silent_symbol, number, concat, value, AreDigits, IsText}
+use Rattle.stream_lex.specs.grammar.Grammar.{text_token, lower, word, is_letter, is_either_case, charset, charset_end}
+use Rattle.stream_lex.specs.machine.Machine.{Turn, goes, stops, letters, in_fixed, in_declaration, in_reference}
+use Rattle.stream_lex.specs.machine.Machine.{in_number, in_name, in_tag, ascii, allowed_at, next}
+use Rattle.stream_lex.specs.machine.Machine.{yields as tells_and_goes}
+use Rattle.stream_lex.specs.machine.Live.{is_live_stage}
+use Rattle.stream_lex.specs.grammar.Reading.{lines}
+use Rattle.stream_lex.specs.machine.Rests.{rest_of_literal, rest_at, beyond_refusal, rest_of_text}
 use Rattle.stream_lex.proofs.Lists.{false-true, said-append}
 use Rattle.stream_lex.proofs.Stepping.{Leaves, step-from}
 

@@ -25,15 +25,16 @@ use Rattle.stream_lex.specs.declared.stages.Literal.{Literal}
 use Rattle.stream_lex.specs.declared.stages.Literal.TheVariants as literal
 use Rattle.stream_lex.specs.declared.stages.Stage.{Stage}
 use Rattle.stream_lex.specs.declared.stages.Stage.TheVariants as stage
-use Rattle.stream_lex.specs.Classes.{is_xml}
-use Rattle.stream_lex.specs.Kinds.{digit, base_of, is_wide}
-use Rattle.stream_lex.specs.Expressions.{Sign, refuses, all_said, Expression, void, empty, yields, number, concat, union}
-use Rattle.stream_lex.specs.Derivatives.{concat_of, union_of, derivative}
-use Rattle.stream_lex.specs.Grammar.{text_token, prolog}
-use Rattle.stream_lex.specs.Machine.{Turn, goes, stops, letters, fixed_end, fixed_fault, is_fixed, in_fixed, in_declaration, in_reference, in_number, in_name, in_tag, ascii, allowed_at, voice, through, wide_fault, next}
-use Rattle.stream_lex.specs.Machine.{yields as tells_and_goes}
-use Rattle.stream_lex.specs.Live.{is_live_stage}
-use Rattle.stream_lex.specs.Rests.{rest_of_bracketed, bracketed_end, rest_of_text, rest_of_fixed, rest_at, beyond_refusal}
+use Rattle.stream_lex.specs.grammar.Classes.{is_xml}
+use Rattle.stream_lex.specs.grammar.Kinds.{digit, base_of, is_wide}
+use Rattle.stream_lex.specs.grammar.Expressions.{Sign, refuses, all_said, Expression, void, empty, yields, number, concat, union, concat_of}
+use Rattle.stream_lex.specs.machine.Derivatives.{union_of, derivative}
+use Rattle.stream_lex.specs.grammar.Grammar.{text_token, prolog}
+use Rattle.stream_lex.specs.machine.Machine.{Turn, goes, stops, letters, fixed_end, fixed_fault, is_fixed, in_fixed, in_declaration, in_reference}
+use Rattle.stream_lex.specs.machine.Machine.{in_number, in_name, in_tag, ascii, allowed_at, voice, through, wide_fault, next}
+use Rattle.stream_lex.specs.machine.Machine.{yields as tells_and_goes}
+use Rattle.stream_lex.specs.machine.Live.{is_live_stage}
+use Rattle.stream_lex.specs.machine.Rests.{rest_of_bracketed, bracketed_end, rest_of_text, rest_of_fixed, rest_at, beyond_refusal}
 
 -- what is told, and then what follows a stage
 abbrev pub given : List Sign → Stage → Expression

@@ -9,6 +9,7 @@ pub mod Ending
 pub mod Living
 pub mod ByteSteps
 pub mod Standing
+pub mod Telling
 pub mod Ended
 pub mod Scanning
 pub mod WordsLaw

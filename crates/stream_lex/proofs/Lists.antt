@@ -2,7 +2,7 @@
 use Rattle.std.proofs.Common.{◌≡◌, ℕ, List, [], ◌∷◌, ◌++◌, refl, sym, ap, subst, ◌∙◌, Bool, true, false}
 use Rattle.stream_lex.specs.declared.Token.{Token}
 use Rattle.stream_lex.specs.declared.LexFault.{LexFault}
-use Rattle.stream_lex.specs.Expressions.{Sign, says, refuses, all_said}
+use Rattle.stream_lex.specs.grammar.Expressions.{Sign, says, refuses, all_said}
 
 pub same_head : (x y : ℕ) (xs ys : List ℕ) → x ∷ xs ≡ y ∷ ys → x ≡ y
 same_head x y xs ys e = cc

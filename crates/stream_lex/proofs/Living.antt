@@ -29,14 +29,17 @@ use Rattle.stream_lex.specs.declared.characters.Pending.{Pending}
 use Rattle.stream_lex.specs.declared.characters.Pending.TheVariants as pending
 use Rattle.stream_lex.specs.declared.characters.Reach.{Reach}
 use Rattle.stream_lex.specs.declared.characters.Reach.TheVariants.{Whole, Begun, Broken}
-use Rattle.stream_lex.specs.Classes.{CharacterClass, has_between, class_of, is_xml}
-use Rattle.stream_lex.specs.Kinds.{is_digit, digit, base_of, ascii_kind}
-use Rattle.stream_lex.specs.Characters.{is_nothing, is_begun, is_between, is_second, is_continuation, reach, reach_first, reach_second, reach_third, reach_fourth}
-use Rattle.stream_lex.specs.Grammar.{text_token}
-use Rattle.stream_lex.specs.Machine.{Turn, goes, yields, stops, letters, fixed_end, fixed_fault, is_fixed, in_fixed, in_declaration, in_reference, in_number, in_name, in_tag, ascii, allowed_at, through}
-use Rattle.stream_lex.specs.Turns.{Outcome, leads, fails, at, settled, turn_ascii, turn_wide, turn}
-use Rattle.stream_lex.specs.Live.{is_live_stage, is_met, is_awaited, is_live}
-use Rattle.stream_lex.proofs.Spans.{second-parts, between-true, between-parts, not-false, reach1-two, reach1-three, reach1-four, reach2-three, reach2-four, reach3-four}
+use Rattle.stream_lex.specs.grammar.Classes.{CharacterClass, has_between, class_of, is_xml}
+use Rattle.stream_lex.specs.grammar.Kinds.{is_digit, digit, base_of, ascii_kind}
+use Rattle.stream_lex.specs.machine.Characters.{is_nothing, is_begun, is_between, is_second, is_continuation, reach}
+use Rattle.stream_lex.specs.machine.Characters.{reach_first, reach_second, reach_third, reach_fourth}
+use Rattle.stream_lex.specs.grammar.Grammar.{text_token}
+use Rattle.stream_lex.specs.machine.Machine.{Turn, goes, yields, stops, letters, fixed_end, fixed_fault, is_fixed, in_fixed, in_declaration}
+use Rattle.stream_lex.specs.machine.Machine.{in_reference, in_number, in_name, in_tag, ascii, allowed_at, through}
+use Rattle.stream_lex.specs.machine.Turns.{Outcome, leads, fails, at, settled, turn_ascii, turn_wide, turn}
+use Rattle.stream_lex.specs.machine.Live.{is_live_stage, is_met, is_awaited, is_live}
+use Rattle.stream_lex.proofs.Spans.{second-parts, between-true, between-parts, not-false, reach1-two}
+use Rattle.stream_lex.proofs.Spans.{reach1-three, reach1-four, reach2-three, reach2-four, reach3-four}
 
 -- whether a turn leads to a live stage
 abbrev pub is_live_turn : Turn → Bool

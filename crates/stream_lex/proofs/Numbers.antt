@@ -3,9 +3,9 @@ use Rattle.std.proofs.Common.{◌≡◌, ℕ, ◌+◌, ◌*◌, ◌<◌, ◌≤�
 use Rattle.std.proofs.lemmas.Bool.Decides.{nat_tests}
 use Rattle.stream_lex.specs.declared.stages.Base.{Base}
 use Rattle.stream_lex.specs.declared.stages.Base.TheVariants.{Decimal, Hexadecimal}
-use Rattle.stream_lex.specs.Classes.{is_xml}
-use Rattle.stream_lex.specs.Kinds.{digit}
-use Rattle.stream_lex.specs.Expressions.{value}
+use Rattle.stream_lex.specs.grammar.Classes.{is_xml}
+use Rattle.stream_lex.specs.grammar.Kinds.{digit}
+use Rattle.stream_lex.specs.grammar.Expressions.{value}
 
 pub xml-bound : (n : ℕ) → is_xml n ≡ true → n < 0x110000
 xml-bound n h = grind (arith, nat_tests)

@@ -7,8 +7,8 @@ use Rattle.std.specs.declared.option.Option.TheVariants.{None, Some}
 use Rattle.stream_lex.specs.declared.Token.{Token}
 use Rattle.stream_lex.specs.declared.LexFault.{LexFault}
 use Rattle.stream_lex.specs.declared.stages.State.{State}
-use Rattle.stream_lex.specs.Reading.{BeginsReading, IsKind, IsFault}
-use Rattle.stream_lex.specs.Leading.{Stands}
+use Rattle.stream_lex.specs.grammar.Reading.{BeginsReading, IsKind, IsFault}
+use Rattle.stream_lex.specs.machine.Leading.{Stands}
 use Rattle.stream_lex.proofs.Standing.{begins-fewer}
 
 -- the fault of a list that begins a reading up to its last byte is at that byte

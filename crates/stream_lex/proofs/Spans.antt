@@ -1,5 +1,6 @@
 -- The characters whose bytes begin so are those that `reach` says.
-use Rattle.std.proofs.Common.{◌≡◌, ℕ, ◌+◌, ◌-◌, ◌*◌, ◌/◌, ◌%◌, ◌<◌, ◌≤◌, inl, inr, max, min, List, [], ◌∷◌, ◌++◌, refl, sym, ap, ◌∙◌, subst, Bool, true, false, not, nat_lt, nat_le, arith}
+use Rattle.std.proofs.Common.{◌≡◌, ℕ, ◌+◌, ◌-◌, ◌*◌, ◌/◌, ◌%◌, ◌<◌, ◌≤◌, inl, inr, max, min, List, [], ◌∷◌, ◌++◌, refl}
+use Rattle.std.proofs.Common.{sym, ap, ◌∙◌, subst, Bool, true, false, not, nat_lt, nat_le, arith}
 use Rattle.std.proofs.lemmas.Bool.{and_parts, and_from, cases_lt, cond-true, cond-false, cond_both, le-leb, leb-true, lt-ltb, ltb-true, ltb-false, le-ltb}
 use Rattle.std.proofs.lemmas.Bool.Decides.{nat_tests}
 use Rattle.std.specs.Prelude.{encode_utf8}
@@ -8,7 +9,8 @@ use Rattle.stream_lex.specs.declared.characters.Pending.{Pending}
 use Rattle.stream_lex.specs.declared.characters.Pending.TheVariants as pending
 use Rattle.stream_lex.specs.declared.characters.Reach.{Reach}
 use Rattle.stream_lex.specs.declared.characters.Reach.TheVariants.{Whole, Begun, Broken}
-use Rattle.stream_lex.specs.Characters.{bytes_of, is_between, is_continuation, is_second, is_begun, reach_first, reach_second, reach_third, reach_fourth, reach}
+use Rattle.stream_lex.specs.machine.Characters.{bytes_of, is_between, is_continuation, is_second, is_begun, reach_first}
+use Rattle.stream_lex.specs.machine.Characters.{reach_second, reach_third, reach_fourth, reach}
 use Rattle.stream_lex.proofs.Lists.{same_head, same_tail, false-true}
 
 -- the character is one of those that a reach says

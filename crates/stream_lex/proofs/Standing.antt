@@ -1,5 +1,6 @@
 -- Where bytes lead, over whole lists.
-use Rattle.std.proofs.Common.{◌≡◌, ℕ, ◌+◌, ◌-◌, ◌<◌, List, [], ◌∷◌, ◌++◌, inl, inr, take, drop, length, refl, sym, ap, ◌∙◌, subst, append_assoc, Bool, true, false, arith, IsUtf8, encode_utf8_all, length-append}
+use Rattle.std.proofs.Common.{◌≡◌, ℕ, ◌+◌, ◌-◌, ◌<◌, List, [], ◌∷◌, ◌++◌, inl, inr, take, drop, length, refl, sym, ap, ◌∙◌, subst}
+use Rattle.std.proofs.Common.{append_assoc, Bool, true, false, arith, IsUtf8, encode_utf8_all, length-append}
 use Rattle.std.proofs.lemmas.Bool.{and_from}
 use Rattle.std.proofs.lemmas.List.{append-nil, take_all, take_at, take-append-le, take-append-drop}
 use Rattle.std.specs.declared.option.Option.{Option}
@@ -15,20 +16,21 @@ use Rattle.stream_lex.specs.declared.characters.Pending.{Pending}
 use Rattle.stream_lex.specs.declared.characters.Pending.TheVariants as pending
 use Rattle.stream_lex.specs.declared.characters.Reach.{Reach}
 use Rattle.stream_lex.specs.declared.characters.Reach.TheVariants.{Whole, Begun, Broken}
-use Rattle.stream_lex.specs.Classes.{class_of}
-use Rattle.stream_lex.specs.Characters.{bytes_of, is_begun, reach, reach_first, reach_second, reach_third}
-use Rattle.stream_lex.specs.Expressions.{Sign, refuses, all_said, IsText}
-use Rattle.stream_lex.specs.Machine.{allowed_at, voice, voiced, through}
-use Rattle.stream_lex.specs.Turns.{Outcome, leads, fails, at, byte_told, turn}
-use Rattle.stream_lex.specs.Live.{is_live_stage, is_met, is_awaited, is_live}
-use Rattle.stream_lex.specs.Rests.{rest_at}
-use Rattle.stream_lex.specs.Reading.{Tells, Reads, BeginsReading, BeginsUtf8, BeginsRefused, IsKind, IsFault}
-use Rattle.stream_lex.specs.Leading.{heard, Left, Leads, Stands, tokens_of, IsTurned}
+use Rattle.stream_lex.specs.grammar.Classes.{class_of}
+use Rattle.stream_lex.specs.machine.Characters.{bytes_of, is_begun, reach, reach_first, reach_second, reach_third}
+use Rattle.stream_lex.specs.grammar.Expressions.{Sign, refuses, all_said, IsText}
+use Rattle.stream_lex.specs.machine.Machine.{allowed_at, voice, voiced, through}
+use Rattle.stream_lex.specs.machine.Turns.{Outcome, leads, fails, at, byte_told, turn}
+use Rattle.stream_lex.specs.machine.Live.{is_live_stage, is_met, is_awaited, is_live}
+use Rattle.stream_lex.specs.machine.Rests.{rest_at}
+use Rattle.stream_lex.specs.grammar.Reading.{Tells, Reads, BeginsReading, BeginsUtf8, BeginsRefused, IsKind, IsFault}
+use Rattle.stream_lex.specs.machine.Leading.{heard, Left, Leads, Stands, tokens_of, IsTurned}
 use Rattle.stream_lex.proofs.Lists.{false-true, says-refuses, says-tail, said-append, said-same}
 use Rattle.stream_lex.proofs.Spans.{Within, reach-starts}
 use Rattle.stream_lex.proofs.Classing.{has_between-has, proper-class, class-low, class-scalar}
 use Rattle.stream_lex.proofs.Ending.{has-text, clean-lines, clean-scalars}
-use Rattle.stream_lex.proofs.ByteSteps.{Goes, IsRefused, Refuses, Fails, refusing, undecodable, Does, does, left-plain, plain-left, wide-text, voiced-split, voiced-more, high-line, heard_on, said-two, Spelt, reach-spelt}
+use Rattle.stream_lex.proofs.ByteSteps.{Goes, IsRefused, Refuses, Fails, refusing, undecodable, Does, does, left-plain, plain-left, wide-text}
+use Rattle.stream_lex.proofs.ByteSteps.{voiced-split, voiced-more, high-line, heard_on, said-two, Spelt, reach-spelt}
 use Rattle.stream_lex.proofs.Living.{begun-symbol, begun-two, live-parts, live-through, live-turn, LeadsLive}
 use Rattle.stream_lex.proofs.Ended.{left-done}
 

@@ -3,12 +3,12 @@ use Rattle.std.proofs.Common.{◌≡◌, ℕ, List, [], ◌∷◌, ◌++◌, inl
 use Rattle.stream_lex.specs.declared.LexFault.TheVariants.{NotWellFormed}
 use Rattle.stream_lex.specs.declared.stages.Stage.{Stage}
 use Rattle.stream_lex.specs.declared.stages.Stage.TheVariants as stage
-use Rattle.stream_lex.specs.Kinds.{kind}
-use Rattle.stream_lex.specs.Expressions.{Sign, refuses, all_said, Expression, yields, concat, union, IsText}
-use Rattle.stream_lex.specs.Machine.{Turn, goes, stops, next}
-use Rattle.stream_lex.specs.Machine.{yields as tells_and_goes}
-use Rattle.stream_lex.specs.Live.{is_live_stage}
-use Rattle.stream_lex.specs.Rests.{rest_of_bracketed, bracketed_end, rest_at, beyond_refusal}
+use Rattle.stream_lex.specs.grammar.Kinds.{kind}
+use Rattle.stream_lex.specs.grammar.Expressions.{Sign, refuses, all_said, Expression, yields, concat, union, IsText}
+use Rattle.stream_lex.specs.machine.Machine.{Turn, goes, stops, next}
+use Rattle.stream_lex.specs.machine.Machine.{yields as tells_and_goes}
+use Rattle.stream_lex.specs.machine.Live.{is_live_stage}
+use Rattle.stream_lex.specs.machine.Rests.{rest_of_bracketed, bracketed_end, rest_at, beyond_refusal}
 use Rattle.stream_lex.proofs.Derivative.{derivative-to, derivative-from}
 use Rattle.stream_lex.proofs.Keeping.{shown, given, keeps}
 

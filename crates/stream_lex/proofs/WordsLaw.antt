@@ -1,15 +1,16 @@
 -- The expression for character data says what XML 1.0 [14] says.
-use Rattle.std.proofs.Common.{◌≡◌, ℕ, append_assoc, nat_le, List, [], ◌∷◌, ◌++◌, inl, inr, refl, sym, ap, ◌∙◌, subst, Bool, true, false, cond, ◌||◌, ◌&&◌, ◌==◌, nat_lt}
+use Rattle.std.proofs.Common.{◌≡◌, ℕ, append_assoc, nat_le, List, [], ◌∷◌, ◌++◌, inl, inr, refl, sym, ap, ◌∙◌}
+use Rattle.std.proofs.Common.{subst, Bool, true, false, cond, ◌||◌, ◌&&◌, ◌==◌, nat_lt}
 use Rattle.std.proofs.lemmas.Bool.{cond_both, eqb-true}
 use Rattle.stream_lex.specs.declared.Token.TheVariants as token
 use Rattle.stream_lex.specs.declared.kinds.Kind.{Kind}
 use Rattle.stream_lex.specs.declared.kinds.Kind.TheVariants as kinds
-use Rattle.stream_lex.specs.Classes.{has_between, characters, name_starts, name_characters}
-use Rattle.stream_lex.specs.Kinds.{ascii_kind, wide_kind, kind, is_kind, is_plain}
-use Rattle.stream_lex.specs.Expressions.{Sign, says, Expression, void, yields, concat, union, IsText}
-use Rattle.stream_lex.specs.Derivatives.{derivative}
-use Rattle.stream_lex.specs.Grammar.{told, bracket, plain, plain_after, brackets, char_data}
-use Rattle.stream_lex.specs.Words.{AreWords, HasSectionEnd, worded}
+use Rattle.stream_lex.specs.grammar.Classes.{has_between, characters, name_starts, name_characters}
+use Rattle.stream_lex.specs.grammar.Kinds.{ascii_kind, wide_kind, kind, is_kind, is_plain}
+use Rattle.stream_lex.specs.grammar.Expressions.{Sign, says, Expression, void, yields, concat, union, IsText}
+use Rattle.stream_lex.specs.machine.Derivatives.{derivative}
+use Rattle.stream_lex.specs.grammar.Grammar.{told, bracket, plain, plain_after, brackets, char_data}
+use Rattle.stream_lex.specs.grammar.Words.{AreWords, HasSectionEnd, worded}
 use Rattle.stream_lex.proofs.Lists.{false-true}
 use Rattle.stream_lex.proofs.Derivative.{derivative-to, derivative-from, empty_part-to}
 

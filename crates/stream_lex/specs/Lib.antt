@@ -1,14 +1,2 @@
-pub mod Classes
-pub mod Kinds
-pub mod Expressions
-pub mod Derivatives
-pub mod Grammar
-pub mod Characters
-pub mod Machine
-pub mod Moves
-pub mod Turns
-pub mod Live
-pub mod Rests
-pub mod Reading
-pub mod Leading
-pub mod Words
+pub mod grammar
+pub mod machine

@@ -1,8 +1,8 @@
 //! Characters from 128 on, byte by byte (RFC 3629, 3), and the classes of XML.
 
 ghost use Rattle.std.specs.Prelude.{◌≡◌, true};
-ghost use Rattle.stream_lex.specs.Classes.{has_between, class_of, scalar_values};
-ghost use Rattle.stream_lex.specs.Characters.{reach, reach_first, reach_second, reach_third, reach_fourth, is_second, is_begun};
+ghost use Rattle.stream_lex.specs.grammar.Classes.{has_between, class_of, scalar_values};
+ghost use Rattle.stream_lex.specs.machine.Characters.{reach, reach_first, reach_second, reach_third, reach_fourth, is_second, is_begun};
 ghost use Rattle.stream_lex.specs.declared.characters.Pending.TheVariants as pending;
 
 /// The first bytes of a character that is not whole yet.
@@ -89,7 +89,7 @@ fn any_between(runs: &[(u32, u32)], low: u32, high: u32) -> bool
 }
 
 /// The runs of a class.
-#[tactic(auto, unfolding(crate::specs::Classes::characters, crate::specs::Classes::name_starts, crate::specs::Classes::name_characters))]
+#[tactic(auto, unfolding(crate::specs::grammar::Classes::characters, crate::specs::grammar::Classes::name_starts, crate::specs::grammar::Classes::name_characters))]
 fn runs_of(allowed: Allowed) -> &'static [(u32, u32)]
     ensures { result.now ≡ class_of allowed }
 {
@@ -109,7 +109,7 @@ pub fn may_come(allowed: Allowed, low: u32, high: u32) -> bool
 }
 
 /// Whether some number from `low` to `high` is encoded by UTF-8.
-#[tactic(auto, unfolding(crate::specs::Classes::scalar_values))]
+#[tactic(auto, unfolding(crate::specs::grammar::Classes::scalar_values))]
 pub fn is_encoded(low: u32, high: u32) -> bool
     ensures { result ≡ has_between scalar_values low high }
 {
@@ -117,7 +117,7 @@ pub fn is_encoded(low: u32, high: u32) -> bool
 }
 
 /// What a first byte says.
-#[tactic(auto, unfolding(crate::specs::Characters::reach_first))]
+#[tactic(auto, unfolding(crate::specs::machine::Characters::reach_first))]
 fn first_reach(first: u8) -> Reach
     ensures { result ≡ reach_first first }
 {
@@ -154,7 +154,7 @@ fn is_second_byte(first: u8, second: u8) -> bool
 }
 
 /// What a second byte says.
-#[tactic(auto, unfolding(crate::specs::Characters::reach_second))]
+#[tactic(auto, unfolding(crate::specs::machine::Characters::reach_second))]
 fn second_reach(first: u8, second: u8) -> Reach
     requires { is_begun (pending.One first) ≡ true }
     ensures { result ≡ reach_second first second }
@@ -176,7 +176,7 @@ fn second_reach(first: u8, second: u8) -> Reach
 }
 
 /// What a third byte says.
-#[tactic(auto, unfolding(crate::specs::Characters::reach_third))]
+#[tactic(auto, unfolding(crate::specs::machine::Characters::reach_third))]
 fn third_reach(first: u8, second: u8, third: u8) -> Reach
     requires { is_begun (pending.Two first second) ≡ true }
     ensures { result ≡ reach_third first second third }
@@ -196,7 +196,7 @@ fn third_reach(first: u8, second: u8, third: u8) -> Reach
 }
 
 /// What a fourth byte says.
-#[tactic(auto, unfolding(crate::specs::Characters::reach_fourth))]
+#[tactic(auto, unfolding(crate::specs::machine::Characters::reach_fourth))]
 fn fourth_reach(first: u8, second: u8, third: u8, fourth: u8) -> Reach
     requires { is_begun (pending.Three first second third) ≡ true }
     ensures { result ≡ reach_fourth first second third fourth }

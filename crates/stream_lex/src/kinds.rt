@@ -1,7 +1,7 @@
 //! The kinds of characters that the grammar tells apart.
 
 ghost use Rattle.std.specs.Prelude.{◌≡◌};
-ghost use Rattle.stream_lex.specs.Kinds.{ascii_kind};
+ghost use Rattle.stream_lex.specs.grammar.Kinds.{ascii_kind};
 
 /// What a character is, for the grammar. A letter that some fixed word or reference waits for has its own
 /// kind; the other characters below 128 come after it, and then those from 128 on.
@@ -59,7 +59,7 @@ pub enum Kind {
 }
 
 /// What a byte below 128 is.
-#[tactic(auto, unfolding(crate::specs::Kinds::ascii_kind))]
+#[tactic(auto, unfolding(crate::specs::grammar::Kinds::ascii_kind))]
 pub fn ascii_kind_of(byte: u8) -> Kind
     ensures { result ≡ ascii_kind byte }
 {

@@ -1,9 +1,9 @@
 //! What the definitions say, in the standards' own words.
 
 ghost use Rattle.std.specs.Prelude.{◌≡◌, ℕ, List};
-ghost use Rattle.stream_lex.specs.Expressions.{Sign, IsText};
-ghost use Rattle.stream_lex.specs.Grammar.{char_data};
-ghost use Rattle.stream_lex.specs.Words.{AreWords, HasSectionEnd, worded};
+ghost use Rattle.stream_lex.specs.grammar.Expressions.{Sign, IsText};
+ghost use Rattle.stream_lex.specs.grammar.Grammar.{char_data};
+ghost use Rattle.stream_lex.specs.grammar.Words.{AreWords, HasSectionEnd, worded};
 
 /// Character data is that of XML 1.0 [14]: characters other than `<` and `&`, in which `]]>` does not stand.
 /// Each is a word for itself.

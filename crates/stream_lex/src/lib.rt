@@ -6,9 +6,10 @@
 #![tactic(auto)]
 
 ghost use Rattle.std.specs.Prelude.{◌≡◌, ℕ, List, [], ◌∷◌, ◌++◌, true, None, IfNone, IfSome};
-ghost use Rattle.stream_lex.specs.Live.{is_live};
-ghost use Rattle.stream_lex.specs.Turns.{turn};
-ghost use Rattle.stream_lex.specs.Leading.{tokens_of, Stands, IsTurned};
+ghost use Rattle.stream_lex.specs.machine.Live.{is_live};
+ghost use Rattle.stream_lex.specs.machine.Turns.{turn};
+ghost use Rattle.stream_lex.specs.grammar.Reading.{IsTold};
+ghost use Rattle.stream_lex.specs.machine.Leading.{tokens_of, Stands, IsTurned};
 
 mod characters;
 mod kinds;
@@ -118,10 +119,13 @@ impl Lex {
 
     /// Reads one byte.
     ///
-    /// `reads`: where the bytes before gave the tokens `ts`, all with this byte give these and its own; and
-    /// the fault comes with the byte with which no reading goes on. So the reading of a list is the fold of
-    /// `step`, and it is the same however the list is cut.
+    /// `told`: where the bytes before led here and gave the tokens `ts`, these and the byte's own are the beginning of every reading
+    /// of all bytes; and a fault comes with the byte with which no reading goes on, and is of its kind. `reads`: all bytes then lead to
+    /// where the reader stands. So the reading of a list is the fold of `step`, and it is the same however the list is cut.
     pub fn step(&mut self, byte: u8) -> Lexed
+        ensures told { (bytes : List ℕ) (ts : List Token)
+            → Stands bytes ts self.old.state self.old.fault
+            → IsTold (bytes ++ byte ∷ []) (ts ++ tokens_of result) self.new.fault }
         ensures reads { (bytes : List ℕ) (ts : List Token)
             → Stands bytes ts self.old.state self.old.fault
             → Stands (bytes ++ byte ∷ []) (ts ++ tokens_of result) self.new.state self.new.fault }

@@ -2,15 +2,15 @@
 
 ghost use Rattle.std.specs.Prelude.{◌≡◌, ◌<◌, true, cond, length, if◌then◌else◌};
 ghost use Rattle.stream_lex.specs.declared.stages.Stage.TheVariants as stage;
-ghost use Rattle.stream_lex.specs.Kinds.{ascii_kind, is_kind, is_name_start, is_name_further, is_refusable, is_digit, digit, base_of, quote};
-ghost use Rattle.stream_lex.specs.Classes.{is_xml};
-ghost use Rattle.stream_lex.specs.Grammar.{first_name_token, next_name_token, text_token, lower};
-ghost use Rattle.stream_lex.specs.Machine.{goes, stops, letters, fixed_end, fixed_fault, is_fixed, in_fixed, after_declared, info_value};
-ghost use Rattle.stream_lex.specs.Machine.{quote_seen, in_declaration, in_words, in_brackets, in_value, in_cdata, in_cdata_brackets, unnamed, named_by};
-ghost use Rattle.stream_lex.specs.Machine.{in_reference, in_number, in_hash, in_hash_x, after_name, after_part, in_name, in_colon, name_or};
-ghost use Rattle.stream_lex.specs.Machine.{in_tag_end, after_start_less, after_prolog_less, after_less, after_equals, in_tag, in_bang, ascii};
-ghost use Rattle.stream_lex.specs.Moves.{turn_of};
-ghost use Rattle.stream_lex.specs.Live.{is_live_stage};
+ghost use Rattle.stream_lex.specs.grammar.Kinds.{ascii_kind, is_kind, is_name_start, is_name_further, is_refusable, is_digit, digit, base_of, quote};
+ghost use Rattle.stream_lex.specs.grammar.Classes.{is_xml};
+ghost use Rattle.stream_lex.specs.grammar.Grammar.{first_name_token, next_name_token, text_token, lower};
+ghost use Rattle.stream_lex.specs.machine.Machine.{goes, stops, letters, fixed_end, fixed_fault, is_fixed, in_fixed, after_declared, info_value};
+ghost use Rattle.stream_lex.specs.machine.Machine.{quote_seen, in_declaration, in_words, in_brackets, in_value, in_cdata, in_cdata_brackets, unnamed, named_by};
+ghost use Rattle.stream_lex.specs.machine.Machine.{in_reference, in_number, in_hash, in_hash_x, after_name, after_part, in_name, in_colon, name_or};
+ghost use Rattle.stream_lex.specs.machine.Machine.{in_tag_end, after_start_less, after_prolog_less, after_less, after_equals, in_tag, in_bang, ascii};
+ghost use Rattle.stream_lex.specs.machine.Moves.{turn_of};
+ghost use Rattle.stream_lex.specs.machine.Live.{is_live_stage};
 
 use crate::kinds::{Kind, ascii_kind_of};
 use crate::stages::{
@@ -171,7 +171,7 @@ fn is_letter_of(word: Literal, letter: u8, byte: u8) -> bool
     }
 }
 
-#[tactic(auto, unfolding(crate::specs::Machine::in_fixed))]
+#[tactic(auto, unfolding(crate::specs::machine::Machine::in_fixed))]
 fn move_fixed(word: Literal, at: u8, byte: u8) -> Move
     requires { at < length (letters word) }
     ensures { turn_of result ≡ in_fixed word at byte }
@@ -237,7 +237,7 @@ fn end_info(info: Info, mark: Quote, kind: Kind, fault: LexFault) -> Move
     }
 }
 
-#[tactic(auto, unfolding(crate::specs::Machine::in_declaration))]
+#[tactic(auto, unfolding(crate::specs::machine::Machine::in_declaration))]
 fn move_declaration(stage: Stage, kind: Kind) -> Move
     ensures { turn_of result ≡ in_declaration stage kind }
 {
@@ -354,7 +354,7 @@ fn end_name(place: Context, c: char, kind: Kind) -> Move
     }
 }
 
-#[tactic(auto, unfolding(crate::specs::Machine::in_reference))]
+#[tactic(auto, unfolding(crate::specs::machine::Machine::in_reference))]
 fn move_reference(place: Context, entity_name: EntityName, kind: Kind) -> Move
     ensures { turn_of result ≡ in_reference place entity_name kind }
 {
@@ -431,7 +431,7 @@ fn character_of(number: u32) -> Option<char>
     }
 }
 
-#[tactic(auto, unfolding(crate::specs::Machine::in_number))]
+#[tactic(auto, unfolding(crate::specs::machine::Machine::in_number))]
 fn move_number(place: Context, base: Base, value: u32, kind: Kind, byte: u8) -> Move
     requires { value < 0x110000 }
     ensures { turn_of result ≡ in_number place base value kind byte }
@@ -485,7 +485,7 @@ fn move_after_name(owner: NameOwner, kind: Kind) -> Move
     }
 }
 
-#[tactic(auto, unfolding(crate::specs::Machine::in_name))]
+#[tactic(auto, unfolding(crate::specs::machine::Machine::in_name))]
 fn move_name(owner: NameOwner, half: Half, kind: Kind, byte: u8) -> Move
     ensures { turn_of result ≡ in_name owner half kind byte }
 {
@@ -572,7 +572,7 @@ fn move_less(kind: Kind) -> Move
     }
 }
 
-#[tactic(auto, unfolding(crate::specs::Machine::in_tag))]
+#[tactic(auto, unfolding(crate::specs::machine::Machine::in_tag))]
 fn move_tag(stage: Stage, kind: Kind, byte: u8) -> Move
     ensures { turn_of result ≡ in_tag stage kind byte }
 {
@@ -634,7 +634,7 @@ fn move_bang(kind: Kind) -> Move
 }
 
 /// What a character below 128 does.
-#[tactic(auto, unfolding(crate::specs::Machine::ascii))]
+#[tactic(auto, unfolding(crate::specs::machine::Machine::ascii))]
 pub fn move_ascii(stage: Stage, byte: u8) -> Move
     requires { is_live_stage stage ≡ true }
     ensures { turn_of result ≡ ascii stage (ascii_kind byte) byte }

@@ -2,15 +2,15 @@
 
 ghost use Rattle.std.specs.Prelude.{◌≡◌, [], ◌∷◌, ◌++◌, true, None, Some};
 ghost use Rattle.std.specs.Char.{IsScalar};
-ghost use Rattle.stream_lex.specs.Classes.{has_between, class_of};
-ghost use Rattle.stream_lex.specs.Characters.{reach, is_begun};
-ghost use Rattle.stream_lex.specs.Grammar.{first_name_token, next_name_token};
-ghost use Rattle.stream_lex.specs.Machine.{ascii, allowed_at, by_byte, voice, through, wide_fault};
-ghost use Rattle.stream_lex.specs.Kinds.{ascii_kind};
-ghost use Rattle.stream_lex.specs.Moves.{turn_of};
-ghost use Rattle.stream_lex.specs.Turns.{settled, byte_told, end_told, fault_of, turn_ascii, turn_wide, turn};
-ghost use Rattle.stream_lex.specs.Live.{is_live, is_live_stage};
-ghost use Rattle.stream_lex.specs.Leading.{tokens_of, IsTurned};
+ghost use Rattle.stream_lex.specs.grammar.Classes.{has_between, class_of};
+ghost use Rattle.stream_lex.specs.machine.Characters.{reach, is_begun};
+ghost use Rattle.stream_lex.specs.grammar.Grammar.{first_name_token, next_name_token};
+ghost use Rattle.stream_lex.specs.machine.Machine.{ascii, allowed_at, by_byte, voice, through, wide_fault};
+ghost use Rattle.stream_lex.specs.grammar.Kinds.{ascii_kind};
+ghost use Rattle.stream_lex.specs.machine.Moves.{turn_of};
+ghost use Rattle.stream_lex.specs.machine.Turns.{settled, byte_told, end_told, fault_of, turn_ascii, turn_wide, turn};
+ghost use Rattle.stream_lex.specs.machine.Live.{is_live, is_live_stage};
+ghost use Rattle.stream_lex.specs.machine.Leading.{tokens_of, IsTurned};
 
 use crate::characters::{Allowed, Pending, Reach, is_encoded, may_come, reach_of};
 use crate::stages::{Brackets, Context, Half, NameOwner, Stage, State};
@@ -82,7 +82,7 @@ impl Lexed {
 }
 
 /// Which characters from 128 on may come at a stage.
-#[tactic(auto, unfolding(crate::specs::Machine::allowed_at))]
+#[tactic(auto, unfolding(crate::specs::machine::Machine::allowed_at))]
 fn allowed_of(stage: Stage) -> Allowed
     ensures { result ≡ allowed_at stage }
 {
@@ -102,7 +102,7 @@ fn allowed_of(stage: Stage) -> Allowed
 }
 
 /// The stage after a character from 128 on.
-#[tactic(auto, unfolding(crate::specs::Machine::through))]
+#[tactic(auto, unfolding(crate::specs::machine::Machine::through))]
 fn after_wide(stage: Stage) -> Stage
     ensures { result ≡ through stage }
 {
@@ -120,7 +120,7 @@ fn after_wide(stage: Stage) -> Stage
 }
 
 /// The fault of a character from 128 on that may not come.
-#[tactic(auto, unfolding(crate::specs::Machine::wide_fault))]
+#[tactic(auto, unfolding(crate::specs::machine::Machine::wide_fault))]
 fn fault_at(stage: Stage) -> LexFault
     ensures { result ≡ wide_fault stage }
 {
@@ -155,7 +155,7 @@ fn head_token(owner: NameOwner, pending: Pending, byte: u8) -> Token
 }
 
 /// What a byte of a character tells that is not whole yet.
-#[tactic(auto, unfolding(crate::specs::Machine::voice))]
+#[tactic(auto, unfolding(crate::specs::machine::Machine::voice))]
 fn byte_lexed(stage: Stage, pending: Pending, byte: u8) -> Lexed
     ensures told { tokens_of result ≡ byte_told (voice stage) pending byte }
     ensures fault { result.fault ≡ None }
@@ -172,7 +172,7 @@ fn byte_lexed(stage: Stage, pending: Pending, byte: u8) -> Lexed
 }
 
 /// What a whole character of words, of a value or of CDATA tells.
-#[tactic(auto, unfolding(crate::specs::Machine::voice))]
+#[tactic(auto, unfolding(crate::specs::machine::Machine::voice))]
 fn end_lexed(stage: Stage, c: char) -> Lexed
     ensures told { tokens_of result ≡ end_told (voice stage) c }
     ensures fault { result.fault ≡ None }
@@ -194,7 +194,7 @@ fn end_lexed(stage: Stage, c: char) -> Lexed
 }
 
 /// What the last byte of a character tells.
-#[tactic(auto, unfolding(crate::specs::Machine::voice))]
+#[tactic(auto, unfolding(crate::specs::machine::Machine::voice))]
 fn whole_lexed(stage: Stage, pending: Pending, byte: u8, c: char) -> Lexed
     ensures told { tokens_of result
         ≡ byte_told (voice stage) pending byte ++ end_told (voice stage) c }
@@ -240,7 +240,7 @@ fn settle(state: State, returned: bool, made: Move) -> (State, Lexed)
 }
 
 /// What a byte below 128 does between two characters.
-#[tactic(auto, unfolding(crate::specs::Turns::turn_ascii))]
+#[tactic(auto, unfolding(crate::specs::machine::Turns::turn_ascii))]
 fn turn_on_ascii(state: State, byte: u8) -> (State, Lexed)
     requires { is_live_stage state.stage ≡ true }
     ensures { IsTurned state (turn_ascii state byte) result.0 result.1 }
@@ -256,7 +256,7 @@ fn turn_on_ascii(state: State, byte: u8) -> (State, Lexed)
 }
 
 /// What a byte of a character from 128 on does.
-#[tactic(auto, unfolding(crate::specs::Turns::turn_wide))]
+#[tactic(auto, unfolding(crate::specs::machine::Turns::turn_wide))]
 fn turn_on_wide(state: State, byte: u8) -> (State, Lexed)
     requires { is_begun state.pending ≡ true }
     ensures { IsTurned state (turn_wide state byte (reach state.pending byte)) result.0 result.1 }

@@ -1,5 +1,6 @@
 -- What a row's effects make of the two sides.
-use Rattle.std.proofs.Common.{◌≡◌, List, [], ◌∷◌, ◌++◌, map, flat_map, Bool, true, false, not, ◌&&◌, ◌||◌, bytes_eq, refl, sym, ap, subst, ◌∙◌, if◌then◌else◌, ℕ, Option, Some, None}
+use Rattle.std.proofs.Common.{◌≡◌, List, [], ◌∷◌, ◌++◌, map, flat_map, Bool, true, false, not, ◌&&◌, ◌||◌, bytes_eq}
+use Rattle.std.proofs.Common.{refl, sym, ap, subst, ◌∙◌, if◌then◌else◌, ℕ, Option, Some, None}
 use Rattle.std.specs.List.{filter}
 use Rattle.std.proofs.lemmas.Slice.Eq.{bytes_eq-Decides}
 use Rattle.jid_core.specs.Addresses.{Address, same_address, same_bare, same_part}
@@ -17,7 +18,8 @@ use Rattle.stanza_model.specs.declared.shared.Outcome.{Outcome}
 use Rattle.stanza_model.specs.declared.shared.Show.{Show}
 use Rattle.stanza_model.specs.declared.shared.Show.TheVariants.{Nothing, MineAvailable, MineUnavailable, TheirsUnavailable}
 use Rattle.stanza_model.specs.declared.shared.Side.{Side}
-use Rattle.subscription_pairs.specs.Changes.{asked, both_ended, effects_of, made, pushed_mine, pushed_theirs, row_subscribe, row_subscribed, row_unsubscribe, row_unsubscribed, removal, sees, then_cancelled, told, untold}
+use Rattle.subscription_pairs.specs.Changes.{asked, both_ended, effects_of, made, pushed_mine, pushed_theirs, row_subscribe, row_subscribed}
+use Rattle.subscription_pairs.specs.Changes.{row_unsubscribe, row_unsubscribed, removal, sees, then_cancelled, told, untold}
 use Rattle.subscription_pairs.specs.Deliveries.{all_sent_to, available_of, delivered, receives, sent_to, shown, unavailable_of}
 use Rattle.subscription_pairs.specs.Sides.{after, changed, is_of}
 use Rattle.subscription_pairs.specs.Users.{User, side_of, user_of}

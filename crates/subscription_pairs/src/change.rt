@@ -1,7 +1,9 @@
 //! What comes of a subscription's stanza, as effects: first what changes, then what is pushed, delivered and shown (RFC 6121, 3).
 ghost use Rattle.std.specs.Prelude.{◌≡◌, ◌<◌, ◌-◌, ◌^◌, ◌++◌, true, All, IfOk, OnOk};
 ghost use Rattle.std.specs.Option.{option_map};
-ghost use Rattle.subscription_pairs.specs.Changes.{asked, effects_of, is_made, made, pushed, pushed_mine, pushed_theirs, row_back, row_subscribe, row_subscribed, row_unsubscribe, row_unsubscribed, sees, subscription, unless_full};
+ghost use Rattle.subscription_pairs.specs.Changes.{asked, effects_of, is_made, made, pushed, pushed_mine, pushed_theirs};
+ghost use Rattle.subscription_pairs.specs.Changes.{row_back, row_subscribe, row_subscribed, row_unsubscribe};
+ghost use Rattle.subscription_pairs.specs.Changes.{row_unsubscribed, sees, subscription, unless_full};
 
 use crate::delivery::{deliver, show};
 use crate::limit::fits;

@@ -10,8 +10,10 @@ ghost use Rattle.subscription_pairs.specs.Users.{User, side_of};
 
 /// Both sides go on to speak of the same facts, and of contacts that are there.
 pub fn sides_agree()
-    ensures opposite { (mine theirs : Side) (form : PresenceForm) → AreOpposite mine theirs → AreOpposite (outbound mine theirs form).mine (outbound mine theirs form).theirs }
-    ensures listed { (mine theirs : Side) (form : PresenceForm) → AreListed mine theirs → AreListed (outbound mine theirs form).mine (outbound mine theirs form).theirs }
+    ensures opposite { (mine theirs : Side) (form : PresenceForm) → AreOpposite mine theirs
+        → AreOpposite (outbound mine theirs form).mine (outbound mine theirs form).theirs }
+    ensures listed { (mine theirs : Side) (form : PresenceForm) → AreListed mine theirs
+        → AreListed (outbound mine theirs form).mine (outbound mine theirs form).theirs }
 {}
 
 /// What the effects set is what becomes of the two sides, where the two are not one user.

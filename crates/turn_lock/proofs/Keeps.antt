@@ -1,5 +1,7 @@
 -- Each kind of step keeps the rule.
-use Rattle.std.proofs.Common.{◌≡◌, ◌≢◌, ◌⊎◌, ℕ, ◌+◌, ◌%◌, ◌^◌, ◌<◌, ◌≤◌, Bool, true, false, cond, eqb, List, [], ◌∷◌, ◌++◌, length, get_or, set, sym, refl, ap, ◌∙◌, subst, inl, inr, ⊎_elim, arith, length-set, get_or-set_same, get_or-set_other, eq-eqb, ne_eqb, length-append, Some, None}
+use Rattle.std.proofs.Common.{◌≡◌, ◌≢◌, ◌⊎◌, ℕ, ◌+◌, ◌%◌, ◌^◌, ◌<◌, ◌≤◌, Bool, true, false, cond, eqb, List, [], ◌∷◌, ◌++◌}
+use Rattle.std.proofs.Common.{length, get_or, set, sym, refl, ap, ◌∙◌, subst, inl, inr, ⊎_elim, arith, length-set}
+use Rattle.std.proofs.Common.{get_or-set_same, get_or-set_other, eq-eqb, ne_eqb, length-append, Some, None}
 use Rattle.std.proofs.lemmas.List.{get_or_default}
 use Rattle.std.specs.Prelude.{Option}
 use mathlib.Core.Logic.{dite}
@@ -15,7 +17,8 @@ use Rattle.turn_lock.specs.declared.rule.View.{View}
 use Rattle.turn_lock.specs.Views.{ticket_of, has_value, tickets, leaves, bit, either_of, total, claim, times, fresh, resting, spent, taken_in}
 use Rattle.turn_lock.specs.Histories.{Each, StartsWith, IsStory, places, Knows, IsHome, IsOut, Kept, Sound}
 use Rattle.turn_lock.specs.Steps.{peeked, drew, looked, passed_on}
-use Rattle.turn_lock.proofs.Sums.{true_or_false, set_present, only_one, total-append, total-set, one_within, two_within, total-alone, total-le, bit_same, times_of_none, length-fresh, fresh_with, fresh_without}
+use Rattle.turn_lock.proofs.Sums.{true_or_false, set_present, only_one, total-append, total-set, one_within, two_within, total-alone}
+use Rattle.turn_lock.proofs.Sums.{total-le, bit_same, times_of_none, length-fresh, fresh_with, fresh_without}
 use Rattle.turn_lock.proofs.Stories.{each_map, each_append, each_left, each_right}
 use Rattle.turn_lock.proofs.Stories.{starts_itself, starts_longer, starts_nothing, starts_before, length-starts}
 use Rattle.turn_lock.proofs.Stories.{places_of_own, claims_of_others, fresh_are_right}

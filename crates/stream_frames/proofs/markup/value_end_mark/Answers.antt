@@ -1,7 +1,7 @@
 use Rattle.std.proofs.Common.{◌≡◌, sym, ap, ◌∙◌, rules}
 use Rattle.stream_lex.specs.declared.Token.TheVariants as token
-use Rattle.stream_grammar.specs.Building.{Building}
-use Rattle.stream_grammar.specs.Gathering.{gather}
+use Rattle.stream_grammar.specs.machine.Building.{Building}
+use Rattle.stream_grammar.specs.machine.Gathering.{gather}
 use Rattle.stream_frames.specs.Builds.{building}
 use Rattle.stream_frames.specs.Markup.{quote_byte}
 use Rattle.stream_frames.specs.Tracking.{Tracked}

@@ -1,5 +1,5 @@
 use Rattle.std.proofs.Common.{◌≡◌, drop}
-use Rattle.stream_grammar.specs.Namespaces.{has_forbidden}
+use Rattle.stream_grammar.specs.grammar.Namespaces.{has_forbidden}
 use Rattle.stream_frames.proofs.namespaces.any_forbidden.Given as goal
 
 abbrev pub invariant-loop-attribute : goal.invariant-loop-attribute

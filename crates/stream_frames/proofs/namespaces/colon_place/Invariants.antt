@@ -1,5 +1,5 @@
 use Rattle.std.proofs.Common.{◌≡◌, ◌+◌, drop}
-use Rattle.stream_grammar.specs.Namespaces.{colon_at}
+use Rattle.stream_grammar.specs.grammar.Namespaces.{colon_at}
 use Rattle.stream_frames.proofs.namespaces.colon_place.Given as goal
 
 abbrev pub invariant-loop-i : goal.invariant-loop-i

@@ -1,5 +1,5 @@
 use Rattle.std.proofs.Common.{◌≡◌, take, None}
-use Rattle.stream_grammar.specs.Namespaces.{last_space}
+use Rattle.stream_grammar.specs.grammar.Namespaces.{last_space}
 use Rattle.stream_frames.proofs.namespaces.last_bound.Given as goal
 
 abbrev pub invariant-loop-i : goal.invariant-loop-i

@@ -1,6 +1,6 @@
 use Rattle.std.proofs.Common.{◌≡◌, take}
 use Rattle.stream_frames.specs.Spaces.{bound_space}
-use Rattle.stream_grammar.specs.Namespaces.{last_layer}
+use Rattle.stream_grammar.specs.grammar.Namespaces.{last_layer}
 use Rattle.stream_frames.proofs.namespaces.last_in_layers.Given as goal
 
 abbrev pub invariant-loop-i : goal.invariant-loop-i

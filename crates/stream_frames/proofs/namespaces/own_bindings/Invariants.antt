@@ -1,5 +1,5 @@
 use Rattle.std.proofs.Common.{◌≡◌, ◌++◌, drop}
-use Rattle.stream_grammar.specs.Namespaces.{own}
+use Rattle.stream_grammar.specs.grammar.Namespaces.{own}
 use Rattle.stream_frames.proofs.namespaces.own_bindings.Given as goal
 
 abbrev pub invariant-loop-attribute : goal.invariant-loop-attribute

@@ -1,7 +1,7 @@
 use Rattle.std.proofs.Common.{◌≡◌, ◌≤◌, ◌+◌, ◌++◌, length, true, vec_len, vec_capacity}
 use Rattle.std.specs.Vec.Iter.{into_iter_items}
 use Rattle.stream_frames.specs.Filled.{attrs_in}
-use Rattle.stream_grammar.specs.Resolving.{are_text_attrs}
+use Rattle.stream_grammar.specs.grammar.Resolving.{are_text_attrs}
 use Rattle.stream_frames.proofs.tags.full_attrs.Given as goal
 
 abbrev pub invariant-loop-attribute : goal.invariant-loop-attribute

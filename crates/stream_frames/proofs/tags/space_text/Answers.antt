@@ -1,6 +1,6 @@
 use Rattle.std.proofs.Common.{◌∙◌, ap}
 use Rattle.std.specs.Str.{is_utf8}
-use Rattle.stream_grammar.specs.Resolving.{or_none}
+use Rattle.stream_grammar.specs.grammar.Resolving.{or_none}
 use Rattle.stream_frames.specs.Spaces.{bound_space}
 use Rattle.stream_frames.proofs.TextLemmas.{nothing_text}
 use Rattle.stream_frames.proofs.tags.space_text.Goals as goal

@@ -1,6 +1,6 @@
 use Rattle.std.proofs.Common.{◌≡◌, true, refl, sym, subst}
 use Rattle.stream_lex.specs.declared.stages.State.{State}
-use Rattle.stream_lex.specs.Live.{is_live}
+use Rattle.stream_lex.specs.machine.Live.{is_live}
 use Rattle.stream_frames.proofs.tracker.fault_after_end.Goals as goal
 
 pub at-lex-requires : goal.at-lex-requires

@@ -1,6 +1,6 @@
 use Rattle.std.proofs.Common.{◌≡◌}
 use Rattle.stream_frames.specs.Moves.{tokens_move}
-use Rattle.stream_lex.specs.Leading.{tokens_of}
+use Rattle.stream_lex.specs.machine.Leading.{tokens_of}
 use Rattle.stream_frames.specs.Tracking.{judged}
 use Rattle.std.specs.declared.option.Option.TheVariants.{Some}
 use Rattle.stream_frames.proofs.TrackLemmas.{judged-open, judged-broken, if-open, if-broken}

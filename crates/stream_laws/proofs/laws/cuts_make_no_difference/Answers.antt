@@ -1,6 +1,6 @@
 use Rattle.std.proofs.Common.{◌≡◌, ℕ, List, ◌∷◌, refl}
 use Rattle.stream_grammar.specs.declared.item.Limits.{Limits}
-use Rattle.stream_grammar.specs.Reading.{Reading, reads, stopped, handed, went}
+use Rattle.stream_grammar.specs.machine.Reading.{Reading, reads, stopped, handed, went}
 use Rattle.stream_grammar.proofs.FeedLemmas.{piece_went}
 use Rattle.stream_laws.proofs.Handing.{went-more}
 use Rattle.stream_laws.proofs.laws.cuts_make_no_difference.Goals as goal

@@ -1,5 +1,5 @@
 use Rattle.std.proofs.lemmas.List.Elements.{recursion_from_All}
-use Rattle.stream_grammar.specs.RoundTrips.{IsWritable}
+use Rattle.stream_grammar.specs.grammar.RoundTrips.{IsWritable}
 use Rattle.stream_laws.proofs.RoundTripInsert.{all-come, all-read}
 use Rattle.stream_laws.proofs.round_trip.all_that_is_written_is_read.Goals as goal
 

@@ -1,5 +1,5 @@
 use Rattle.std.proofs.Common.{◌≡◌, drop}
-use Rattle.stream_lex.specs.Classes.{has_between}
+use Rattle.stream_lex.specs.grammar.Classes.{has_between}
 use Rattle.stream_lex.proofs.characters.any_between.Given as goal
 
 -- the runs from here on decide

@@ -1,6 +1,6 @@
 use Rattle.std.proofs.Common.{arith}
-use Rattle.stream_lex.specs.Characters.{reach}
-use Rattle.stream_lex.specs.Turns.{turn_ascii, turn_wide}
+use Rattle.stream_lex.specs.machine.Characters.{reach}
+use Rattle.stream_lex.specs.machine.Turns.{turn_ascii, turn_wide}
 use Rattle.stream_lex.proofs.Living.{live-parts, live-turn_ascii, live-turn_wide, reach-awaited}
 use Rattle.stream_lex.proofs.Standing.{turned-live}
 use Rattle.stream_lex.proofs.turning.advance.Goals as goal

@@ -1,6 +1,6 @@
 use Rattle.std.proofs.Common.{◌≡◌, sym, ap, subst, ◌∙◌, rules}
 use Rattle.std.specs.Prelude.{Some, None, IfOk, slice_index_or}
-use Rattle.stream_grammar.specs.Reading.{Reading}
+use Rattle.stream_grammar.specs.machine.Reading.{Reading}
 use Rattle.replay_script.specs.Deeds.{Framers, with_framer}
 use Rattle.script_play.specs.Streams.{reading_at}
 use Rattle.script_play.proofs.StreamLemmas.{with_set, any_default}

@@ -2,8 +2,8 @@ use Rattle.std.proofs.Common.{◌≡◌, ◌≤◌, ◌+◌, ◌*◌, drop, leng
 use Rattle.std.specs.Prelude.{string_len, string_capacity}
 use Rattle.std.specs.Option.{is_some}
 use Rattle.stream_frames.specs.Builds.{building}
-use Rattle.stream_grammar.specs.Building.{build_all}
-use Rattle.stream_grammar.specs.Telling.{are_words}
+use Rattle.stream_grammar.specs.machine.Building.{build_all}
+use Rattle.stream_grammar.specs.machine.Telling.{are_words}
 use Rattle.stream_frames.proofs.built.Builder.add_words.Given as goal
 
 abbrev pub invariant-loop-token : goal.invariant-loop-token

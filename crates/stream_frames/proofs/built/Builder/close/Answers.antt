@@ -5,7 +5,7 @@ use Rattle.stream_frames.specs.declared.built.OpenElement.{OpenElement}
 use Rattle.stream_frames.specs.declared.built.Parent.{Parent}
 use Rattle.stream_grammar.specs.declared.item.Item.TheVariants as item
 use Rattle.stream_frames.specs.Builds.{opened, building, open_element, open_parent}
-use Rattle.stream_grammar.specs.Building.{Building, Opened, last_closed}
+use Rattle.stream_grammar.specs.machine.Building.{Building, Opened, last_closed}
 use Rattle.stream_frames.proofs.BuildLemmas.{close_some, close_none, last_parent, popped_last, popped_none}
 use Rattle.stream_frames.proofs.built.Builder.close.Goals as goal
 

@@ -1,7 +1,7 @@
 use Rattle.std.proofs.Common.{◌≡◌, ◌+◌, ◌≤◌, min, take, length, ap, sym, subst, ◌∙◌, arith, rules}
 use Rattle.std.proofs.lemmas.List.{length-take}
 use Rattle.stream_grammar.specs.declared.rules.Rules.{Rules}
-use Rattle.stream_grammar.specs.Reading.{rules_of}
+use Rattle.stream_grammar.specs.grammar.Bounds.{rules_of}
 use Rattle.stream_frames.specs.Fed.{Fed}
 use Rattle.stream_frames.specs.Markup.{LeadsBy}
 use Rattle.stream_frames.specs.Works.{work_of}

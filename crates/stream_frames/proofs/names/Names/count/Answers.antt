@@ -1,7 +1,7 @@
 use Rattle.std.proofs.Common.{ℕ, ◌+◌, List, length, ap, sym, ◌∙◌}
 use Rattle.std.specs.declared.option.Option.{Option}
 use Rattle.stream_frames.specs.declared.names.OpenName.{OpenName}
-use Rattle.stream_grammar.specs.Trees.{RawName}
+use Rattle.stream_grammar.specs.grammar.Trees.{RawName}
 use Rattle.stream_frames.specs.Stacks.{stacked}
 use Rattle.stream_frames.proofs.StackLemmas.{counted}
 use Rattle.stream_frames.proofs.names.Names.count.Goals as goal

@@ -1,7 +1,7 @@
 use Rattle.std.proofs.Common.{ℕ, List, ap, sym, ◌∙◌, nat_le}
 use Rattle.std.specs.declared.option.Option.{Option}
 use Rattle.stream_frames.specs.declared.names.OpenName.{OpenName}
-use Rattle.stream_grammar.specs.Trees.{RawName}
+use Rattle.stream_grammar.specs.grammar.Trees.{RawName}
 use Rattle.stream_frames.specs.Stacks.{stacked, left_of, is_all}
 use Rattle.stream_frames.proofs.StackLemmas.{whole_at}
 use Rattle.stream_frames.proofs.names.Names.is_whole.Goals as goal

@@ -1,7 +1,7 @@
 use Rattle.std.proofs.Common.{◌≡◌, List, ◌∷◌, ◌++◌, [], ap, sym, ◌∙◌}
 use Rattle.std.specs.declared.option.Option.{Option}
 use Rattle.stream_frames.specs.declared.names.OpenName.{OpenName}
-use Rattle.stream_grammar.specs.Trees.{RawName}
+use Rattle.stream_grammar.specs.grammar.Trees.{RawName}
 use Rattle.stream_frames.specs.Stacks.{raw, stacked, stacked_on}
 use Rattle.stream_frames.proofs.StackLemmas.{pushed-some}
 use Rattle.stream_frames.proofs.names.Names.push.Goals as goal

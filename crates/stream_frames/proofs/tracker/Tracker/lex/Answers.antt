@@ -2,8 +2,8 @@ use Rattle.std.proofs.Common.{subst}
 use Rattle.std.specs.Prelude.{IfNone}
 use Rattle.std.specs.declared.option.Option.{Option}
 use Rattle.stream_lex.specs.declared.LexFault.{LexFault}
-use Rattle.stream_lex.specs.Turns.{turn}
-use Rattle.stream_lex.specs.Leading.{IsTurned}
+use Rattle.stream_lex.specs.machine.Turns.{turn}
+use Rattle.stream_lex.specs.machine.Leading.{IsTurned}
 use Rattle.stream_frames.proofs.TrackLemmas.{turned_few}
 use Rattle.stream_frames.proofs.tracker.Tracker.lex.Goals as goal
 

@@ -1,0 +1,15 @@
+pub mod Trees
+pub mod Streams
+pub mod Items
+pub mod Elements
+pub mod Faults
+pub mod Namespaces
+pub mod Resolving
+pub mod Proper
+pub mod Paths
+pub mod Parts
+pub mod RoundTrips
+pub mod Widths
+pub mod Extents
+pub mod Tags
+pub mod Bounds

@@ -1,0 +1,35 @@
+-- A tag with its names in their namespaces (Namespaces in XML 1.0).
+use Rattle.std.specs.Prelude.{ℕ, List, [], ◌∷◌, Bool, true, ◌&&◌, if◌then◌else◌, Option, Some, None}
+use Rattle.std.specs.Str.{is_utf8}
+use Rattle.stanza_tree.specs.declared.node.Name.{Name}
+use Rattle.stanza_tree.specs.declared.node.Attr.{Attr}
+use Rattle.stream_grammar.specs.declared.namespaces.Binding.{Binding}
+use Rattle.stream_grammar.specs.declared.namespaces.Written.{Written}
+use Rattle.stream_grammar.specs.grammar.Namespaces.{prefix_of, local_of, is_declaration, space_of, attribute_space}
+
+-- a namespace that is not bound counts as none
+abbrev pub or_none : Option (List ℕ) → List ℕ
+or_none None = []
+or_none (Some space) = space
+
+abbrev pub name_on : List (List Binding) → List ℕ → Name
+name_on layers name = record { space = or_none (space_of layers (prefix_of name)); local = local_of name }
+
+abbrev pub attr_on : List (List Binding) → Written → Attr
+attr_on layers a = record { name = record { space = or_none (attribute_space layers a.name); local = local_of a.name }; value = a.value }
+
+-- declarations are no attributes
+abbrev pub attrs_on : List (List Binding) → List Written → List Attr
+attrs_on layers [] = []
+attrs_on layers (a ∷ more) = if is_declaration a.name then attrs_on layers more else attr_on layers a ∷ attrs_on layers more
+
+-- names and namespaces are texts
+abbrev pub is_text_name : Name → Bool
+is_text_name n = is_utf8 n.space && is_utf8 n.local
+
+abbrev pub are_text_attrs : List Attr → Bool
+are_text_attrs [] = true
+are_text_attrs (a ∷ more) = is_text_name a.name && are_text_attrs more
+
+abbrev pub is_text_tag : List (List Binding) → List ℕ → List Written → Bool
+is_text_tag layers name attributes = is_text_name (name_on layers name) && are_text_attrs (attrs_on layers attributes)
