@@ -1,11 +1,9 @@
 -- Markup that ends a tag in an item that goes on.
-use Rattle.std.proofs.Common.{◌≡◌, ℕ, ◌+◌, List, [], ◌∷◌, ◌++◌, length, refl, sym, ap, ◌∙◌, subst, Bool, true, false, not, cond, ◌&&◌, ◌==◌, nat_lt, arith}
-use Rattle.std.specs.Prelude.{Option, None, Some, if◌then◌else◌}
+use Rattle.std.proofs.Common.{◌≡◌, ℕ, List, [], ◌∷◌, length, refl, sym, ap, ◌∙◌, subst, Bool, true, false, not, ◌&&◌, ◌==◌, nat_lt, arith}
+use Rattle.std.specs.Prelude.{None, if◌then◌else◌}
 use Rattle.std.proofs.lemmas.Bool.{and_parts, and_right, eqb-true, not-true, lt-ltb}
 use Rattle.stanza_tree.specs.declared.node.Element.{Element}
-use Rattle.stream_lex.specs.declared.Token.{Token}
 use Rattle.stream_lex.specs.declared.Token.TheVariants as token
-use Rattle.stream_lex.specs.declared.characters.Pending.TheVariants as pending
 use Rattle.stream_lex.specs.declared.stages.Context.TheVariants.{Words}
 use Rattle.stream_lex.specs.declared.stages.Half.TheVariants.{Prefix, Local}
 use Rattle.stream_lex.specs.declared.stages.NameOwner.TheVariants.{StartTag, EndTag}
@@ -15,17 +13,21 @@ use Rattle.stream_lex.specs.declared.stages.State.{State}
 use Rattle.stream_lex.specs.grammar.Kinds.{ascii_kind}
 use Rattle.stream_lex.specs.machine.Machine.{ascii, in_name}
 use Rattle.stream_lex.specs.machine.Machine.{in_tag as in_tag_turn}
-use Rattle.stream_lex.specs.machine.Turns.{leads, turn, turn_ascii}
+use Rattle.stream_lex.specs.machine.Turns.{Outcome, leads, turn, turn_ascii}
 use Rattle.stream_grammar.specs.declared.rules.Rules.{Rules}
 use Rattle.stream_grammar.specs.grammar.Trees.{RawName}
 use Rattle.stream_grammar.specs.machine.Nesting.{Nest, inside, naming, in_tag, closing, nest}
 use Rattle.stream_grammar.specs.machine.Framing.{Frame, open_at, is_empty_mark}
+use Rattle.stream_grammar.specs.grammar.Tags.{Gathered}
+use Rattle.stream_grammar.specs.machine.Ends.{tokens_told}
+use Rattle.stream_grammar.specs.machine.Texts.{IsTextTag, HasTexts, AreNamed}
+use Rattle.stream_grammar.proofs.NameTexts.{told_named}
 use Rattle.stream_grammar.specs.grammar.Elements.{inside_of}
 use Rattle.stream_grammar.specs.machine.Gathering.{nothing_gathered}
 use Rattle.stream_grammar.specs.machine.Building.{Building, Opened, headed, begun, ended_in, closed_in, build, tag_judged}
 use Rattle.stream_frames.specs.Markup.{LeadsBy, ends_start, enters_by, now_entered, hollows_by, now_hollow, leaves_by, now_left, has_parent}
 use Rattle.stream_frames.specs.Moves.{is_none}
-use Rattle.stream_frames.specs.Stacks.{outer, is_all}
+use Rattle.stream_frames.specs.Stacks.{outer}
 use Rattle.stream_frames.specs.Runs.{is_between_characters, is_end_stage, has_opened}
 use Rattle.stream_frames.proofs.MarkupLemmas.{stage_at, state_at, told_led}
 
@@ -51,6 +53,11 @@ closed-same [] b h = absurd (let bad : false ≡ true = h in cc)
 closed-same (o ∷ []) b h = absurd (let bad : false ≡ true = h in cc)
 closed-same (o ∷ x ∷ os) b h = refl
 
+-- Names are texts where a tag ends.
+
+ending-named : (s : Stage) (n : Nest) (e : Bool) (g : Gathered) → turn (stage_at s) 62 ≡ leads (stage_at (stage.Text Words)) (token.TagEnds e ∷ []) → HasTexts (open_at (stage_at s) n) g → IsTextTag g
+ending-named s n e g turned h = subst (λ (o : Outcome). AreNamed g (tokens_told o)) turned (told_named (open_at (stage_at s) n) 62 g h)
+
 -- A start tag.
 
 start-ends : (h : _) → turn (stage_at (stage.Name StartTag h)) 62 ≡ leads (stage_at (stage.Text Words)) (token.TagEnds false ∷ [])
@@ -71,6 +78,16 @@ enters-turn (stage.Name StartTag i) h = start-ends i
 enters-turn stage.InTag h = tag-ends
 enters-turn stage.ValueEnded h = value-ends
 enters-turn s h = absurd (let bad : false ≡ true = h in cc)
+
+enters-named : (st : State) (n : Nest) (t : Bool) (g : Gathered) → ((ends_start st.stage && is_between_characters st) && t) ≡ true → HasTexts (open_at st n) g → IsTextTag g
+enters-named st n t g h texts =
+    let q = and_parts (ends_start st.stage) (is_between_characters st) (and_parts (ends_start st.stage && is_between_characters st) t h).0 in
+    ending-named st.stage n false g (enters-turn st.stage q.0) (subst (λ (y : State). HasTexts (open_at y n) g) (state_at st st.stage q.1 refl) texts)
+
+pub entered_named : (f : Frame) (byte : ℕ) (g : Gathered) → enters_by f byte ≡ true → HasTexts f g → IsTextTag g
+entered_named (open_at st (naming ms m)) byte g h texts = enters-named st (naming ms m) (not (is_none ms) && (byte == 62)) g h texts
+entered_named (open_at st (in_tag ms m i)) byte g h texts = enters-named st (in_tag ms m i) (not (is_none ms) && (byte == 62)) g h texts
+entered_named f byte g h texts = absurd (let bad : false ≡ true = h in cc)
 
 naming-enters : (r : Rules) (ms : List RawName) (m : RawName) → nest r (naming ms m) (token.TagEnds false) ≡ inside (m ∷ ms)
 unfolding nest
@@ -112,6 +129,16 @@ mark-ends = refl
 empty-mark-is : (s : Stage) → is_empty_mark s ≡ true → s ≡ stage.EmptyTagMark
 empty-mark-is stage.EmptyTagMark h = refl
 empty-mark-is s h = absurd (let bad : false ≡ true = h in cc)
+
+hollows-named : (st : State) (n : Nest) (t : Bool) (g : Gathered) → ((is_empty_mark st.stage && is_between_characters st) && t) ≡ true → HasTexts (open_at st n) g → IsTextTag g
+hollows-named st n t g h texts =
+    let q = and_parts (is_empty_mark st.stage) (is_between_characters st) (and_parts (is_empty_mark st.stage && is_between_characters st) t h).0 in
+    ending-named stage.EmptyTagMark n true g mark-ends (subst (λ (y : State). HasTexts (open_at y n) g) (state_at st stage.EmptyTagMark q.1 (empty-mark-is st.stage q.0)) texts)
+
+pub hollow_named : (f : Frame) (byte : ℕ) (g : Gathered) → hollows_by f byte ≡ true → HasTexts f g → IsTextTag g
+hollow_named (open_at st (naming ms m)) byte g h texts = hollows-named st (naming ms m) (nat_lt 1 (length ms) && (byte == 62)) g h texts
+hollow_named (open_at st (in_tag ms m i)) byte g h texts = hollows-named st (in_tag ms m i) (nat_lt 1 (length ms) && (byte == 62)) g h texts
+hollow_named f byte g h texts = absurd (let bad : false ≡ true = h in cc)
 
 naming-hollow : (r : Rules) (x : RawName) (ms : List RawName) (m : RawName) → nest r (naming (x ∷ ms) m) (token.TagEnds true) ≡ inside (x ∷ ms)
 unfolding nest

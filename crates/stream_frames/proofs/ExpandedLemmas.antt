@@ -1,12 +1,12 @@
 -- Names that are unbound or come twice, by the expanded names.
-use Rattle.std.proofs.Common.{◌≡◌, ◌||◌, ◌&&◌, ◌∙◌, Bool, false, List, ℕ, [], ◌∷◌, map, refl, ap, true, if◌then◌else◌, Some, None}
+use Rattle.std.proofs.Common.{◌≡◌, ◌||◌, ◌∙◌, List, ℕ, [], ◌∷◌, map, refl, ap, true, if◌then◌else◌, Some, None}
 use Rattle.stream_grammar.specs.declared.namespaces.Binding.{Binding}
 use Rattle.stream_grammar.specs.declared.namespaces.Written.{Written}
 use Rattle.stream_grammar.specs.declared.namespaces.NameFault.TheVariants as fault
 use Rattle.stream_grammar.specs.grammar.Namespaces.{has_unbound, has_twin, has_twins, is_twin, is_unbound, attribute_space, is_bound_to}
 use Rattle.stream_grammar.specs.grammar.Namespaces.{xml_space, has_forbidden, is_declaration, space_of, prefix_of, tag_fault}
-use Rattle.stream_frames.specs.Expanded.{expanded, has_unbound_name, is_among, has_repeat, fault_of_names, spaces_of, are_texts}
-use Rattle.stream_grammar.specs.grammar.Resolving.{or_none, attr_on, attrs_on, is_text_name, are_text_attrs}
+use Rattle.stream_frames.specs.Expanded.{expanded, has_unbound_name, is_among, has_repeat, fault_of_names, spaces_of}
+use Rattle.stream_grammar.specs.grammar.Resolving.{or_none}
 use Rattle.stream_frames.specs.Filled.{spaces_on}
 
 pub unbound_by_names : (bindings : List (List Binding)) (attributes : List Written) → has_unbound_name (map (expanded bindings) attributes) ≡ has_unbound bindings attributes
@@ -32,12 +32,3 @@ fault_by_names bindings name attributes =
 pub spaces_by_names : (layers : List (List Binding)) (attributes : List Written) → spaces_of (map (expanded layers) attributes) ≡ spaces_on layers attributes
 spaces_by_names layers [] = refl
 spaces_by_names layers (a ∷ more) = ap (λ l. if is_declaration a.name then l else or_none (attribute_space layers a.name) ∷ l) (spaces_by_names layers more)
-
-texts_step : (layers : List (List Binding)) (a : Written) (more : List Written) (d : Bool) → are_texts (map (expanded layers) more) ≡ are_text_attrs (attrs_on layers more)
-    → (if d then are_texts (map (expanded layers) more) else is_text_name (attr_on layers a).name && are_texts (map (expanded layers) more)) ≡ are_text_attrs (if d then attrs_on layers more else attr_on layers a ∷ attrs_on layers more)
-texts_step layers a more true e = e
-texts_step layers a more false e = ap (λ b. is_text_name (attr_on layers a).name && b) e
-
-pub texts_by_names : (layers : List (List Binding)) (attributes : List Written) → are_texts (map (expanded layers) attributes) ≡ are_text_attrs (attrs_on layers attributes)
-texts_by_names layers [] = refl
-texts_by_names layers (a ∷ more) = texts_step layers a more (is_declaration a.name) (texts_by_names layers more)

@@ -1,11 +1,10 @@
 -- The parts of a tag give the element that its names are resolved to.
-use Rattle.std.proofs.Common.{◌≡◌, ◌∙◌, ◌&&◌, ℕ, List, [], ◌∷◌, refl, ap, Bool, true, false, if◌then◌else◌}
-use Rattle.std.specs.Str.{is_utf8}
+use Rattle.std.proofs.Common.{◌≡◌, ◌∙◌, ℕ, List, [], ◌∷◌, refl, ap, Bool, true, false, if◌then◌else◌}
 use Rattle.stanza_tree.specs.declared.node.Attr.{Attr}
 use Rattle.stream_grammar.specs.declared.namespaces.Binding.{Binding}
 use Rattle.stream_grammar.specs.declared.namespaces.Written.{Written}
-use Rattle.stream_grammar.specs.grammar.Namespaces.{local_of, is_declaration, attribute_space}
-use Rattle.stream_grammar.specs.grammar.Resolving.{or_none, attr_on, attrs_on, is_text_name, name_on, are_text_attrs, is_text_tag}
+use Rattle.stream_grammar.specs.grammar.Namespaces.{is_declaration, attribute_space}
+use Rattle.stream_grammar.specs.grammar.Resolving.{or_none, attr_on, attrs_on}
 use Rattle.stream_frames.specs.Filled.{spaces_on, first_of, others_of, attr_in, attrs_in}
 
 attrs_step : (layers : List (List Binding)) (a : Written) (more : List Written) (s : List ℕ) (ss : List (List ℕ)) (d : Bool) → attr_in s a ≡ attr_on layers a → attrs_in ss more ≡ attrs_on layers more
@@ -18,19 +17,3 @@ pub attrs_filled : (layers : List (List Binding)) (attributes : List Written) �
 attrs_filled layers [] = refl
 attrs_filled layers (a ∷ more) =
     attrs_step layers a more (or_none (attribute_space layers a.name)) (spaces_on layers more) (is_declaration a.name) refl (attrs_filled layers more)
-
-first-true : (a b : Bool) → (a && b) ≡ true → a ≡ true
-first-true true b e = refl
-first-true false b e = e
-
-second-true : (a b : Bool) → (a && b) ≡ true → b ≡ true
-second-true true b e = e
-second-true false b e = absurd (let bad : false ≡ true = e in cc)
-
--- where the tag is text, the local parts are
-pub text_left : (layers : List (List Binding)) (name : List ℕ) (attributes : List Written) → is_text_tag layers name attributes ≡ true → is_utf8 (local_of name) ≡ true
-text_left layers name attributes e =
-    second-true (is_utf8 (name_on layers name).space) (is_utf8 (local_of name)) (first-true (is_text_name (name_on layers name)) (are_text_attrs (attrs_on layers attributes)) e)
-
-pub texts_left : (layers : List (List Binding)) (name : List ℕ) (attributes : List Written) → is_text_tag layers name attributes ≡ true → are_text_attrs (attrs_in (spaces_on layers attributes) attributes) ≡ true
-texts_left layers name attributes e = ap are_text_attrs (attrs_filled layers attributes) ∙ second-true (is_text_name (name_on layers name)) (are_text_attrs (attrs_on layers attributes)) e

@@ -1,14 +1,13 @@
 -- Markup that ends no tag.
-use Rattle.std.proofs.Common.{◌≡◌, inl, inr, ℕ, suc, ◌+◌, ◌-◌, ◌<◌, ◌≤◌, List, [], ◌∷◌, ◌++◌, length, take, drop, get_or, refl, sym, ap}
+use Rattle.std.proofs.Common.{◌≡◌, inl, inr, ℕ, ◌+◌, ◌-◌, ◌<◌, List, [], ◌∷◌, length, take, drop, get_or, refl, sym, ap}
 use Rattle.std.proofs.Common.{◌∙◌, subst, Bool, true, false, not, cond, ◌||◌, ◌&&◌, ◌==◌, nat_lt, nat_le, arith}
 use Rattle.std.specs.Prelude.{Option, None, Some, if◌then◌else◌}
 use Rattle.std.specs.Option.{is_some}
-use Rattle.std.proofs.lemmas.Bool.{and_parts, and_right, ltb-true, leb-true, eqb-true, agree_below_at, or_cases}
+use Rattle.std.proofs.lemmas.Bool.{and_parts, and_right, leb-true, eqb-true, agree_below_at, or_cases}
 use Rattle.std.proofs.lemmas.List.{take_more, take_rest}
 use Rattle.std.proofs.Math.Seq.{take-add}
 use Rattle.stream_lex.specs.declared.Token.{Token}
 use Rattle.stream_lex.specs.declared.Token.TheVariants as token
-use Rattle.stream_lex.specs.declared.kinds.Kind.{Kind}
 use Rattle.stream_lex.specs.declared.characters.Pending.TheVariants as pending
 use Rattle.stream_lex.specs.declared.stages.Context.TheVariants.{Words, Value}
 use Rattle.stream_lex.specs.declared.stages.Half.TheVariants.{Prefix, Local}
@@ -26,7 +25,6 @@ use Rattle.stream_lex.specs.machine.Machine.{yields as tells_and_goes}
 use Rattle.stream_lex.specs.machine.Machine.{in_tag as in_tag_turn}
 use Rattle.stream_lex.specs.machine.Machine.{fault as turn_fault}
 use Rattle.stream_lex.specs.machine.Turns.{leads, at, turn, turn_ascii}
-use Rattle.stream_grammar.specs.declared.item.Limits.{Limits}
 use Rattle.stream_grammar.specs.declared.rules.Rules.{Rules}
 use Rattle.stream_grammar.specs.grammar.Trees.{RawName}
 use Rattle.stream_grammar.specs.machine.Nesting.{Nest, inside, naming, in_tag, naming_attribute, in_value as valuing, closing, lost, nest}
@@ -36,13 +34,11 @@ use Rattle.stream_grammar.specs.machine.Ends.{tokens_told, in_item_nest}
 use Rattle.stream_grammar.specs.machine.Building.{Building, build, tag_judged}
 use Rattle.stream_grammar.specs.machine.Gathering.{gather}
 use Rattle.stream_grammar.specs.grammar.Bounds.{rules_of}
-use Rattle.stream_frames.specs.Moves.{is_none}
-use Rattle.stream_frames.specs.Stacks.{begins_so}
 use Rattle.stream_frames.specs.Markup.{LeadsBy, only_at, after_part, silent_stage, may_be_silent, is_silent, stage_or, silenced, is_name_head}
 use Rattle.stream_frames.specs.Markup.{is_less, is_end_mark, is_in_tag, is_value_awaited, quote_byte, quote_of, closes_by, now_closing, awaits_value}
 use Rattle.stream_frames.specs.Markup.{now_in_value, now_in_tag, begins_by, now_naming, attributed_by, now_attributed}
-use Rattle.stream_frames.specs.Runs.{is_between_characters, open_quote, value_quote, Leads}
-use Rattle.stream_frames.proofs.RunLemmas.{Quiet, none_led, mark_led, led_by, led_then, implied, turned_to, between-state}
+use Rattle.stream_frames.specs.Runs.{is_between_characters, open_quote, Leads}
+use Rattle.stream_frames.proofs.RunLemmas.{none_led, mark_led, led_by, led_then, implied, turned_to, between-state}
 use Rattle.stream_frames.proofs.RunValues.{value_at, value-state}
 
 abbrev pub stage_at : Stage → State

@@ -1,7 +1,6 @@
 -- Plain bytes are a text.
-use Rattle.std.proofs.Common.{◌≡◌, ℕ, suc, ◌<◌, List, [], ◌∷◌, length, refl, arith, Bool, true, ◌&&◌, nat_lt, nat_le}
-use Rattle.std.specs.Str.{IsUtf8, is_utf8}
-use Rattle.std.proofs.lemmas.Str.{is_utf8-from_IsUtf8}
+use Rattle.std.proofs.Common.{◌≡◌, ℕ, List, [], ◌∷◌, refl, Bool, true, ◌&&◌, nat_lt, nat_le}
+use Rattle.std.specs.Str.{IsUtf8}
 use Rattle.std.proofs.lemmas.Bool.{and_parts, and_from}
 use Rattle.stanza_tree.proofs.Utf8Lemmas.{all_low, ascii-utf8}
 use Rattle.stream_lex.specs.declared.stages.Quote.{Quote}
@@ -24,7 +23,3 @@ word_utf8 xs h = ascii-utf8 xs (low-plain is_plain_word xs word-low h)
 
 pub value_utf8 : (q : Quote) (xs : List ℕ) → are_plain (is_plain_value q) xs ≡ true → IsUtf8 xs
 value_utf8 q xs h = ascii-utf8 xs (low-plain (is_plain_value q) xs (value-low q) h)
-
-pub empty_text : (bs : List ℕ) → length bs < 1 → is_utf8 bs ≡ true
-empty_text [] h = is_utf8-from_IsUtf8 [] (ascii-utf8 [] refl)
-empty_text (b ∷ bs) h = absurd (let long : suc (length bs) < 1 = h in omega (arith, long))

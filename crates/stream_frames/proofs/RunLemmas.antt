@@ -24,11 +24,13 @@ use Rattle.stream_grammar.specs.declared.rules.Rules.{Rules}
 use Rattle.stream_grammar.specs.machine.Framing.{Frame, frame_next, is_broken, fault_at}
 use Rattle.stream_grammar.specs.machine.Ends.{told_at, in_item}
 use Rattle.stream_grammar.specs.machine.Telling.{fault_told}
-use Rattle.stream_grammar.specs.machine.Building.{Building, build, build_all, told_judged, tag_judged}
+use Rattle.stream_grammar.specs.machine.Building.{Building, build_all, told_judged}
 use Rattle.stream_grammar.specs.machine.Reading.{Reading, reads, or_else, fault_if, concluded, is_past, extent_after, byte_judged}
 use Rattle.stream_grammar.specs.machine.Reading.{reading_next, reading_after, taken_reading, is_done, is_none}
 use Rattle.stream_grammar.specs.grammar.Bounds.{is_large_item, told_number, rules_of}
+use Rattle.stream_grammar.specs.machine.Texts.{HasTexts}
 use Rattle.stream_grammar.proofs.FeedLemmas.{after_more}
+use Rattle.stream_grammar.proofs.NameTexts.{next_texts}
 use Rattle.stream_frames.specs.Fed.{reading_of}
 use Rattle.stream_frames.specs.Markup.{LeadsBy}
 use Rattle.stream_frames.specs.Runs.{are_plain, is_between_characters, IsRun, Leads}
@@ -83,6 +85,7 @@ no_bytes_led f b c e = record {
         going = ap is_done same ∙ going;
         rest = ap (λ (s : Reading). taken_reading l s ys) (sym same) ∙ none-more (taken_reading l (reads f c (n + 0) (told_number (k + 0))) ys);
       };
+  texts = λ h. subst (λ (x : Building). HasTexts f x.tag) (sym e) h;
 }
   where
     none-more : (i : ℕ) → i ≡ 0 + i
@@ -113,15 +116,38 @@ more-run l f g h b c d byte ts xs ys n k q led going small fits =
           (more.rest ∙ ap (λ (s : Reading). length xs + taken_reading l s ys) to);
     }
 
+-- what was gathered of names stays UTF-8
+quiet-texts : (l : Limits) (f g : Frame) (b c : Building) (byte : ℕ) (ts : List Token) → Quiet l f b byte ts g c → HasTexts f b.tag → HasTexts g c.tag
+quiet-texts l f g b c byte ts q h =
+    subst (λ (x : Building). HasTexts g x.tag) q.built
+    (subst (λ (us : List Token). HasTexts g (build_all b us).tag) q.told
+    (subst (λ (x : Frame). HasTexts x (build_all b (told_at f byte)).tag) q.framed (next_texts (rules_of l) f byte b h)))
+
+limits-of : Rules → Limits
+limits-of r = record { bytes = 0; depth = r.depth; attrs = r.attributes; canonical = 0 }
+
+strict-rules : (r : Rules) → r.loose ≡ false → rules_of (limits-of r) ≡ r
+unfolding limits-of
+strict-rules r e = ap (λ (t : Bool). record r { loose = t }) (sym e)
+
+any-limits : Limits
+any-limits = record { bytes = 0; depth = 0; attrs = 0; canonical = 0 }
+
 pub more_led : (f g h : Frame) (b c d : Building) (byte : ℕ) (ts : List Token) (xs : List ℕ) → ((l : Limits) → Quiet l f b byte ts g c) → Leads g c xs h d → Leads f b (byte ∷ xs) h d
-more_led f g h b c d byte ts xs q led = record { run = λ l n k ys going small fits. more-run l f g h b c d byte ts xs ys n k (q l) led going small fits }
+more_led f g h b c d byte ts xs q led = record {
+  run = λ l n k ys going small fits. more-run l f g h b c d byte ts xs ys n k (q l) led going small fits;
+  texts = λ j. led.texts (quiet-texts any-limits f g b c byte ts (q any-limits) j);
+}
 
 -- one byte, under the rules
 pub mark_led : (r : Rules) (f g : Frame) (b c : Building) (byte : ℕ) (ts : List Token) → ((l : Limits) → rules_of l ≡ r → Quiet l f b byte ts g c) → LeadsBy r f b (byte ∷ []) g c
-mark_led r f g b c byte ts q = record { run = λ l n k ys by going small fits. more-run l f g g b c c byte ts [] ys n k (q l by) (no_bytes_led g c c refl) going small fits }
+mark_led r f g b c byte ts q = record {
+  run = λ l n k ys by going small fits. more-run l f g g b c c byte ts [] ys n k (q l by) (no_bytes_led g c c refl) going small fits;
+  texts = λ strict h. quiet-texts (limits-of r) f g b c byte ts (q (limits-of r) (strict-rules r strict)) h;
+}
 
 pub led_by : (r : Rules) (f g : Frame) (b c : Building) (xs : List ℕ) → Leads f b xs g c → LeadsBy r f b xs g c
-led_by r f g b c xs led = record { run = λ l n k ys by going small fits. led.run l n k ys going small fits }
+led_by r f g b c xs led = record { run = λ l n k ys by going small fits. led.run l n k ys going small fits; texts = λ strict h. led.texts h }
 
 -- bytes and then others
 pub led_then : (r : Rules) (f g h : Frame) (b c d : Building) (xs ms : List ℕ) → LeadsBy r f b xs g c → LeadsBy r g c ms h d → LeadsBy r f b (xs ++ ms) h d
@@ -139,10 +165,14 @@ led_then r f g h b c d xs ms led more = record {
             ∙ (first.rest ∙ (ap (λ (i : ℕ). length xs + i) (second.rest ∙ ap (λ (s : Reading). length ms + taken_reading l s ys) to)
             ∙ shift (length xs) (length ms) (length (xs ++ ms)) (taken_reading l (reads h d (n + length (xs ++ ms)) (told_number (k + length (xs ++ ms)))) ys) long));
       };
+  texts = λ strict t. more.texts strict (led.texts strict t);
 }
   where
     shift : (n m i j : ℕ) → i ≡ n + m → n + (m + j) ≡ i + j
     shift n m i j e = omega (arith, e)
+
+pub texts_led : (r : Rules) (f g : Frame) (b c : Building) (xs : List ℕ) → LeadsBy r f b xs g c → r.loose ≡ false → HasTexts f b.tag → HasTexts g c.tag
+texts_led r f g b c xs led strict h = led.texts strict h
 
 -- where no byte is read, nothing changes
 pub none_led : (f g : Frame) (b c : Building) (bytes : List ℕ) → g ≡ f → c ≡ b → Leads f b (take 0 bytes) g c

@@ -1,7 +1,6 @@
 -- Where nothing waits.
-use Rattle.std.proofs.Common.{◌≡◌, ℕ, [], ◌∷◌, refl, sym, ap, ◌∙◌, append-nil, true, false, not}
+use Rattle.std.proofs.Common.{◌≡◌, [], ◌∷◌, refl, sym, ap, append-nil, true, false, not}
 use Rattle.std.specs.Prelude.{Option, None, Some, option_to_list}
-use Rattle.stream_grammar.specs.machine.Building.{Building}
 use Rattle.stream_grammar.specs.machine.Calls.{Called, hands}
 use Rattle.stream_grammar.specs.declared.item.Item.{Item}
 use Rattle.stream_grammar.specs.declared.item.Limits.{Limits}

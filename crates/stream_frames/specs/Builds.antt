@@ -8,13 +8,11 @@ use Rattle.stream_frames.specs.declared.built.Parent.{Parent}
 use Rattle.stream_frames.specs.declared.built.Ready.{Ready}
 use Rattle.stream_frames.specs.declared.built.Ready.TheVariants as ready
 use Rattle.stream_grammar.specs.declared.item.Item.TheVariants as item
-use Rattle.std.specs.Str.{is_utf8}
 use Rattle.stanza_tree.specs.declared.node.Element.{Element}
 use Rattle.stream_grammar.specs.declared.namespaces.Binding.{Binding}
 use Rattle.stream_frames.specs.declared.tags.Resolved.{Resolved}
-use Rattle.stream_grammar.specs.grammar.Namespaces.{local_of}
-use Rattle.stream_grammar.specs.grammar.Resolving.{are_text_attrs}
-use Rattle.stream_frames.specs.Filled.{attrs_in, element_in}
+use Rattle.stream_grammar.specs.machine.Texts.{IsTextTag}
+use Rattle.stream_frames.specs.Filled.{element_in}
 use Rattle.stream_grammar.specs.grammar.Tags.{Gathered}
 use Rattle.stream_grammar.specs.machine.Gathering.{nothing_gathered, gather}
 use Rattle.stream_grammar.specs.machine.Building.{Opened, Building, settled_words, ended_in, closed_in, build_all}
@@ -47,7 +45,7 @@ HasChildRoom n (Some x) = vec_len x.children + n ≤ vec_capacity x.children
 abbrev pub IsOfTag : Builder → Resolved → Type 0
 IsOfTag b r =
     (r.room.items ≡ []) × (vec_len r.room + length b.attributes.items ≤ vec_capacity r.room)
-    × (is_utf8 (local_of b.name.items) ≡ true) × (are_text_attrs (attrs_in r.spaces.items b.attributes.items) ≡ true)
+    × IsTextTag (tag_of b)
 
 -- there is the room that it takes
 abbrev pub IsReady : Builder → List Token → Ready → Type 0

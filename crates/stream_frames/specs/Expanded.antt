@@ -6,7 +6,7 @@ use Rattle.stream_grammar.specs.declared.namespaces.NameFault.{NameFault}
 use Rattle.stream_grammar.specs.declared.namespaces.NameFault.TheVariants as fault
 use Rattle.stream_frames.specs.declared.expanded.Expanded.{Expanded}
 use Rattle.stream_frames.specs.Spaces.{bound_space}
-use Rattle.stream_grammar.specs.grammar.Resolving.{or_none, is_text_name}
+use Rattle.stream_grammar.specs.grammar.Resolving.{or_none}
 use Rattle.stream_grammar.specs.grammar.Namespaces.{is_declaration, local_of, attribute_space, is_unbound, same_space, is_bound_to, xml_space, has_forbidden}
 
 -- a namespace, unless the prefix is not bound, and a local part; and the attribute as it stands in the tag
@@ -26,11 +26,6 @@ expanded bindings a = record { space = attribute_space bindings a.name; local = 
 abbrev pub spaces_of : List FullName → List (List ℕ)
 spaces_of [] = []
 spaces_of (n ∷ ns) = if is_declaration n.written.name then spaces_of ns else or_none n.space ∷ spaces_of ns
-
--- their names are texts
-abbrev pub are_texts : List FullName → Bool
-are_texts [] = true
-are_texts (n ∷ ns) = if is_declaration n.written.name then are_texts ns else is_text_name (record { space = or_none n.space; local = n.local }) && are_texts ns
 
 -- one of them is in no namespace that is bound
 abbrev pub has_unbound_name : List FullName → Bool

@@ -1,5 +1,5 @@
 -- Markup that ends no tag: bytes below 128 of which each is read by its stage and place alone.
-use Rattle.std.specs.Prelude.{◌≡◌, ◌<◌, ◌≤◌, ℕ, ◌+◌, ◌^◌, List, [], ◌∷◌, ◌++◌, length, Bool, true, false, not, ◌==◌}
+use Rattle.std.specs.Prelude.{◌≡◌, ◌<◌, ◌≤◌, ℕ, ◌+◌, ◌^◌, List, [], ◌∷◌, length, Bool, true, false, not, ◌==◌}
 use Rattle.std.specs.Prelude.{◌&&◌, ◌||◌, nat_lt, nat_le, Option, Some, None, if◌then◌else◌}
 use Rattle.std.specs.Option.{is_some}
 use Rattle.stream_grammar.specs.declared.item.Limits.{Limits}
@@ -20,12 +20,14 @@ use Rattle.stream_lex.specs.declared.stages.Stage.TheVariants as stage
 use Rattle.stream_lex.specs.machine.Turns.{at}
 use Rattle.stream_frames.specs.Moves.{is_none}
 use Rattle.stream_frames.specs.Stacks.{outer, left_of, begins_so, is_all}
+use Rattle.stream_grammar.specs.machine.Texts.{HasTexts}
 use Rattle.stream_frames.specs.Runs.{is_between_characters, is_end_stage, has_opened, IsRun}
 
 -- As `Leads`, under rules on depth and attributes.
 pub record LeadsBy (r : Rules) (f : Frame) (b : Building) (xs : List ℕ) (g : Frame) (c : Building) : Type 0 where
   pub run : (l : Limits) (n k : ℕ) (ys : List ℕ) → rules_of l ≡ r → is_done (reads f b n k) ≡ false → k < 2 ^ 64 → n + length xs ≤ l.bytes
       → IsRun l (reads f b n k) xs ys (reads g c (n + length xs) (told_number (k + length xs)))
+  pub texts : r.loose ≡ false → HasTexts f b.tag → HasTexts g c.tag
 
 -- Bytes that tell nothing.
 

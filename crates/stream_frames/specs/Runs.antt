@@ -5,6 +5,7 @@ use Rattle.stream_grammar.specs.declared.item.Limits.{Limits}
 use Rattle.stream_grammar.specs.machine.Building.{Building, Opened}
 use Rattle.stream_grammar.specs.machine.Framing.{Frame, open_at}
 use Rattle.stream_grammar.specs.machine.Nesting.{inside, in_value, naming, naming_attribute, closing}
+use Rattle.stream_grammar.specs.machine.Texts.{HasTexts}
 use Rattle.stream_grammar.specs.machine.Reading.{Reading, reads, reading_after, taken_reading, is_done}
 use Rattle.stream_grammar.specs.grammar.Bounds.{told_number}
 use Rattle.stream_lex.specs.machine.Characters.{is_nothing}
@@ -110,7 +111,9 @@ pub record IsRun (l : Limits) (s : Reading) (xs ys : List ℕ) (t : Reading) : T
   pub going : is_done t ≡ false
   pub rest : taken_reading l s (xs ++ ys) ≡ length xs + taken_reading l t ys
 
--- Bytes lead from a place and what is made to others, and are a run wherever an item may still have so many.
+-- Bytes lead from a place and what is made to others, and are a run wherever an item may still have so many. What was gathered of names
+-- stays UTF-8.
 pub record Leads (f : Frame) (b : Building) (xs : List ℕ) (g : Frame) (c : Building) : Type 0 where
   pub run : (l : Limits) (n k : ℕ) (ys : List ℕ) → is_done (reads f b n k) ≡ false → k < 2 ^ 64 → n + length xs ≤ l.bytes
       → IsRun l (reads f b n k) xs ys (reads g c (n + length xs) (told_number (k + length xs)))
+  pub texts : HasTexts f b.tag → HasTexts g c.tag

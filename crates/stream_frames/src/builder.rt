@@ -3,14 +3,14 @@
 ghost use Rattle.std.specs.Prelude.{◌≡◌, ◌<◌, ◌≤◌, ◌+◌, ◌*◌, [], ◌∷◌, ◌++◌, length, true, false, None, Some, IfOk, IfErr, OnOk, vec_len, vec_capacity};
 ghost use Rattle.stream_frames.specs.Spaces.{bound_space};
 ghost use Rattle.stream_frames.specs.Works.{idle_on};
-ghost use Rattle.std.specs.Str.{is_utf8};
 ghost use Rattle.stream_grammar.specs.grammar.Namespaces.{own, space_of};
-ghost use Rattle.stream_grammar.specs.grammar.Resolving.{or_none, is_text_tag};
-ghost use Rattle.stream_frames.specs.TagFaults.{IsRefused, IsTagFault, IsStartFault, IsFaultOf, AreFaultOf};
+ghost use Rattle.stream_grammar.specs.grammar.Resolving.{or_none};
+ghost use Rattle.stream_frames.specs.TagFaults.{IsTagFault, IsStartFault, IsFaultOf, AreFaultOf};
 ghost use Rattle.stream_grammar.specs.grammar.Elements.{inside_of, element_with, fault_of_tag};
 ghost use Rattle.stream_lex.specs.declared.Token.TheVariants as token;
-ghost use Rattle.stream_grammar.specs.machine.Building.{Building, is_all_text, tag_judged, told_judged, build, build_all};
+ghost use Rattle.stream_grammar.specs.machine.Building.{Building, tag_judged, told_judged, build, build_all};
 ghost use Rattle.stream_grammar.specs.machine.Telling.{is_few};
+ghost use Rattle.stream_grammar.specs.machine.Texts.{IsTextTag, AreNamed};
 ghost use Rattle.stream_frames.specs.Builds.{tag_of, building, IsOfTag, IsReady, resolved_in, applied};
 
 use crate::built::{Beginning, Builder, Heading, Ready};
@@ -54,10 +54,8 @@ fn default_space(
     alloc: Global,
     layers: &[Several<Binding>],
     own: &[Binding],
-) -> Result<Text, TagFault>
-    ensures ok { IfOk result (λ t. t ≡ or_none (space_of (layers.now ++ own.now ∷ []) [])) }
-    ensures utf8 { OnOk result (is_utf8 (or_none (space_of (layers.now ++ own.now ∷ []) [])) ≡ true) }
-    ensures err { IfErr result (IsRefused (is_utf8 (or_none (space_of (layers.now ++ own.now ∷ []) [])))) }
+) -> Result<Text, NoMemory>
+    ensures { IfOk result (λ t. t ≡ or_none (space_of (layers.now ++ own.now ∷ []) [])) }
 {
     space_text(alloc, default_bound(layers, own))
 }
@@ -114,8 +112,8 @@ impl Builder {
     }
 
     /// What the tag that was begun last needs to become an element, and the bindings that it declares. Leaves room for these.
-    #[tactic(auto, using(crate::proofs::FillLemmas::text_left, crate::proofs::FillLemmas::texts_left))]
     fn resolved_tag(&mut self) -> Result<(Resolved, Several<Binding>), TagFault>
+        requires { IsTextTag (tag_of self.old) }
         ensures kept { building self.new ≡ building self.old }
         ensures parts { (self.new.innermost ≡ self.old.innermost) × (self.new.others ≡ self.old.others) }
         ensures element { IfOk result (λ p. resolved_in p.0 (tag_of self.old) ≡ element_with (inside_of (building self.old).layers (tag_of self.old))
@@ -124,7 +122,6 @@ impl Builder {
         ensures own { IfOk result (λ p. p.1 ≡ own self.old.attributes.items) }
         ensures room { OnOk result (vec_len self.new.layers < vec_capacity self.new.layers) }
         ensures ok { OnOk result (fault_of_tag (building self.old).layers (tag_of self.old) ≡ None) }
-        ensures utf8 { OnOk result (is_text_tag (inside_of (building self.old).layers (tag_of self.old)) self.old.name.items self.old.attributes.items ≡ true) }
         ensures fault { IfErr result (IsTagFault (inside_of (building self.old).layers (tag_of self.old)) self.old.name.items self.old.attributes.items) }
     {
         share_declared(self.alloc, &mut self.attributes)?;
@@ -146,12 +143,12 @@ impl Builder {
 
     /// What the start tag that was begun last will do.
     fn ready_for_start(&mut self) -> Result<Ready, TagFault>
+        requires { IsTextTag (tag_of self.old) }
         ensures kept { building self.new ≡ building self.old }
         ensures applied { IfOk result (λ r. (b : Building) → b ≡ building self.old → applied r (token.TagEnds false ∷ []) b ≡ build b (token.TagEnds false)) }
         ensures ready { IfOk result (IsReady self.new (token.TagEnds false ∷ [])) }
         ensures ok { OnOk result (fault_of_tag (building self.old).layers (tag_of self.old) ≡ None) }
-        ensures utf8 { OnOk result (is_all_text (building self.old) false ≡ true) }
-        ensures fault { IfErr result (IsStartFault (building self.old) false) }
+        ensures fault { IfErr result (IsStartFault (building self.old)) }
     {
         let (resolved, own) = self.resolved_tag()?;
         if self.layers.is_empty() {
@@ -172,12 +169,12 @@ impl Builder {
 
     /// What the empty-element tag that was begun last will do.
     fn ready_for_hollow(&mut self) -> Result<Ready, TagFault>
+        requires { IsTextTag (tag_of self.old) }
         ensures kept { building self.new ≡ building self.old }
         ensures applied { IfOk result (λ r. (b : Building) → b ≡ building self.old → applied r (token.TagEnds true ∷ []) b ≡ build b (token.TagEnds true)) }
         ensures ready { IfOk result (IsReady self.new (token.TagEnds true ∷ [])) }
         ensures ok { OnOk result (fault_of_tag (building self.old).layers (tag_of self.old) ≡ None) }
-        ensures utf8 { OnOk result (is_all_text (building self.old) true ≡ true) }
-        ensures fault { IfErr result (IsStartFault (building self.old) true) }
+        ensures fault { IfErr result (IsStartFault (building self.old)) }
     {
         let (resolved, _) = self.resolved_tag()?;
         if let Some(innermost) = &mut self.innermost {
@@ -188,6 +185,7 @@ impl Builder {
 
     /// What a token will do.
     pub(crate) fn ready_for(&mut self, token: Token) -> Result<Ready, TagFault>
+        requires { AreNamed (tag_of self.old) (token ∷ []) }
         ensures kept { building self.new ≡ building self.old }
         ensures applied { IfOk result (λ r. applied r (token ∷ []) (building self.old) ≡ build_all (building self.old) (token ∷ [])) }
         ensures ready { IfOk result (IsReady self.new (token ∷ [])) }
@@ -233,6 +231,7 @@ impl Builder {
     pub(crate) fn prepare(&mut self, told: &[Token]) -> Result<Ready, TagFault>
         requires few { is_few told.now ≡ true }
         requires short { length told.now ≤ 4 }
+        requires named { AreNamed (tag_of self.old) told.now }
         ensures kept { building self.new ≡ building self.old }
         ensures applied { IfOk result (λ r. applied r told.now (building self.old) ≡ build_all (building self.old) told.now) }
         ensures ready { IfOk result (IsReady self.new told.now) }

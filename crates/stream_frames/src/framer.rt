@@ -12,7 +12,8 @@ ghost use Rattle.stream_grammar.specs.machine.Framing.{frame_next};
 ghost use Rattle.stream_grammar.specs.machine.Ends.{told_at, in_item};
 ghost use Rattle.stream_grammar.specs.machine.Telling.{is_few};
 ghost use Rattle.stream_grammar.specs.machine.Building.{build_all};
-ghost use Rattle.stream_frames.specs.Builds.{building};
+ghost use Rattle.stream_grammar.specs.machine.Texts.{HasTexts, AreNamed};
+ghost use Rattle.stream_frames.specs.Builds.{building, tag_of};
 ghost use Rattle.stream_frames.specs.Runs.{IsRun};
 ghost use Rattle.stream_frames.specs.Works.{work_of};
 
@@ -40,6 +41,7 @@ pub const LIMITS: Limits = Limits {
 fn prepared(builder: &mut Builder, told: &[Token]) -> Result<Result<Ready, FrameFault>, NoMemory>
     requires few { is_few told.now ≡ true }
     requires short { length told.now ≤ 4 }
+    requires named { AreNamed (tag_of builder.old) told.now }
     ensures kept { building builder.new ≡ building builder.old }
     ensures prepared { IfOk result (λ p. IsPrepared builder.new told.now p) }
 {
@@ -48,7 +50,6 @@ fn prepared(builder: &mut Builder, told: &[Token]) -> Result<Result<Ready, Frame
         Err(TagFault::NoMemory) => Err(NoMemory),
         Err(TagFault::Names(NameFault::BadPrefix)) => Ok(Err(FrameFault::BadPrefix)),
         Err(TagFault::Names(NameFault::NotWellFormed)) => Ok(Err(FrameFault::NotWellFormed)),
-        Err(TagFault::NotUtf8) => Ok(Err(FrameFault::BadEncoding)),
     }
 }
 
@@ -64,6 +65,7 @@ fn is_large(limits: Limits, item: &Option<Item>) -> bool
 }
 
 /// Reads a byte of a stream that has no fault so far, or answers its fault.
+#[tactic(auto, using(stream_grammar::proofs::NameTexts::told_named))]
 fn advance(
     limits: Limits,
     tracker: &mut Tracker,
@@ -71,7 +73,8 @@ fn advance(
     extent: u64,
     byte: u8,
 ) -> Result<Option<FrameFault>, NoMemory>
-    requires { tracker.old.rules ≡ rules_of limits }
+    requires rules { tracker.old.rules ≡ rules_of limits }
+    requires texts { HasTexts tracker.old.frame (tag_of builder.old) }
     ensures rules { tracker.new.rules ≡ tracker.old.rules }
     ensures fault { IfOk result (λ f. f ≡ byte_judged limits tracker.old.frame (building builder.old) extent byte) }
     ensures reads { IfOk result (λ f. f ≡ None → (tracker.new.frame ≡ frame_next (rules_of limits) tracker.old.frame byte)
@@ -104,6 +107,7 @@ fn advance(
 }
 
 /// The same with what is being made of a stream.
+#[tactic(auto, using(stream_grammar::proofs::NameTexts::read_texts))]
 fn advance_work(
     limits: Limits,
     tracker: &mut Tracker,
@@ -111,11 +115,13 @@ fn advance_work(
     extent: u64,
     byte: u8,
 ) -> Result<Option<FrameFault>, NoMemory>
-    requires { tracker.old.rules ≡ rules_of limits }
+    requires rules { tracker.old.rules ≡ rules_of limits }
+    requires texts { HasTexts tracker.old.frame (work_of work.old).tag }
     ensures rules { tracker.new.rules ≡ tracker.old.rules }
     ensures fault { IfOk result (λ f. f ≡ byte_judged limits tracker.old.frame (work_of work.old) extent byte) }
     ensures reads { IfOk result (λ f. f ≡ None → (tracker.new.frame ≡ frame_next (rules_of limits) tracker.old.frame byte)
         × (work_of work.new ≡ build_all (work_of work.old) (told_at tracker.old.frame byte))) }
+    ensures texts { IfOk result (λ f. f ≡ None → HasTexts tracker.new.frame (work_of work.new).tag) }
     ensures extent { IfOk result (λ f. f ≡ None → in_item tracker.new.frame ≡ true → extent < limits.bytes) }
     ensures err { OnErr result ((tracker.new ≡ tracker.old) × (work_of work.new ≡ work_of work.old)) }
 {
@@ -152,6 +158,7 @@ impl Model for Framer {
     ghost use Rattle.stream_frames.specs.Works.{work_of};
     ghost use Rattle.stream_grammar.specs.grammar.Bounds.{rules_of};
     ghost use Rattle.stream_frames.specs.Fed.{Fed, reading_of};
+    ghost use Rattle.stream_grammar.specs.machine.Texts.{HasTexts};
     ghost use Rattle.std.specs.Coded.{codes};
     ghost use Rattle.stanza_tree.specs.contracts.node.Node as node;
 
@@ -161,7 +168,7 @@ impl Model for Framer {
 
     ghost view = { λ f. record { limits = f.limits; reading = reading_of f.fault f.tracker.frame (work_of f.work) f.extent f.offset } };
 
-    ghost invariant = { λ f. (f.tracker.rules ≡ rules_of f.limits) × (f.extent ≤ 2 ^ 32) };
+    ghost invariant = { λ f. (f.tracker.rules ≡ rules_of f.limits) × (f.extent ≤ 2 ^ 32) × HasTexts f.tracker.frame (work_of f.work).tag };
 }
 
 impl Framer {
@@ -215,7 +222,7 @@ impl Framer {
     }
 
     /// Reads the bytes that come first and are a run, as far as the item may have them and there is memory: how many.
-    #[tactic(auto, using(crate::proofs::RunLemmas::run_skipped))]
+    #[tactic(auto, using(crate::proofs::RunLemmas::run_skipped, crate::proofs::RunLemmas::texts_led))]
     fn skip_run(&mut self, rest: &[u8]) -> usize
         requires { is_done self.old.reading ≡ false }
         ensures limits { self.new.limits ≡ self.old.limits }

@@ -3,7 +3,8 @@
 
 ghost use Rattle.std.specs.Prelude.{◌≡◌, [], ◌∷◌, true, false};
 ghost use Rattle.stream_grammar.specs.machine.Building.{Building};
-ghost use Rattle.stream_frames.specs.Builds.{building};
+ghost use Rattle.stream_grammar.specs.machine.Texts.{HasTexts};
+ghost use Rattle.stream_frames.specs.Builds.{tag_of, building};
 ghost use Rattle.stream_frames.specs.Markup.{LeadsBy};
 
 use crate::builder::one_byte;
@@ -113,9 +114,10 @@ fn attribute_name_mark(tracker: &mut Tracker, builder: &mut Builder, byte: u8) -
 }
 
 /// The end of a start tag.
-#[tactic(auto, using(crate::proofs::EndLemmas::entered_led))]
+#[tactic(auto, using(crate::proofs::EndLemmas::entered_led, crate::proofs::EndLemmas::entered_named))]
 #[inline(never)]
 fn start_end_mark(tracker: &mut Tracker, builder: &mut Builder, byte: u8) -> bool
+    requires { HasTexts tracker.old.frame (tag_of builder.old) }
     ensures rules { tracker.new.rules ≡ tracker.old.rules }
     ensures read { result ≡ true → LeadsBy tracker.old.rules tracker.old.frame (building builder.old) (byte ∷ []) tracker.new.frame (building builder.new) }
     ensures kept { result ≡ false → (tracker.new ≡ tracker.old) × (building builder.new ≡ building builder.old) }
@@ -135,9 +137,10 @@ fn start_end_mark(tracker: &mut Tracker, builder: &mut Builder, byte: u8) -> boo
 }
 
 /// The end of an empty-element tag.
-#[tactic(auto, using(crate::proofs::EndLemmas::hollow_led))]
+#[tactic(auto, using(crate::proofs::EndLemmas::hollow_led, crate::proofs::EndLemmas::hollow_named))]
 #[inline(never)]
 fn hollow_end_mark(tracker: &mut Tracker, builder: &mut Builder, byte: u8) -> bool
+    requires { HasTexts tracker.old.frame (tag_of builder.old) }
     ensures rules { tracker.new.rules ≡ tracker.old.rules }
     ensures read { result ≡ true → LeadsBy tracker.old.rules tracker.old.frame (building builder.old) (byte ∷ []) tracker.new.frame (building builder.new) }
     ensures kept { result ≡ false → (tracker.new ≡ tracker.old) × (building builder.new ≡ building builder.old) }
@@ -175,6 +178,7 @@ fn end_mark(tracker: &mut Tracker, builder: &mut Builder, byte: u8) -> bool
 
 /// Any of these.
 pub(crate) fn mark(tracker: &mut Tracker, builder: &mut Builder, byte: u8) -> bool
+    requires { HasTexts tracker.old.frame (tag_of builder.old) }
     ensures rules { tracker.new.rules ≡ tracker.old.rules }
     ensures read { result ≡ true → LeadsBy tracker.old.rules tracker.old.frame (building builder.old) (byte ∷ []) tracker.new.frame (building builder.new) }
     ensures kept { result ≡ false → (tracker.new ≡ tracker.old) × (building builder.new ≡ building builder.old) }

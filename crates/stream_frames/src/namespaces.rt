@@ -14,14 +14,14 @@ use stanza_tree::{NoMemory, Several, Text};
 use std::alloc::Global;
 use stream_grammar::{Binding, NameFault, Written};
 
-const XML_SPACE: &[u8] = b"http://www.w3.org/XML/1998/namespace";
+const XML_SPACE: &str = "http://www.w3.org/XML/1998/namespace";
 
-const XMLNS_SPACE: &[u8] = b"http://www.w3.org/2000/xmlns/";
+const XMLNS_SPACE: &str = "http://www.w3.org/2000/xmlns/";
 
 /// What a prefix is bound to: before any tag, or by one.
 #[derive(Clone, Copy)]
 pub(crate) enum Space<'a> {
-    Fixed(&'static [u8]),
+    Fixed(&'static str),
     Bound(&'a Text),
 }
 
@@ -30,7 +30,7 @@ impl<'a> Space<'a> {
         ensures { result.now ≡ space_bytes self.entry }
     {
         match self {
-            Space::Fixed(bytes) => bytes,
+            Space::Fixed(text) => text.as_bytes(),
             Space::Bound(text) => text.bytes(),
         }
     }
@@ -113,9 +113,9 @@ fn may_be_declared(prefix: &[u8], space: &[u8]) -> bool
     if prefix == b"xmlns".as_slice() {
         false
     } else if prefix == b"xml".as_slice() {
-        space == XML_SPACE
+        space == XML_SPACE.as_bytes()
     } else {
-        space != XML_SPACE && space != XMLNS_SPACE && may_be_undone(prefix, space)
+        space != XML_SPACE.as_bytes() && space != XMLNS_SPACE.as_bytes() && may_be_undone(prefix, space)
     }
 }
 
@@ -154,7 +154,7 @@ pub(crate) fn bound_before(prefix: &[u8]) -> Option<Space<'static>>
     ensures { bound_space result ≡ space_before prefix.now }
 {
     if prefix == b"".as_slice() {
-        Some(Space::Fixed(&[]))
+        Some(Space::Fixed(""))
     } else if prefix == b"xml".as_slice() {
         Some(Space::Fixed(XML_SPACE))
     } else {
@@ -185,7 +185,7 @@ pub(crate) fn attribute_bound<'a>(
     } else if has_a_prefix(name) {
         bound(bindings, prefix(name))
     } else {
-        Some(Space::Fixed(&[]))
+        Some(Space::Fixed(""))
     }
 }
 
@@ -220,7 +220,7 @@ pub(crate) fn name_fault(
         return Some(NameFault::BadPrefix);
     }
     let is_xml = match space {
-        Some(space) => space.bytes() == XML_SPACE,
+        Some(space) => space.bytes() == XML_SPACE.as_bytes(),
         None => false,
     };
     if is_xml || any_forbidden(attributes) || any_repeat(names) {

@@ -1,8 +1,9 @@
 //! Runs: bytes that end nothing and have no fault, read at once. Each function reads those that come first, as far as there is
 //! memory, and answers how many; where none do, nothing changes.
 
-ghost use Rattle.std.specs.Prelude.{◌≡◌, ◌≤◌, take, length};
-ghost use Rattle.stream_frames.specs.Builds.{building};
+ghost use Rattle.std.specs.Prelude.{◌≡◌, ◌≤◌, take, length, false};
+ghost use Rattle.stream_grammar.specs.machine.Texts.{HasTexts};
+ghost use Rattle.stream_frames.specs.Builds.{tag_of, building};
 ghost use Rattle.stream_frames.specs.Markup.{LeadsBy};
 ghost use Rattle.stream_frames.specs.Runs.{Leads};
 ghost use Rattle.stream_frames.specs.Works.{work_of};
@@ -121,8 +122,10 @@ fn run(tracker: &mut Tracker, builder: &mut Builder, bytes: &[u8]) -> usize
 }
 
 /// Runs and markup that ends no tag, as long as they come.
-#[tactic(auto, using(crate::proofs::MarkupLemmas::nothing_led_by, crate::proofs::MarkupLemmas::mark_then, crate::proofs::MarkupLemmas::run_then))]
+#[tactic(auto, using(crate::proofs::MarkupLemmas::nothing_led_by, crate::proofs::MarkupLemmas::mark_then, crate::proofs::MarkupLemmas::run_then, crate::proofs::RunLemmas::texts_led))]
 fn runs(tracker: &mut Tracker, builder: &mut Builder, bytes: &[u8]) -> usize
+    requires strict { tracker.old.rules.loose ≡ false }
+    requires texts { HasTexts tracker.old.frame (tag_of builder.old) }
     ensures fits { result ≤ length bytes.now }
     ensures rules { tracker.new.rules ≡ tracker.old.rules }
     ensures run { LeadsBy tracker.old.rules tracker.old.frame (building builder.old) (take result bytes.now) tracker.new.frame (building builder.new) }
@@ -145,6 +148,8 @@ fn runs(tracker: &mut Tracker, builder: &mut Builder, bytes: &[u8]) -> usize
 /// The same with what is being made of a stream.
 #[tactic(auto, using(crate::proofs::MarkupLemmas::nothing_led_by))]
 pub(crate) fn work_run(tracker: &mut Tracker, work: &mut Work, bytes: &[u8]) -> usize
+    requires strict { tracker.old.rules.loose ≡ false }
+    requires texts { HasTexts tracker.old.frame (work_of work.old).tag }
     ensures fits { result ≤ length bytes.now }
     ensures rules { tracker.new.rules ≡ tracker.old.rules }
     ensures run { LeadsBy tracker.old.rules tracker.old.frame (work_of work.old) (take result bytes.now) tracker.new.frame (work_of work.new) }

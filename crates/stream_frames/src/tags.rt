@@ -1,17 +1,17 @@
 //! A tag becomes an element without children: its names get their namespaces (Namespaces in XML 1.0).
 
-ghost use Rattle.std.specs.Prelude.{◌≡◌, ◌+◌, ◌≤◌, [], ◌∷◌, ◌++◌, length, true, None, map, IfOk, IfErr, OnOk, vec_len, vec_capacity};
-ghost use Rattle.std.specs.Str.{is_utf8};
+ghost use Rattle.std.specs.Prelude.{◌≡◌, ◌+◌, ◌≤◌, [], ◌∷◌, ◌++◌, length, None, map, IfOk, IfErr, OnOk, IsUtf8, vec_len, vec_capacity};
 ghost use Rattle.stream_grammar.specs.grammar.Namespaces.{local_of, tag_fault};
-ghost use Rattle.stream_frames.specs.Expanded.{full_name, spaces_of, are_texts};
+ghost use Rattle.stream_frames.specs.Expanded.{full_name, spaces_of};
 ghost use Rattle.stream_frames.specs.Filled.{spaces_on, attr_in, attrs_in, element_in};
-ghost use Rattle.stream_grammar.specs.grammar.Resolving.{or_none, name_on, attrs_on, is_text_name, are_text_attrs, is_text_tag};
-ghost use Rattle.stream_frames.specs.TagFaults.{IsRefused, IsTagFault};
+ghost use Rattle.stream_grammar.specs.machine.Texts.{HaveTextNames};
+ghost use Rattle.stream_grammar.specs.grammar.Resolving.{or_none, name_on, attrs_on};
+ghost use Rattle.stream_frames.specs.TagFaults.{IsTagFault};
 ghost use Rattle.stream_frames.specs.Spaces.{bound_space};
 
 use crate::expanded::{Expanded, expanded_names};
-use crate::namespaces::{Space, bound, colon_place, declares, local, name_fault, prefix};
-use stanza_tree::{Attr, Element, Name, Several, Text, TextFault};
+use crate::namespaces::{Space, bound, colon_place, declares, name_fault, prefix};
+use stanza_tree::{Attr, Element, Name, NoMemory, Several, Text};
 use std::alloc::{AllocError, Global};
 use stream_grammar::{Binding, NameFault, Written};
 
@@ -22,8 +22,6 @@ pub enum TagFault {
     NoMemory,
     /// Its names are refused.
     Names(NameFault),
-    /// A name, a namespace or a value is not UTF-8.
-    NotUtf8,
 }
 
 impl From<AllocError> for TagFault {
@@ -36,73 +34,24 @@ impl From<AllocError> for TagFault {
     }
 }
 
-fn some_text(alloc: Global, bytes: &[u8]) -> Result<Text, TagFault>
-    ensures ok { IfOk result (λ t. t ≡ bytes.now) }
-    ensures utf8 { OnOk result (is_utf8 bytes.now ≡ true) }
-    ensures err { IfErr result (IsRefused (is_utf8 bytes.now)) }
+/// A text of the same bytes. Takes no memory for none.
+fn fixed_text(alloc: Global, text: &str) -> Result<Text, NoMemory>
+    ensures { IfOk result (λ t. t ≡ text.now) }
 {
-    match Text::of(alloc, bytes) {
-        Ok(text) => Ok(text),
-        Err(TextFault::NoMemory) => Err(TagFault::NoMemory),
-        Err(TextFault::NotUtf8(_)) => Err(TagFault::NotUtf8),
+    if text.is_empty() {
+        return Ok(Text::empty(alloc));
     }
-}
-
-/// Bytes as a text. Takes no memory for none.
-pub(crate) fn text(alloc: Global, bytes: &[u8]) -> Result<Text, TagFault>
-    ensures ok { IfOk result (λ t. t ≡ bytes.now) }
-    ensures utf8 { OnOk result (is_utf8 bytes.now ≡ true) }
-    ensures err { IfErr result (IsRefused (is_utf8 bytes.now)) }
-{
-    match bytes {
-        [] => Ok(Text::empty(alloc)),
-        _ => some_text(alloc, bytes),
-    }
-}
-
-/// Whether the bytes are UTF-8 (RFC 3629).
-fn is_text(bytes: &[u8]) -> bool
-    ensures { result ≡ is_utf8 bytes.now }
-{
-    match std::str::from_utf8(bytes) {
-        Ok(_) => true,
-        Err(_) => false,
-    }
-}
-
-/// Another text of the same bytes; no memory is taken where they are shared.
-fn copied(alloc: Global, text: &Text) -> Result<Text, TagFault>
-    ensures ok { IfOk result (λ t. t ≡ text.now) }
-    ensures utf8 { OnOk result (is_utf8 text.now ≡ true) }
-    ensures err { IfErr result (IsRefused (is_utf8 text.now)) }
-{
-    Ok(text.copy(alloc)?)
+    Ok(Text::of_string(String::from_str(alloc, text)?))
 }
 
 /// A namespace as a text, or none. One that a tag declared shares its bytes with the binding.
-pub(crate) fn space_text(alloc: Global, space: Option<Space<'_>>) -> Result<Text, TagFault>
-    ensures ok { IfOk result (λ t. t ≡ or_none (bound_space space.entry)) }
-    ensures utf8 { OnOk result (is_utf8 (or_none (bound_space space.entry)) ≡ true) }
-    ensures err { IfErr result (IsRefused (is_utf8 (or_none (bound_space space.entry)))) }
+pub(crate) fn space_text(alloc: Global, space: Option<Space<'_>>) -> Result<Text, NoMemory>
+    ensures { IfOk result (λ t. t ≡ or_none (bound_space space.entry)) }
 {
     match space {
-        Some(Space::Fixed(bytes)) => text(alloc, bytes),
-        Some(Space::Bound(text)) => copied(alloc, text),
+        Some(Space::Fixed(text)) => fixed_text(alloc, text),
+        Some(Space::Bound(text)) => text.copy(alloc),
         None => Ok(Text::empty(alloc)),
-    }
-}
-
-/// The namespace of a name, where its local part is a text too.
-fn name_space(alloc: Global, space: Option<Space<'_>>, local: &[u8]) -> Result<Text, TagFault>
-    ensures ok { IfOk result (λ t. t ≡ or_none (bound_space space.entry)) }
-    ensures utf8 { OnOk result (is_text_name (record { space = or_none (bound_space space.entry); local = local.now }) ≡ true) }
-    ensures err { IfErr result (IsRefused (is_text_name (record { space = or_none (bound_space space.entry); local = local.now }))) }
-{
-    let space = space_text(alloc, space)?;
-    if is_text(local) {
-        Ok(space)
-    } else {
-        Err(TagFault::NotUtf8)
     }
 }
 
@@ -114,18 +63,13 @@ fn add(spaces: &mut Vec<Text>, space: Text) -> Result<(), AllocError>
 }
 
 /// The namespaces of the attributes that are no declarations.
-fn attribute_spaces(alloc: Global, names: &[Expanded<'_>]) -> Result<Vec<Text>, TagFault>
-    ensures ok { IfOk result (λ v. v.items ≡ spaces_of (map full_name names.now)) }
-    ensures utf8 { OnOk result (are_texts (map full_name names.now) ≡ true) }
-    ensures err { IfErr result (IsRefused (are_texts (map full_name names.now))) }
+fn attribute_spaces(alloc: Global, names: &[Expanded<'_>]) -> Result<Vec<Text>, NoMemory>
+    ensures { IfOk result (λ v. v.items ≡ spaces_of (map full_name names.now)) }
 {
     let mut spaces = Vec::with_capacity(alloc, names.len())?;
     for name in names {
         if !declares(name.written.name.slice()) {
-            match name_space(alloc, name.space, name.local) {
-                Ok(space) => add(&mut spaces, space)?,
-                Err(fault) => return Err(fault),
-            }
+            add(&mut spaces, space_text(alloc, name.space)?)?;
         }
     }
     Ok(spaces)
@@ -144,7 +88,7 @@ pub struct Resolved {
 /// element round it, outermost first, and then its own. The prefix of each name is looked up once, so the time grows with the
 /// attributes times the bindings; and with the attributes times the bytes of their names and namespaces, since each two names
 /// are compared.
-#[tactic(auto, using(crate::proofs::ExpandedLemmas::fault_by_names, crate::proofs::ExpandedLemmas::spaces_by_names, crate::proofs::ExpandedLemmas::texts_by_names, crate::proofs::FillLemmas::attrs_filled))]
+#[tactic(auto, using(crate::proofs::ExpandedLemmas::fault_by_names, crate::proofs::ExpandedLemmas::spaces_by_names, crate::proofs::FillLemmas::attrs_filled))]
 pub fn resolve(
     alloc: Global,
     layers: &[Several<Binding>],
@@ -156,7 +100,6 @@ pub fn resolve(
     ensures spaces { IfOk result (λ r. r.spaces.items ≡ spaces_on layers.now attributes.now) }
     ensures room { IfOk result (λ r. (r.room.items ≡ []) × (vec_len r.room + length attributes.now ≤ vec_capacity r.room)) }
     ensures ok { OnOk result (tag_fault layers.now name.now attributes.now ≡ None) }
-    ensures utf8 { OnOk result (is_text_tag layers.now name.now attributes.now ≡ true) }
     ensures fault { IfErr result (IsTagFault layers.now name.now attributes.now) }
 {
     let space = bound(layers, prefix(name));
@@ -164,7 +107,7 @@ pub fn resolve(
     if let Some(fault) = name_fault(space, names.as_slice(), attributes) {
         return Err(TagFault::Names(fault));
     }
-    let space = name_space(alloc, space, local(name))?;
+    let space = space_text(alloc, space)?;
     let spaces = attribute_spaces(alloc, names.as_slice())?;
     let room = Vec::with_capacity(alloc, attributes.len())?;
     Ok(Resolved {
@@ -188,14 +131,14 @@ fn local_part(mut name: Vec<u8>) -> Vec<u8>
 }
 
 fn local_text(name: Vec<u8>) -> Text
-    requires { is_utf8 (local_of name.items) ≡ true }
+    requires { IsUtf8 name.items }
     ensures { result ≡ local_of name.items }
 {
     Text::of_string(unsafe { String::from_utf8_unchecked(local_part(name)) })
 }
 
 fn full_attr(space: Text, attribute: Written) -> Attr
-    requires { is_utf8 (local_of attribute.name) ≡ true }
+    requires { IsUtf8 attribute.name }
     ensures { result ≡ attr_in space attribute }
 {
     let Written { name, value } = attribute;
@@ -214,7 +157,7 @@ fn full_attrs(
 ) -> Several<Attr>
     requires none { room.items ≡ [] }
     requires room { vec_len room + length attributes.items ≤ vec_capacity room }
-    requires text { are_text_attrs (attrs_in spaces.items attributes.items) ≡ true }
+    requires names { HaveTextNames attributes.items }
     ensures { result ≡ attrs_in spaces.items attributes.items }
 {
     let mut spaces = spaces.into_iter();
@@ -240,8 +183,8 @@ pub fn element(
 ) -> Element
     requires none { resolved.room.items ≡ [] }
     requires room { vec_len resolved.room + length attributes.items ≤ vec_capacity resolved.room }
-    requires text { is_utf8 (local_of name.items) ≡ true }
-    requires texts { are_text_attrs (attrs_in resolved.spaces.items attributes.items) ≡ true }
+    requires name { IsUtf8 name.items }
+    requires names { HaveTextNames attributes.items }
     ensures { result ≡ element_in resolved.space resolved.spaces.items name.items attributes.items }
 {
     let Resolved {

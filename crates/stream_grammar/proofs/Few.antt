@@ -17,9 +17,11 @@ use Rattle.stream_lex.specs.machine.Machine.{yields as tells_and_goes}
 use Rattle.stream_lex.specs.machine.Turns.{Outcome, leads, fails, at, settled, turn_ascii, turn_wide, turn}
 use Rattle.stream_lex.proofs.Lists.{false-true}
 use Rattle.stream_grammar.specs.machine.Telling.{are_words, is_few}
-use Rattle.stream_grammar.proofs.Sorts.{Sort, at_begin, at_prolog, at_content, at_name, at_tag, at_attribute}
-use Rattle.stream_grammar.proofs.Sorts.{at_value, at_ending, sort, may_move, turn_moves, moves-ascii}
-use Rattle.stream_grammar.proofs.Moving.{sort_of, voiced}
+use Rattle.stream_grammar.specs.machine.Sorts.{Sort, at_begin, at_prolog, at_content, at_name, at_tag, at_attribute}
+use Rattle.stream_grammar.specs.machine.Sorts.{at_value, at_ending, sort}
+use Rattle.stream_grammar.proofs.Sorts.{may_move, turn_moves, moves-ascii}
+use Rattle.stream_grammar.specs.machine.Sorts.{sort_of}
+use Rattle.stream_grammar.proofs.Moving.{voiced}
 
 words-are : (us : List Token) (y : Sort) → may_move at_content us at_content ≡ true → are_words us ≡ true
 words-are [] y h = refl

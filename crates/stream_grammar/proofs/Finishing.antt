@@ -34,7 +34,7 @@ use Rattle.stream_grammar.specs.machine.Nesting.{Nest, inside, naming, in_tag, n
 use Rattle.stream_grammar.specs.machine.Nesting.{lost, is_root, may_stand, nest, nest_all, Leaves}
 use Rattle.stream_grammar.specs.machine.Framing.{begins_space, comes_to_space, is_empty_mark, goes_with}
 use Rattle.stream_grammar.proofs.Nested.{Room, all-from}
-use Rattle.stream_grammar.proofs.Sorts.{sort}
+use Rattle.stream_grammar.specs.machine.Sorts.{sort}
 use Rattle.stream_grammar.proofs.Twins.{end_mark, words}
 use Rattle.stream_grammar.proofs.Naming.{NamedRun, Closable, AllClosable}
 use Rattle.stream_grammar.proofs.Fitting.{IsOpen}

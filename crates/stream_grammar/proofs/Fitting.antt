@@ -12,8 +12,10 @@ use Rattle.stream_grammar.specs.declared.rules.Rules.{Rules}
 use Rattle.stream_grammar.specs.machine.Nesting.{Nest, start, declared, inside, naming, in_tag, naming_attribute, in_value}
 use Rattle.stream_grammar.specs.machine.Nesting.{closing, lost, may_stand, after_hollow, nest, nest_all}
 use Rattle.stream_grammar.specs.machine.Framing.{is_after_end_name}
-use Rattle.stream_grammar.proofs.Sorts.{Sort, at_begin, at_prolog, at_content, at_name, at_tag, at_attribute, at_value, at_ending, may_move}
-use Rattle.stream_grammar.proofs.Moving.{sort_of, calm, Led, turn-led}
+use Rattle.stream_grammar.specs.machine.Sorts.{Sort, at_begin, at_prolog, at_content, at_name, at_tag, at_attribute, at_value, at_ending}
+use Rattle.stream_grammar.proofs.Sorts.{may_move}
+use Rattle.stream_grammar.specs.machine.Sorts.{sort_of}
+use Rattle.stream_grammar.proofs.Moving.{calm, Led, turn-led}
 use Rattle.stream_grammar.proofs.Twins.{words}
 use Rattle.stream_grammar.proofs.Naming.{CloseReady, Closable, SoFar, AllClosable, name-done, so_far-closable, first-so_far}
 use Rattle.stream_grammar.proofs.Naming.{next-so_far, first-ready, next-ready, ended-words, ending-still}

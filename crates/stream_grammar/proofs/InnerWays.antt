@@ -20,7 +20,7 @@ use Rattle.stream_lex.specs.machine.Live.{is_live_stage}
 use Rattle.stream_lex.proofs.Lists.{false-true}
 use Rattle.stream_grammar.specs.grammar.Trees.{is_space}
 use Rattle.stream_grammar.specs.machine.Framing.{stage_to_space}
-use Rattle.stream_grammar.proofs.Sorts.{sort}
+use Rattle.stream_grammar.specs.machine.Sorts.{sort}
 use Rattle.stream_grammar.proofs.Twins.{end_mark, words}
 use Rattle.stream_grammar.proofs.Running.{Ways, both}
 use Rattle.stream_grammar.proofs.Ways.{is_tag, is_attribute, is_value, is_content, is_number, is_end_mark, too-far}

@@ -17,3 +17,4 @@ pub mod Few
 pub mod FeedLemmas
 pub mod AfterEnd
 pub mod LastLemmas
+pub mod NameTexts

@@ -1,5 +1,5 @@
 -- What a byte tells and where it leads, by the sorts of stages.
-use Rattle.std.proofs.Common.{◌≡◌, ℕ, List, [], ◌∷◌, ◌++◌, refl, sym, subst, Bool, true, false, not, cond, ◌&&◌, ◌||◌, ◌==◌, nat_lt}
+use Rattle.std.proofs.Common.{◌≡◌, ℕ, List, [], ◌∷◌, ◌++◌, refl, sym, subst, Bool, true, false, not, ◌&&◌, ◌||◌, ◌==◌, nat_lt}
 use Rattle.std.proofs.lemmas.Bool.{cond_both, and_parts}
 use Rattle.stream_lex.specs.declared.Token.{Token}
 use Rattle.stream_lex.specs.declared.Token.TheVariants as token
@@ -18,18 +18,15 @@ use Rattle.stream_lex.specs.declared.characters.Reach.{Reach}
 use Rattle.stream_lex.specs.declared.characters.Reach.TheVariants.{Whole, Begun, Broken}
 use Rattle.stream_lex.specs.grammar.Classes.{has_between, class_of}
 use Rattle.stream_lex.specs.grammar.Kinds.{ascii_kind}
-use Rattle.stream_lex.specs.machine.Characters.{bytes_of, is_nothing, reach}
+use Rattle.stream_lex.specs.machine.Characters.{bytes_of, reach}
 use Rattle.stream_lex.specs.machine.Machine.{Turn, goes, stops, ascii, allowed_at, voice, through}
 use Rattle.stream_lex.specs.machine.Machine.{yields as tells_and_goes}
 use Rattle.stream_lex.specs.machine.Turns.{Outcome, leads, fails, at, byte_told, end_told, settled, turn_ascii, turn_wide, turn}
 use Rattle.stream_lex.proofs.Lists.{false-true, cons_not_nil}
 use Rattle.stream_lex.proofs.ByteSteps.{Spelt, reach-spelt}
-use Rattle.stream_grammar.proofs.Sorts.{Sort, sort, may_move, own_byte, has_name, is_end, turn_own, turn_moves}
+use Rattle.stream_grammar.specs.machine.Sorts.{Sort, sort, sort_of}
+use Rattle.stream_grammar.proofs.Sorts.{may_move, own_byte, has_name, is_end, turn_own, turn_moves}
 use Rattle.stream_grammar.proofs.Sorts.{moves-ascii, may_return, turn_returns, returns-space}
-
--- within a character the sort is that of the stage after it
-abbrev pub sort_of : State → Sort
-sort_of st = cond (is_nothing st.pending) (sort st.stage) (sort (through st.stage))
 
 abbrev pub calm : State → Bool
 calm st = not st.returned || may_return st.stage

@@ -25,8 +25,10 @@ use Rattle.stream_lex.proofs.Lists.{false-true}
 use Rattle.std.proofs.lemmas.Bool.{cond_both, and_parts}
 use Rattle.stream_grammar.specs.grammar.Trees.{RawName}
 use Rattle.stream_grammar.specs.machine.Framing.{is_after_end_name}
-use Rattle.stream_grammar.proofs.Sorts.{Sort, at_name, at_ending, has_name}
-use Rattle.stream_grammar.proofs.Moving.{sort_of, calm, Led, turn-led}
+use Rattle.stream_grammar.specs.machine.Sorts.{Sort, at_name, at_ending}
+use Rattle.stream_grammar.proofs.Sorts.{has_name}
+use Rattle.stream_grammar.specs.machine.Sorts.{sort_of}
+use Rattle.stream_grammar.proofs.Moving.{calm, Led, turn-led}
 use Rattle.stream_grammar.proofs.Twins.{twin, end_mark, words, Twinned, first-twin, is_named, TwinnedNext, next-twin, EndsSo, ends-so}
 
 -- Names byte by byte.

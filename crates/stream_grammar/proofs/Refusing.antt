@@ -44,8 +44,8 @@ use Rattle.stream_lex.proofs.ByteSteps.{First, first_character-in, high-line, le
 use Rattle.stream_lex.proofs.Living.{begun-symbol, begun-two, live-parts}
 use Rattle.stream_grammar.specs.grammar.Trees.{is_space}
 use Rattle.stream_grammar.specs.machine.Framing.{begins_space, stage_to_space, comes_to_space, is_empty_mark, is_after_end_name}
-use Rattle.stream_grammar.proofs.Sorts.{Sort, at_content}
-use Rattle.stream_grammar.proofs.Moving.{sort_of}
+use Rattle.stream_grammar.specs.machine.Sorts.{Sort, at_content}
+use Rattle.stream_grammar.specs.machine.Sorts.{sort_of}
 
 -- tokens before other signs
 pub said-split : (us ts : List Token) (ns : List Sign) → all_said ts ≡ all_said us ++ ns → (vs : List Token) × (ts ≡ us ++ vs) × (ns ≡ all_said vs)

@@ -32,54 +32,8 @@ use Rattle.stream_lex.specs.grammar.Grammar.{text_token}
 use Rattle.stream_lex.specs.machine.Machine.{Turn, goes, stops, letters, fixed_end, fixed_fault, is_fixed, in_fixed}
 use Rattle.stream_lex.specs.machine.Machine.{in_declaration, in_reference, in_number, in_name, in_tag, ascii}
 use Rattle.stream_lex.specs.machine.Machine.{yields as tells_and_goes}
-
-pub data Sort : Type 0 where
-  at_begin : Sort  -- before the first tag, where a declaration may come
-  at_prolog : Sort  -- before the first tag
-  at_content : Sort
-  at_name : Sort  -- in the name of a tag
-  at_tag : Sort  -- in a tag
-  at_attribute : Sort  -- after the first byte of an attribute's name, up to its value
-  at_value : Sort
-  at_ending : Sort  -- after the first byte of an end tag's name
-
-abbrev pub text_sort : Context → Sort
-text_sort Words = at_content
-text_sort (Value q) = at_value
-
-abbrev pub name_sort : NameOwner → Sort
-name_sort StartTag = at_name
-name_sort EndTag = at_ending
-name_sort Attribute = at_attribute
-
-abbrev pub fixed_sort : Literal → Sort
-fixed_sort literal.Cdata = at_content
-fixed_sort w = at_begin
-
-abbrev pub sort : Stage → Sort
-sort (stage.Fixed w at) = fixed_sort w
-sort stage.Prolog = at_prolog
-sort stage.PrologLess = at_prolog
-sort (stage.Text p) = text_sort p
-sort (stage.Bracketed b) = at_content
-sort stage.Less = at_content
-sort stage.Bang = at_content
-sort stage.Cdata = at_content
-sort (stage.CdataBracketed b) = at_content
-sort (stage.Reference p l) = text_sort p
-sort (stage.Hash p) = text_sort p
-sort (stage.HashX p) = text_sort p
-sort (stage.Number p base v) = text_sort p
-sort stage.EndTagMark = at_content
-sort (stage.Name r h) = name_sort r
-sort (stage.Colon r) = name_sort r
-sort stage.InTag = at_tag
-sort stage.ValueEnded = at_tag
-sort stage.EmptyTagMark = at_tag
-sort stage.AttrNamed = at_attribute
-sort stage.ValueAwaited = at_attribute
-sort stage.EndTagNamed = at_ending
-sort s = at_begin
+use Rattle.stream_grammar.specs.machine.Sorts.{Sort, at_begin, at_prolog, at_content, at_name, at_tag, at_attribute, at_value, at_ending}
+use Rattle.stream_grammar.specs.machine.Sorts.{text_sort, fixed_sort, sort}
 
 abbrev pub may_move : Sort → List Token → Sort → Bool
 may_move at_begin [] at_begin = true

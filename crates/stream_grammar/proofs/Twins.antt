@@ -26,9 +26,11 @@ use Rattle.stream_lex.specs.machine.Machine.{Turn, goes, stops, ascii, in_name, 
 use Rattle.stream_lex.specs.machine.Machine.{yields as tells_and_goes}
 use Rattle.stream_lex.specs.machine.Turns.{Outcome, leads, fails, at, byte_told, end_told, settled, turn_ascii, turn_wide, turn}
 use Rattle.stream_lex.proofs.Lists.{false-true}
-use Rattle.stream_grammar.proofs.Sorts.{Sort, at_name, sort, twin_stage, twin_turn, where_opens, where_ends, to_words}
+use Rattle.stream_grammar.specs.machine.Sorts.{Sort, at_name, sort}
+use Rattle.stream_grammar.proofs.Sorts.{twin_stage, twin_turn, where_opens, where_ends, to_words}
 use Rattle.stream_grammar.proofs.Sorts.{moves-ascii, may_return, turn_returns, returns-space}
-use Rattle.stream_grammar.proofs.Moving.{sort_of, calm}
+use Rattle.stream_grammar.specs.machine.Sorts.{sort_of}
+use Rattle.stream_grammar.proofs.Moving.{calm}
 
 abbrev pub twin : State → State
 twin st = at (twin_stage st.stage) st.pending st.returned

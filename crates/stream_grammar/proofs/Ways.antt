@@ -15,7 +15,7 @@ use Rattle.stream_lex.specs.machine.Turns.{at, turn_ascii}
 use Rattle.stream_lex.specs.machine.Live.{is_live_stage}
 use Rattle.stream_lex.proofs.Lists.{false-true}
 use Rattle.stream_grammar.specs.grammar.Trees.{declaration_tokens}
-use Rattle.stream_grammar.proofs.Sorts.{Sort, at_begin, at_prolog, at_content, at_tag, at_attribute, at_value, sort}
+use Rattle.stream_grammar.specs.machine.Sorts.{Sort, at_begin, at_prolog, at_content, at_tag, at_attribute, at_value, sort}
 use Rattle.stream_grammar.proofs.Twins.{words}
 use Rattle.stream_grammar.proofs.Running.{Ways, both, tag_told}
 

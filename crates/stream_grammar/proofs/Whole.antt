@@ -39,8 +39,10 @@ use Rattle.stream_grammar.specs.machine.Nesting.{Nest, start, declared, inside, 
 use Rattle.stream_grammar.specs.machine.Nesting.{in_value, closing, lost, may_stand, nest, nest_all}
 use Rattle.stream_grammar.specs.machine.Framing.{comes_to_space, is_empty_mark, goes_with, Frame, open_at, ended, broken, frame_after, first_frame, is_broken}
 use Rattle.stream_grammar.proofs.Nested.{Room, all-room}
-use Rattle.stream_grammar.proofs.Sorts.{Sort, at_begin, at_prolog, at_content, at_name, at_tag, at_attribute, at_value, sort, may_move}
-use Rattle.stream_grammar.proofs.Moving.{sort_of, calm, Led, turn-led}
+use Rattle.stream_grammar.specs.machine.Sorts.{Sort, at_begin, at_prolog, at_content, at_name, at_tag, at_attribute, at_value, sort}
+use Rattle.stream_grammar.proofs.Sorts.{may_move}
+use Rattle.stream_grammar.specs.machine.Sorts.{sort_of}
+use Rattle.stream_grammar.proofs.Moving.{calm, Led, turn-led}
 use Rattle.stream_grammar.proofs.Twins.{words, is_named}
 use Rattle.stream_grammar.proofs.Naming.{Closable, SoFar, so_far-closable, name-done}
 use Rattle.stream_grammar.proofs.Fitting.{Fits, IsOpen, fits-next}

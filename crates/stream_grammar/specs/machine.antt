@@ -6,3 +6,5 @@ pub mod Reading
 pub mod Telling
 pub mod Calls
 pub mod Ends
+pub mod Sorts
+pub mod Texts

@@ -28,8 +28,9 @@ use Rattle.stream_lex.specs.machine.Machine.{in_declaration, in_reference, in_nu
 use Rattle.stream_lex.specs.machine.Machine.{yields as tells_and_goes}
 use Rattle.stream_lex.specs.machine.Turns.{Outcome, leads, fails, at, settled, turn_ascii, turn_wide, turn}
 use Rattle.stream_lex.proofs.Lists.{false-true}
-use Rattle.stream_grammar.proofs.Sorts.{Sort, at_begin, at_prolog, sort, is_less}
-use Rattle.stream_grammar.proofs.Moving.{sort_of}
+use Rattle.stream_grammar.specs.machine.Sorts.{Sort, at_begin, at_prolog, sort}
+use Rattle.stream_grammar.proofs.Sorts.{is_less}
+use Rattle.stream_grammar.specs.machine.Sorts.{sort_of}
 use Rattle.stream_laws.proofs.RoundTripNames.{implied}
 use Rattle.stream_laws.proofs.RoundTripText.{plain, bracketed}
 use Rattle.stream_laws.proofs.RoundTripStreams.{EndsGap}

@@ -23,8 +23,8 @@ use Rattle.stream_grammar.specs.machine.Framing.{Frame, open_at, ended, broken, 
 use Rattle.stream_grammar.specs.machine.Ends.{tokens_told}
 use Rattle.stream_grammar.proofs.Following.{Sound, left-from, any-live}
 use Rattle.stream_grammar.proofs.Nested.{all-from}
-use Rattle.stream_grammar.proofs.Sorts.{at_content}
-use Rattle.stream_grammar.proofs.Moving.{sort_of}
+use Rattle.stream_grammar.specs.machine.Sorts.{at_content}
+use Rattle.stream_grammar.specs.machine.Sorts.{sort_of}
 use Rattle.stream_grammar.proofs.Whole.{first-sound, left-first}
 use Rattle.stream_laws.proofs.Coming.{told_all, came, placed-is, leaves-end}
 use Rattle.stream_laws.proofs.Ending.{head-of}

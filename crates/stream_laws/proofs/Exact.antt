@@ -6,8 +6,6 @@ use Rattle.stream_lex.specs.declared.Token.{Token}
 use Rattle.stream_lex.specs.declared.Token.TheVariants as token
 use Rattle.stream_grammar.specs.declared.FrameFault.{FrameFault}
 use Rattle.stream_grammar.specs.declared.FrameFault.TheVariants as fault
-use Rattle.stream_grammar.specs.declared.namespaces.NameFault.{NameFault}
-use Rattle.stream_grammar.specs.declared.namespaces.NameFault.TheVariants as name
 use Rattle.stream_grammar.specs.declared.item.Limits.{Limits}
 use Rattle.stream_grammar.specs.declared.rules.Rules.{Rules}
 use Rattle.stream_grammar.specs.grammar.Streams.{Begins}
@@ -16,8 +14,7 @@ use Rattle.stream_grammar.specs.machine.Framing.{Frame, frame_next, frame_after,
 use Rattle.stream_grammar.specs.machine.Ends.{told_at}
 use Rattle.stream_grammar.specs.machine.Telling.{fault_told}
 use Rattle.stream_grammar.specs.grammar.Elements.{fault_of_tag}
-use Rattle.stream_grammar.specs.machine.Building.{Building, nothing_built, build_all, is_all_text, named_fault, tag_judged, told_judged}
-use Rattle.stream_grammar.specs.grammar.Paths.{name_kind}
+use Rattle.stream_grammar.specs.machine.Building.{Building, nothing_built, build_all, named_fault, tag_judged, told_judged}
 use Rattle.stream_grammar.specs.machine.Reading.{Reading, reads, stopped, first_reading, reading_next, concluded, byte_judged}
 use Rattle.stream_grammar.specs.machine.Reading.{or_else, fault_if, handed, is_stopped, went, is_past, extent_after}
 use Rattle.stream_grammar.specs.grammar.Bounds.{rules_of, is_large_item, told_number}
@@ -26,9 +23,9 @@ use Rattle.stream_laws.proofs.Coming.{told_all}
 use Rattle.stream_laws.proofs.Handing.{clear, HasRead, went-read, went-more}
 use Rattle.stream_laws.proofs.Judged.{named_at, AreJudged, reading-judged}
 use Rattle.stream_laws.proofs.HandedOut.{item-named}
-use Rattle.stream_laws.proofs.NameFaults.{name-found, name-told}
+use Rattle.stream_laws.proofs.NameFaults.{name-told}
 use Rattle.stream_laws.proofs.StandingWhole.{none-some, IsWhole, next-whole, number-next, whole}
-use Rattle.stream_laws.proofs.Faulting.{IsFaultAt, IsFaultIn, Stands, some-same, open-next, syntax-of, begins-of, large-told}
+use Rattle.stream_laws.proofs.Faulting.{IsFaultAt, IsFaultIn, Stands, open-next, syntax-of, begins-of, large-told}
 
 -- Of the kinds of the syntax one fits.
 
@@ -97,17 +94,9 @@ breaks-off r f bytes byte g e h never kind = by (fault_told r f byte) refl
     by (Some x) k = ap (λ (y : FrameFault). Some y) (kind-one r (bytes ++ byte ∷ []) x g (syntax-of r f bytes byte x e h k).1 kind)
 
 -- an item's last tag is not refused
-no-kind : (x : NameFault) → fault.BadEncoding ≡ name_kind x → ⊥
-no-kind name.BadPrefix e = let bad : fault.BadEncoding ≡ fault.BadPrefix = e in cc
-no-kind name.NotWellFormed e = let bad : fault.BadEncoding ≡ fault.NotWellFormed = e in cc
-
-text-fault : (t : Bool) (g : FrameFault) → named_fault None t ≡ Some g → fault.BadEncoding ≡ g
-text-fault true g e = absurd (none-some g e)
-text-fault false g e = some-same fault.BadEncoding g e
-
-token-fault : (b : Building) (t : Token) (g : FrameFault) → named_at b t ≡ None → tag_judged b t ≡ Some g → fault.BadEncoding ≡ g
-token-fault b (token.TagEnds e) g h k = text-fault (is_all_text b e) g (ap (λ (o : Option NameFault). named_fault o (is_all_text b e)) (sym h) ∙ k)
-token-fault b t g h k = absurd (none-some g k)
+token-fault : (b : Building) (t : Token) (g : FrameFault) → named_at b t ≡ None → tag_judged b t ≡ Some g → ⊥
+token-fault b (token.TagEnds e) g h k = none-some g (sym (ap named_fault h) ∙ k)
+token-fault b t g h k = none-some g k
 
 named-same : (b c : Building) (t : Token) → clear b ≡ clear c → named_at (clear b) t ≡ named_at c t
 named-same b c (token.TagEnds e) h = ap (λ (x : Building). fault_of_tag x.layers x.tag) h
@@ -121,11 +110,9 @@ item-judged l f b bytes byte (e, h, (c, j)) next (i, is, large) = by (told_judge
 
     wrong : (g : FrameFault) → told_judged (clear b) (told_at f byte) ≡ Some g → ⊥
     wrong g k =
-        let (path, t1, ends, (x, fault_is, kind)) = name-found r bytes byte f (clear b) g e next (c, j) k in
         let (t, told, none) = item-named r bytes byte i (open-next r f bytes byte e next) is in
         let one : told_at f byte ≡ t ∷ [] = ap (λ (y : Frame). told_at y byte) e ∙ told in
-        let bad : fault.BadEncoding ≡ g = token-fault (clear b) t g (named-same b (build_all nothing_built (told_all r first_frame bytes)) t c ∙ none) (ap (told_judged (clear b)) (sym one) ∙ k) in
-        no-kind x (bad ∙ kind)
+        token-fault (clear b) t g (named-same b (build_all nothing_built (told_all r first_frame bytes)) t c ∙ none) (ap (told_judged (clear b)) (sym one) ∙ k)
 
     by : (o : Option FrameFault) → told_judged (clear b) (told_at f byte) ≡ o → o ≡ None
     by None k = refl

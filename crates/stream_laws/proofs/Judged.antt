@@ -68,13 +68,13 @@ judged-back (x ∷ xs) ys b (one, more) = judged-back xs ys (build b x) more
 pub none-some : {X : Type 0} (x : X) → None ≡ Some x → ⊥
 none-some x e = cc
 
-names-judged : (o : Option NameFault) (t : Bool) → named_fault o t ≡ None → o ≡ None
-names-judged None t e = refl
-names-judged (Some name.BadPrefix) t e = absurd (none-some _ (sym e))
-names-judged (Some name.NotWellFormed) t e = absurd (none-some _ (sym e))
+names-judged : (o : Option NameFault) → named_fault o ≡ None → o ≡ None
+names-judged None e = refl
+names-judged (Some name.BadPrefix) e = absurd (none-some _ (sym e))
+names-judged (Some name.NotWellFormed) e = absurd (none-some _ (sym e))
 
 token-judged : (b : Building) (t : Token) → tag_judged b t ≡ None → named_at b t ≡ None
-token-judged b (token.TagEnds e) h = names-judged _ _ h
+token-judged b (token.TagEnds e) h = names-judged _ h
 token-judged b t h = refl
 
 words-judged : (ts : List Token) (b : Building) → are_words ts ≡ true → AreJudged b ts

@@ -29,7 +29,6 @@ pub mod LastTold
 pub mod Judged
 pub mod HandedOut
 pub mod PathTokens
-pub mod ProperNames
 pub mod PathScopes
 pub mod NameFaults
 pub mod StandingWhole

@@ -1,5 +1,5 @@
 -- A tag is refused as it ends where its names have a fault in the scope of the open elements round it, and for nothing else.
-use Rattle.std.proofs.Common.{◌≡◌, ℕ, List, [], ◌∷◌, ◌++◌, refl, sym, ap, ◌∙◌, subst, append_assoc, Bool, true, false}
+use Rattle.std.proofs.Common.{◌≡◌, ℕ, List, [], ◌∷◌, ◌++◌, refl, sym, ap, ◌∙◌, subst, append_assoc, Bool, false}
 use Rattle.std.specs.Prelude.{Option, Some, None}
 use Rattle.stream_lex.specs.declared.Token.{Token}
 use Rattle.stream_lex.specs.declared.Token.TheVariants as token
@@ -18,19 +18,17 @@ use Rattle.stream_grammar.specs.machine.Framing.{Frame, open_at, ended, broken, 
 use Rattle.stream_grammar.specs.machine.Ends.{told_at, tokens_told}
 use Rattle.stream_grammar.specs.grammar.Tags.{whole_tag}
 use Rattle.stream_grammar.specs.grammar.Elements.{fault_of_tag}
-use Rattle.stream_grammar.specs.machine.Building.{Building, nothing_built, build_all, is_all_text, named_fault, tag_judged, told_judged}
+use Rattle.stream_grammar.specs.machine.Building.{Building, nothing_built, build_all, named_fault, tag_judged, told_judged}
 use Rattle.stream_grammar.specs.grammar.Paths.{Step, path_tokens, scope_of, IsRooted, tokens_to, EndsTag, name_kind, IsNameFault}
 use Rattle.stream_grammar.proofs.Nested.{token_head, token_tail, no_token}
 use Rattle.stream_grammar.proofs.Whole.{first-sound}
 use Rattle.stream_laws.proofs.Coming.{told_all, came, last-reads, tag-words}
 use Rattle.stream_laws.proofs.Made.{tag-body, body-then}
 use Rattle.stream_laws.proofs.Handing.{clear, lost-broken}
-use Rattle.stream_laws.proofs.Judged.{AreJudged, judged-front}
+use Rattle.stream_laws.proofs.Judged.{AreJudged}
 use Rattle.stream_laws.proofs.LastTold.{ends-at}
 use Rattle.stream_laws.proofs.PathTokens.{tokens_in, Before, before-from, tag-tokens}
-use Rattle.stream_laws.proofs.PathScopes.{IsTagAt, tag-at, tags-read, path-fair}
-use Rattle.stream_laws.proofs.ProperStreams.{AreFair}
-use Rattle.stream_laws.proofs.ProperNames.{tag-text}
+use Rattle.stream_laws.proofs.PathScopes.{IsTagAt, tag-at}
 
 none-some : {X : Type 0} (x : X) → None ≡ Some x → ⊥
 none-some x e = cc
@@ -66,11 +64,11 @@ pub kinds : Option NameFault → Option FrameFault
 kinds None = None
 kinds (Some x) = Some (name_kind x)
 
-kinded : (o : Option NameFault) (t : Bool) → (o ≡ None → t ≡ true) → named_fault o t ≡ kinds o
+kinded : (o : Option NameFault) → named_fault o ≡ kinds o
 unfolding kinds
-kinded None t h = ap (named_fault None) (h refl)
-kinded (Some name.BadPrefix) t h = refl
-kinded (Some name.NotWellFormed) t h = refl
+kinded None = refl
+kinded (Some name.BadPrefix) = refl
+kinded (Some name.NotWellFormed) = refl
 
 some-kind : (o : Option NameFault) (g : FrameFault) → kinds o ≡ Some g → (x : NameFault) × (o ≡ Some x) × (g ≡ name_kind x)
 unfolding kinds
@@ -87,17 +85,14 @@ kind-some o x e = ap kinds e
 abbrev pub IsSoFar : Rules → List ℕ → Building → Type 0
 IsSoFar r bytes b = (clear b ≡ clear (build_all nothing_built (told_all r first_frame bytes))) × AreJudged nothing_built (told_all r first_frame bytes)
 
-names-at : (r : Rules) (bytes : List ℕ) (byte : ℕ) (b : Building) (d : Bool) (path : List Step) (f : Content) (t : RawTag) (e : Bool) → IsSoFar r bytes b → IsRooted path f → told_all r first_frame bytes ≡ tokens_in d path f ++ tag-body t
-    → Reads (bytes ++ byte ∷ []) (tokens_to d path f t e) → tag_judged b (token.TagEnds e) ≡ kinds (fault_of_tag (scope_of path) (whole_tag t))
-names-at r bytes byte b d path f t e (c, j) h told read =
+names-at : (r : Rules) (bytes : List ℕ) (b : Building) (d : Bool) (path : List Step) (f : Content) (t : RawTag) (e : Bool) → IsSoFar r bytes b → IsRooted path f
+    → told_all r first_frame bytes ≡ tokens_in d path f ++ tag-body t → tag_judged b (token.TagEnds e) ≡ kinds (fault_of_tag (scope_of path) (whole_tag t))
+names-at r bytes b d path f t e (c, j) h told =
     let at_it : IsTagAt (build_all nothing_built (told_all r first_frame bytes)) (scope_of path) t = subst (λ (l : List Token). IsTagAt (build_all nothing_built l) (scope_of path) t) (sym told) (tag-at d path f t h) in
     let at_layers : b.layers ≡ scope_of path = ap (λ (x : Building). x.layers) c ∙ at_it.0 in
     let at_tag : b.tag ≡ whole_tag t = ap (λ (x : Building). x.tag) c ∙ at_it.1 in
-    let (outer, one) = tags-read (bytes ++ byte ∷ []) d path f t e read in
-    let fair : AreFair (scope_of path) = path-fair d path f h outer (judged-front (tokens_in d path f) (tag-body t) nothing_built (subst (AreJudged nothing_built) told j)) in
     let same : fault_of_tag b.layers b.tag ≡ fault_of_tag (scope_of path) (whole_tag t) = ap (λ (l : List (List Binding)). fault_of_tag l b.tag) at_layers ∙ ap (fault_of_tag (scope_of path)) at_tag in
-    ap (λ (o : Option NameFault). named_fault o (is_all_text b e)) same
-    ∙ kinded (fault_of_tag (scope_of path) (whole_tag t)) (is_all_text b e) (λ none. tag-text (scope_of path) t b e at_layers at_tag fair one none)
+    ap named_fault same ∙ kinded (fault_of_tag (scope_of path) (whole_tag t))
 
 tag-found : (r : Rules) (bytes : List ℕ) (byte : ℕ) (st to : State) (n : Nest) (e : Bool) (b : Building) (g : FrameFault) → frame_after r first_frame bytes ≡ open_at st n → turn st byte ≡ leads to (token.TagEnds e ∷ [])
     → is_broken (placed r to (nest r n (token.TagEnds e))) ≡ false → IsSoFar r bytes b → tag_judged b (token.TagEnds e) ≡ Some g → IsNameFault (bytes ++ byte ∷ []) g
@@ -112,7 +107,7 @@ tag-found r bytes byte st to n e b g at_it step whole so_far judged =
       path,
       t,
       (d, f, e, rooted, reads_so, subst (IsShortest (bytes ++ byte ∷ [])) same short),
-      some-kind (fault_of_tag (scope_of path) (whole_tag t)) g (sym (names-at r bytes byte b d path f t e so_far rooted told reads_so) ∙ judged),
+      some-kind (fault_of_tag (scope_of path) (whole_tag t)) g (sym (names-at r bytes b d path f t e so_far rooted told) ∙ judged),
     )
 
 pub name-found : (r : Rules) (bytes : List ℕ) (byte : ℕ) (f : Frame) (b : Building) (g : FrameFault) → f ≡ frame_after r first_frame bytes → is_broken (frame_next r f byte) ≡ false → IsSoFar r bytes b
@@ -142,7 +137,7 @@ ends-judged r bytes byte f b path t e whole so_far (d, h, empty, rooted, read, s
     let split : tokens_to d path h t empty ≡ front ++ token.TagEnds empty ∷ [] = tokens-split d path h t empty in
     let (to, m, s, at_it, step, told) = ends-at r bytes byte front (token.TagEnds empty) refl (subst (Reads (bytes ++ byte ∷ [])) split read) (subst (IsShortest (bytes ++ byte ∷ [])) split short) whole in
     let one : told_at f byte ≡ token.TagEnds empty ∷ [] = ap (λ (y : Frame). told_at y byte) (e ∙ at_it) ∙ ap tokens_told step in
-    ap (told_judged b) one ∙ names-at r bytes byte b d path h t empty so_far rooted told read
+    ap (told_judged b) one ∙ names-at r bytes b d path h t empty so_far rooted told
 
 pub name-told : (r : Rules) (bytes : List ℕ) (byte : ℕ) (f : Frame) (b : Building) (g : FrameFault) → f ≡ frame_after r first_frame bytes → is_broken (frame_after r first_frame (bytes ++ byte ∷ [])) ≡ false → IsSoFar r bytes b
     → IsNameFault (bytes ++ byte ∷ []) g → told_judged b (told_at f byte) ≡ Some g

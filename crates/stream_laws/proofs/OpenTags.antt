@@ -16,7 +16,7 @@ use Rattle.stream_grammar.specs.machine.Framing.{settled as frame_settled}
 use Rattle.stream_grammar.specs.machine.Ends.{in_item_nest, in_item}
 use Rattle.stream_grammar.specs.machine.Telling.{is_few}
 use Rattle.stream_grammar.proofs.Sorts.{opens}
-use Rattle.stream_grammar.proofs.Moving.{sort_of}
+use Rattle.stream_grammar.specs.machine.Sorts.{sort_of}
 use Rattle.stream_grammar.proofs.Few.{turn-few}
 use Rattle.stream_grammar.proofs.Fitting.{Fits}
 use Rattle.stream_grammar.proofs.Following.{Sound}

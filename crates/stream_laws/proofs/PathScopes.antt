@@ -1,22 +1,19 @@
 -- What is built where a tag ends: the bindings are those of the open elements round it.
-use Rattle.std.proofs.Common.{◌≡◌, ℕ, List, [], ◌∷◌, ◌++◌, length, refl, sym, ap, ◌∙◌, subst, append_assoc, append-nil, Bool, true, false, ◌==◌}
+use Rattle.std.proofs.Common.{◌≡◌, List, [], ◌∷◌, ◌++◌, length, refl, sym, ap, ◌∙◌, subst, append_assoc, append-nil, Bool, true, false, ◌==◌}
 use Rattle.std.specs.Prelude.{None, if◌then◌else◌}
 use Rattle.stream_lex.specs.declared.Token.{Token}
-use Rattle.stream_lex.specs.grammar.Reading.{Reads}
 use Rattle.stream_grammar.specs.declared.namespaces.Binding.{Binding}
 use Rattle.stream_grammar.specs.grammar.Trees.{RawTag, Content, nothing, tag_tokens, content_tokens, declaration_tokens}
 use Rattle.stream_grammar.specs.grammar.Namespaces.{own}
 use Rattle.stream_grammar.specs.machine.Gathering.{nothing_gathered}
 use Rattle.stream_grammar.specs.grammar.Tags.{whole_tag}
-use Rattle.stream_grammar.specs.grammar.Elements.{inside_of, fault_of_tag}
+use Rattle.stream_grammar.specs.grammar.Elements.{inside_of}
 use Rattle.stream_grammar.specs.machine.Building.{Building, nothing_built, build_all}
-use Rattle.stream_grammar.specs.grammar.Paths.{Step, path_tokens, scope_of, IsRooted, tokens_to}
+use Rattle.stream_grammar.specs.grammar.Paths.{Step, path_tokens, scope_of, IsRooted}
 use Rattle.stream_laws.proofs.Made.{made, tag-body, body-made, tag-made, not-empty, declared-made}
 use Rattle.stream_laws.proofs.Handing.{build-more}
-use Rattle.stream_laws.proofs.Judged.{AreJudged, judged-front, judged-back, tag-judged, IsOn, leaves-on}
+use Rattle.stream_laws.proofs.Judged.{IsOn, leaves-on}
 use Rattle.stream_laws.proofs.PathTokens.{tokens_in}
-use Rattle.stream_laws.proofs.ProperLexing.{From, from-declaration, from-content, from-tag, reads-checks, IsReadTag}
-use Rattle.stream_laws.proofs.ProperStreams.{AreFair, inside-fair}
 
 -- The bindings.
 
@@ -63,35 +60,3 @@ tag-at d path f t h =
     let (g, os, words, i, is) = path-on d path f h in
     let all : build_all nothing_built (tokens_in d path f ++ tag-body t) ≡ record b { tag = whole_tag t } = build-more nothing_built (tokens_in d path f) (tag-body t) ∙ body-made b t in
     (ap (λ (x : Building). x.layers) all ∙ ap (λ (x : Building). x.layers) is, ap (λ (x : Building). x.tag) all)
-
--- The tags are read.
-
-abbrev pub AreRead : List Step → Type 0
-AreRead [] = Unit {0}
-AreRead (x ∷ path) = AreRead path × IsReadTag x.tag
-
-from-path : (path : List Step) (R : List Token) (m : List ℕ) → From [] (path_tokens path ++ R) m → AreRead path × From [] R m
-from-path [] R m c = (tt, c)
-from-path (x ∷ path) R m c =
-    let d = subst (λ (l : List Token). From [] l m) (append_assoc (path_tokens path) (content_tokens x.before ++ tag_tokens x.tag false) R ∙ ap (λ (l : List Token). path_tokens path ++ l) (append_assoc (content_tokens x.before) (tag_tokens x.tag false) R)) c in
-    let (outer, e) = from-path path (content_tokens x.before ++ (tag_tokens x.tag false ++ R)) m d in
-    let (words, g) = from-content x.before (tag_tokens x.tag false ++ R) m e in
-    let (tagged, k) = from-tag x.tag false [] R m g in
-    ((outer, tagged), k)
-
-pub tags-read : (bytes : List ℕ) (d : Bool) (path : List Step) (f : Content) (t : RawTag) (e : Bool) → Reads bytes (tokens_to d path f t e) → AreRead path × IsReadTag t
-tags-read bytes d path f t e told =
-    let (m, c) = reads-checks bytes (tokens_to d path f t e) told in
-    let (outer, g) = from-path path (content_tokens f ++ tag_tokens t e) m (from-declaration d (path_tokens path ++ (content_tokens f ++ tag_tokens t e)) m c) in
-    let (words, k) = from-content f (tag_tokens t e) m g in
-    (outer, (from-tag t e [] [] m (subst (λ (l : List Token). From [] l m) (sym (append-nil (tag_tokens t e))) k)).0)
-
-pub path-fair : (d : Bool) (path : List Step) (f : Content) → IsRooted path f → AreRead path → AreJudged nothing_built (tokens_in d path f) → AreFair (scope_of path)
-path-fair d [] f h read j = tt
-path-fair d (x ∷ path) f h (outer, one) j =
-    let before : List Token = tokens_in d path x.before in
-    let k : AreJudged nothing_built (before ++ tag_tokens x.tag false) = judged-front (before ++ tag_tokens x.tag false) (content_tokens f) nothing_built (subst (AreJudged nothing_built) (step-tokens d x path f) j) in
-    let (g, os, words, i, is) = path-on d path x.before h in
-    let named : fault_of_tag (scope_of path) (whole_tag x.tag) ≡ None =
-    ap (λ (b : Building). fault_of_tag b.layers (whole_tag x.tag)) (sym is) ∙ tag-judged (build_all nothing_built before) x.tag false (judged-back before (tag_tokens x.tag false) nothing_built k) in
-    inside-fair (scope_of path) x.tag (path-fair d path x.before h outer (judged-front before (tag_tokens x.tag false) nothing_built k)) one named

@@ -12,7 +12,7 @@ use Rattle.stanza_tree.specs.declared.node.Node.{Node}
 use Rattle.stanza_tree.specs.declared.node.Node.TheFolds.{fold-Node, fold-Element, fold_out-Node, fold_out-Element, map-Node}
 use Rattle.stanza_tree.specs.declared.node.Node.TheOpen.{Node-F, Child, Words}
 use Rattle.stanza_tree.specs.declared.node.Node.TheViews.{out-Node, out-Element, roll-Node, roll-out-Node}
-use Rattle.stanza_tree.specs.Spelling.{Spelled, prefix, escaped_in_words, words_text, node_text, element_text}
+use Rattle.stanza_tree.specs.Spelling.{prefix, escaped_in_words, words_text}
 use Rattle.stanza_tree.specs.Spelling.{text_under, texts_under, needs_prefix, closed, opened}
 use Rattle.stanza_tree.proofs.SpellingLemmas.{text_under-parts, texts-child, texts-words}
 use Rattle.stream_lex.specs.declared.Token.{Token}

@@ -1,6 +1,5 @@
 -- A tag with its names in their namespaces (Namespaces in XML 1.0).
-use Rattle.std.specs.Prelude.{ℕ, List, [], ◌∷◌, Bool, true, ◌&&◌, if◌then◌else◌, Option, Some, None}
-use Rattle.std.specs.Str.{is_utf8}
+use Rattle.std.specs.Prelude.{ℕ, List, [], ◌∷◌, if◌then◌else◌, Option, Some, None}
 use Rattle.stanza_tree.specs.declared.node.Name.{Name}
 use Rattle.stanza_tree.specs.declared.node.Attr.{Attr}
 use Rattle.stream_grammar.specs.declared.namespaces.Binding.{Binding}
@@ -22,14 +21,3 @@ attr_on layers a = record { name = record { space = or_none (attribute_space lay
 abbrev pub attrs_on : List (List Binding) → List Written → List Attr
 attrs_on layers [] = []
 attrs_on layers (a ∷ more) = if is_declaration a.name then attrs_on layers more else attr_on layers a ∷ attrs_on layers more
-
--- names and namespaces are texts
-abbrev pub is_text_name : Name → Bool
-is_text_name n = is_utf8 n.space && is_utf8 n.local
-
-abbrev pub are_text_attrs : List Attr → Bool
-are_text_attrs [] = true
-are_text_attrs (a ∷ more) = is_text_name a.name && are_text_attrs more
-
-abbrev pub is_text_tag : List (List Binding) → List ℕ → List Written → Bool
-is_text_tag layers name attributes = is_text_name (name_on layers name) && are_text_attrs (attrs_on layers attributes)

@@ -1,5 +1,5 @@
 -- Elements as they are made while the tokens of a stream come.
-use Rattle.std.specs.Prelude.{ℕ, List, [], ◌∷◌, ◌++◌, Bool, true, false, not, ◌&&◌, length, Option, Some, None, ◌==◌, if◌then◌else◌, encode_utf8}
+use Rattle.std.specs.Prelude.{ℕ, List, [], ◌∷◌, ◌++◌, true, false, length, Option, Some, None, ◌==◌, if◌then◌else◌, encode_utf8}
 use Rattle.stream_lex.specs.declared.Token.{Token}
 use Rattle.stream_lex.specs.declared.Token.TheVariants as token
 use Rattle.stanza_tree.specs.declared.node.Attr.{Attr}
@@ -16,8 +16,7 @@ use Rattle.stream_grammar.specs.declared.namespaces.NameFault.TheVariants as nam
 use Rattle.stream_grammar.specs.declared.item.Item.{Item}
 use Rattle.stream_grammar.specs.declared.item.Item.TheVariants as item
 use Rattle.stream_grammar.specs.grammar.Namespaces.{space_of}
-use Rattle.stream_grammar.specs.grammar.Resolving.{or_none, name_on, attrs_on, is_text_tag}
-use Rattle.std.specs.Str.{is_utf8}
+use Rattle.stream_grammar.specs.grammar.Resolving.{or_none, name_on, attrs_on}
 use Rattle.stream_grammar.specs.grammar.Tags.{Gathered}
 use Rattle.stream_grammar.specs.machine.Gathering.{nothing_gathered, gather}
 use Rattle.stream_grammar.specs.grammar.Elements.{inside_of, element_with, with_words, fault_of_tag}
@@ -97,24 +96,15 @@ abbrev pub build_all : Building → List Token → Building
 build_all b [] = b
 build_all b (t ∷ ts) = build_all (build b t) ts
 
--- A tag is judged as it ends, by its names. That something in it is no text is told last.
+-- A tag is judged as it ends, by its names.
 
-abbrev pub is_header : Building → Bool → Bool
-is_header b empty = not empty && (length b.layers == 0)
-
--- a header tells its default namespace too
-abbrev pub is_all_text : Building → Bool → Bool
-is_all_text b empty =
-    is_text_tag (inside_of b.layers b.tag) b.tag.name b.tag.attributes && (if is_header b empty then is_utf8 (or_none (space_of (inside_of b.layers b.tag) []))
-    else true)
-
-abbrev pub named_fault : Option NameFault → Bool → Option FrameFault
-named_fault (Some name.BadPrefix) texts = Some frame.BadPrefix
-named_fault (Some name.NotWellFormed) texts = Some frame.NotWellFormed
-named_fault None texts = if texts then None else Some frame.BadEncoding
+abbrev pub named_fault : Option NameFault → Option FrameFault
+named_fault (Some name.BadPrefix) = Some frame.BadPrefix
+named_fault (Some name.NotWellFormed) = Some frame.NotWellFormed
+named_fault None = None
 
 abbrev pub tag_judged : Building → Token → Option FrameFault
-tag_judged b (token.TagEnds empty) = named_fault (fault_of_tag b.layers b.tag) (is_all_text b empty)
+tag_judged b (token.TagEnds empty) = named_fault (fault_of_tag b.layers b.tag)
 tag_judged b t = None
 
 abbrev pub told_judged : Building → List Token → Option FrameFault
