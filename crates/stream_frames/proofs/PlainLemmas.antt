@@ -16,8 +16,8 @@ word-low : (b : ℕ) → is_plain_word b ≡ true → nat_lt b 128 ≡ true
 word-low b h = (and_parts (nat_le 32 b) (nat_lt b 128) (and_parts (nat_le 32 b && nat_lt b 128) _ h).0).1
 
 value-low : (q : Quote) (b : ℕ) → is_plain_value q b ≡ true → nat_lt b 128 ≡ true
-value-low Double b h = (and_parts (nat_lt 32 b) (nat_lt b 128) (and_parts (nat_lt 32 b && nat_lt b 128) _ h).0).1
-value-low Single b h = (and_parts (nat_lt 32 b) (nat_lt b 128) (and_parts (nat_lt 32 b && nat_lt b 128) _ h).0).1
+value-low Double b h = (and_parts (nat_le 32 b) (nat_lt b 128) (and_parts (nat_le 32 b && nat_lt b 128) _ h).0).1
+value-low Single b h = (and_parts (nat_le 32 b) (nat_lt b 128) (and_parts (nat_le 32 b && nat_lt b 128) _ h).0).1
 
 pub word_utf8 : (xs : List ℕ) → are_plain is_plain_word xs ≡ true → IsUtf8 xs
 word_utf8 xs h = ascii-utf8 xs (low-plain is_plain_word xs word-low h)

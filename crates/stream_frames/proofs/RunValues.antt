@@ -1,8 +1,8 @@
 -- Runs of the values of attributes.
 use Rattle.std.proofs.Common.{◌≡◌, ℕ, ◌+◌, ◌<◌, List, [], ◌∷◌, ◌++◌, length, append-nil, append_assoc, take, get_or, refl}
-use Rattle.std.proofs.Common.{sym, ap, ◌∙◌, subst, Bool, true, false, not, ◌||◌, ◌&&◌, ◌==◌, nat_lt}
+use Rattle.std.proofs.Common.{sym, ap, ◌∙◌, subst, Bool, true, false, not, ◌||◌, ◌&&◌, ◌==◌, nat_lt, nat_le}
 use Rattle.std.specs.Prelude.{None, Some, if◌then◌else◌}
-use Rattle.std.proofs.lemmas.Bool.{and_parts, ltb-true, agree_below_at}
+use Rattle.std.proofs.lemmas.Bool.{and_parts, eqb-true, ltb-true, agree_below_at}
 use Rattle.std.proofs.lemmas.List.{take_more}
 use Rattle.stream_lex.specs.declared.Token.TheVariants as token
 use Rattle.stream_lex.specs.declared.kinds.Kind.{Kind}
@@ -32,29 +32,29 @@ use Rattle.stream_grammar.specs.grammar.Bounds.{rules_of}
 use Rattle.stream_frames.specs.Runs.{is_plain_value, are_plain, value_quote, is_between_characters, open_quote, Leads}
 use Rattle.stream_frames.proofs.RunLemmas.{Quiet, no_bytes_led, more_led, plain-append, implied, turned, between-state}
 
--- No plain byte is markup or white space.
+-- No plain byte is markup, and white space only where it stands for itself.
 
-abbrev is_value_kind : Quote → Kind → Bool
-is_value_kind q kinds.Less = false
-is_value_kind q kinds.Ampersand = false
-is_value_kind q kinds.Control = false
-is_value_kind q kinds.Space = false
-is_value_kind Double kinds.Quotation = false
-is_value_kind Single kinds.Apostrophe = false
-is_value_kind q k = true
+abbrev is_value_kind : Quote → Kind → ℕ → Bool
+is_value_kind q kinds.Less c = false
+is_value_kind q kinds.Ampersand c = false
+is_value_kind q kinds.Control c = false
+is_value_kind q kinds.Space c = c == 32
+is_value_kind Double kinds.Quotation c = false
+is_value_kind Single kinds.Apostrophe c = false
+is_value_kind q k c = true
 
-value-kind : (q : Quote) (k : Kind) (c : ℕ) → is_value_kind q k ≡ true → in_value q k c ≡ tells_and_goes (token.Value c ∷ []) (stage.Text (Value q))
+value-kind : (q : Quote) (k : Kind) (c : ℕ) → is_value_kind q k c ≡ true → in_value q k c ≡ tells_and_goes (token.Value c ∷ []) (stage.Text (Value q))
 value-kind q kinds.Less c h = absurd (let bad : false ≡ true = h in cc)
 value-kind q kinds.Ampersand c h = absurd (let bad : false ≡ true = h in cc)
 value-kind q kinds.Control c h = absurd (let bad : false ≡ true = h in cc)
-value-kind q kinds.Space c h = absurd (let bad : false ≡ true = h in cc)
+value-kind q kinds.Space c h = ap (λ (x : ℕ). tells_and_goes (token.Value x ∷ []) (stage.Text (Value q))) (sym (eqb-true c 32 h))
 value-kind Double kinds.Quotation c h = absurd (let bad : false ≡ true = h in cc)
 value-kind Single kinds.Apostrophe c h = absurd (let bad : false ≡ true = h in cc)
 value-kind Double k c h = refl
 value-kind Single k c h = refl
 
 abbrev fits_value : Quote → ℕ → Bool
-fits_value q b = not (is_plain_value q b) || (is_value_kind q (ascii_kind b) && not (b == 13))
+fits_value q b = not (is_plain_value q b) || (is_value_kind q (ascii_kind b) b && not (b == 13))
 
 value-fits : (q : Quote) (b : ℕ) → b < 128 → fits_value q b ≡ true
 unfolding ascii_kind
@@ -62,11 +62,11 @@ value-fits Double b h = agree_below_at (fits_value Double) (λ x. true) 128 b re
 value-fits Single b h = agree_below_at (fits_value Single) (λ x. true) 128 b refl h
 
 value-low : (q : Quote) (b : ℕ) → is_plain_value q b ≡ true → nat_lt b 128 ≡ true
-value-low Double b h = (and_parts (nat_lt 32 b) (nat_lt b 128) (and_parts (nat_lt 32 b && nat_lt b 128) _ h).0).1
-value-low Single b h = (and_parts (nat_lt 32 b) (nat_lt b 128) (and_parts (nat_lt 32 b && nat_lt b 128) _ h).0).1
+value-low Double b h = (and_parts (nat_le 32 b) (nat_lt b 128) (and_parts (nat_le 32 b && nat_lt b 128) _ h).0).1
+value-low Single b h = (and_parts (nat_le 32 b) (nat_lt b 128) (and_parts (nat_le 32 b && nat_lt b 128) _ h).0).1
 
-value-of : (q : Quote) (b : ℕ) → is_plain_value q b ≡ true → (is_value_kind q (ascii_kind b) ≡ true) × ((b == 13) ≡ false)
-value-of q b h = implied (is_plain_value q b) (is_value_kind q (ascii_kind b)) (b == 13) h (value-fits q b (ltb-true b 128 (value-low q b h)))
+value-of : (q : Quote) (b : ℕ) → is_plain_value q b ≡ true → (is_value_kind q (ascii_kind b) b ≡ true) × ((b == 13) ≡ false)
+value-of q b h = implied (is_plain_value q b) (is_value_kind q (ascii_kind b) b) (b == 13) h (value-fits q b (ltb-true b 128 (value-low q b h)))
 
 abbrev pub value_at : Quote → State
 value_at q = at (stage.Text (Value q)) pending.Nothing false

@@ -22,10 +22,10 @@ use Rattle.stream_lex.specs.declared.stages.State.{State}
 abbrev pub is_plain_word : ℕ → Bool
 is_plain_word b = (nat_le 32 b && nat_lt b 128) && (not (b == 38) && (not (b == 60) && not (b == 93)))
 
--- XML 1.0, 2.3 and 3.3.3: a character of a value in these quotes below 128 that is no markup and no white space
+-- XML 1.0, 2.3 and 3.3.3: a character of a value in these quotes below 128 that is no markup, and no white space but a space
 abbrev pub is_plain_value : Quote → ℕ → Bool
-is_plain_value Double b = (nat_lt 32 b && nat_lt b 128) && (not (b == 38) && (not (b == 60) && not (b == 34)))
-is_plain_value Single b = (nat_lt 32 b && nat_lt b 128) && (not (b == 38) && (not (b == 60) && not (b == 39)))
+is_plain_value Double b = (nat_le 32 b && nat_lt b 128) && (not (b == 38) && (not (b == 60) && not (b == 34)))
+is_plain_value Single b = (nat_le 32 b && nat_lt b 128) && (not (b == 38) && (not (b == 60) && not (b == 39)))
 
 -- Namespaces in XML 1.0, 3: a further character of a name below 128, but for the colon
 abbrev pub is_name_byte : ℕ → Bool

@@ -12,7 +12,7 @@ fn is_of_words(byte: u8) -> bool
     (32 <= byte && byte < 128) && (byte != b'&' && (byte != b'<' && byte != b']'))
 }
 
-/// Whether a byte is a character of a value in these quotes that is no markup and no white space (XML 1.0, 2.3 and 3.3.3).
+/// Whether a byte is a character of a value in these quotes that is no markup, and no white space but a space (XML 1.0, 2.3 and 3.3.3).
 fn is_of_value(quote: Quote, byte: u8) -> bool
     ensures { result ≡ is_plain_value quote byte }
 {
@@ -20,7 +20,7 @@ fn is_of_value(quote: Quote, byte: u8) -> bool
         Quote::Double => b'"',
         Quote::Single => b'\'',
     };
-    (32 < byte && byte < 128) && (byte != b'&' && (byte != b'<' && byte != end))
+    (32 <= byte && byte < 128) && (byte != b'&' && (byte != b'<' && byte != end))
 }
 
 /// Whether a byte is a further character of a name and no colon (Namespaces in XML 1.0, 3).
