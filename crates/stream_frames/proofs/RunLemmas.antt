@@ -24,7 +24,7 @@ use Rattle.stream_grammar.specs.declared.rules.Rules.{Rules}
 use Rattle.stream_grammar.specs.machine.Framing.{Frame, frame_next, is_broken, fault_at}
 use Rattle.stream_grammar.specs.machine.Ends.{told_at, in_item}
 use Rattle.stream_grammar.specs.machine.Telling.{fault_told}
-use Rattle.stream_grammar.specs.machine.Building.{Building, build, build_all, told_judged, tag_judged}
+use Rattle.stream_grammar.specs.machine.Building.{Building, build_all, told_judged}
 use Rattle.stream_grammar.specs.machine.Reading.{Reading, reads, or_else, fault_if, concluded, is_past, extent_after, byte_judged}
 use Rattle.stream_grammar.specs.machine.Reading.{reading_next, reading_after, taken_reading, is_done, is_none}
 use Rattle.stream_grammar.specs.grammar.Bounds.{is_large_item, told_number, rules_of}
@@ -143,6 +143,12 @@ led_then r f g h b c d xs ms led more = record {
   where
     shift : (n m i j : ℕ) → i ≡ n + m → n + (m + j) ≡ i + j
     shift n m i j e = omega (arith, e)
+
+pub leads_then : (f g h : Frame) (b c d : Building) (xs ms : List ℕ) → Leads f b xs g c → Leads g c ms h d → Leads f b (xs ++ ms) h d
+leads_then f g h b c d xs ms led more = record {
+  run = λ l n k ys going small fits.
+      let r : Rules = rules_of l in (led_then r f g h b c d xs ms (led_by r f g b c xs led) (led_by r g h c d ms more)).run l n k ys refl going small fits;
+}
 
 -- where no byte is read, nothing changes
 pub none_led : (f g : Frame) (b c : Building) (bytes : List ℕ) → g ≡ f → c ≡ b → Leads f b (take 0 bytes) g c
