@@ -10,6 +10,8 @@ mod FillLemmas
 pub mod RunLemmas
 pub mod RunWords
 pub mod RunValues
+pub mod WideBytes
+pub mod WideLemmas
 pub mod RunNames
 pub mod RunEnds
 pub mod MarkupLemmas

@@ -174,6 +174,13 @@ led_then r f g h b c d xs ms led more = record {
 pub texts_led : (r : Rules) (f g : Frame) (b c : Building) (xs : List ℕ) → LeadsBy r f b xs g c → r.loose ≡ false → HasTexts f b.tag → HasTexts g c.tag
 texts_led r f g b c xs led strict h = led.texts strict h
 
+pub leads_then : (f g h : Frame) (b c d : Building) (xs ms : List ℕ) → Leads f b xs g c → Leads g c ms h d → Leads f b (xs ++ ms) h d
+leads_then f g h b c d xs ms led more = record {
+  run = λ l n k ys going small fits.
+      let r : Rules = rules_of l in (led_then r f g h b c d xs ms (led_by r f g b c xs led) (led_by r g h c d ms more)).run l n k ys refl going small fits;
+  texts = λ t. more.texts (led.texts t);
+}
+
 -- where no byte is read, nothing changes
 pub none_led : (f g : Frame) (b c : Building) (bytes : List ℕ) → g ≡ f → c ≡ b → Leads f b (take 0 bytes) g c
 none_led f g b c bytes e1 e2 = subst (λ (x : Frame). Leads f b [] x c) (sym e1) (no_bytes_led f b c e2)

@@ -1,8 +1,8 @@
 -- Runs of the values of attributes.
 use Rattle.std.proofs.Common.{◌≡◌, ℕ, ◌+◌, ◌<◌, List, [], ◌∷◌, ◌++◌, length, append-nil, append_assoc, take, get_or, refl}
-use Rattle.std.proofs.Common.{sym, ap, ◌∙◌, subst, Bool, true, false, not, ◌||◌, ◌&&◌, ◌==◌, nat_lt}
+use Rattle.std.proofs.Common.{inl, inr, encode_utf8, encode_utf8_all, sym, ap, ◌∙◌, subst, Bool, true, false, not, ◌||◌, ◌&&◌, ◌==◌, nat_lt, nat_le}
 use Rattle.std.specs.Prelude.{None, Some, if◌then◌else◌}
-use Rattle.std.proofs.lemmas.Bool.{and_parts, ltb-true, agree_below_at}
+use Rattle.std.proofs.lemmas.Bool.{and_parts, or_cases, eqb-true, ltb-true, agree_below_at}
 use Rattle.std.proofs.lemmas.List.{take_more}
 use Rattle.stream_lex.specs.declared.Token.TheVariants as token
 use Rattle.stream_lex.specs.declared.kinds.Kind.{Kind}
@@ -13,6 +13,7 @@ use Rattle.stream_lex.specs.declared.stages.Quote.TheVariants.{Double, Single}
 use Rattle.stream_lex.specs.declared.stages.Stage.{Stage}
 use Rattle.stream_lex.specs.declared.stages.Stage.TheVariants as stage
 use Rattle.stream_lex.specs.declared.stages.State.{State}
+use Rattle.stream_lex.specs.declared.characters.Pending.{Pending}
 use Rattle.stream_lex.specs.declared.characters.Pending.TheVariants as pending
 use Rattle.stream_lex.specs.grammar.Kinds.{ascii_kind}
 use Rattle.stream_lex.specs.machine.Machine.{ascii, in_value}
@@ -24,37 +25,38 @@ use Rattle.stream_grammar.specs.declared.rules.Rules.{Rules}
 use Rattle.stream_grammar.specs.grammar.Trees.{RawName}
 use Rattle.stream_grammar.specs.machine.Nesting.{nest}
 use Rattle.stream_grammar.specs.machine.Nesting.{in_value as valuing}
-use Rattle.stream_grammar.specs.machine.Framing.{Frame, open_at, placed, frame_next}
+use Rattle.stream_grammar.specs.machine.Framing.{Frame, open_at, placed}
 use Rattle.stream_grammar.specs.machine.Framing.{settled as framed}
 use Rattle.stream_grammar.specs.machine.Ends.{tokens_told}
 use Rattle.stream_grammar.specs.machine.Building.{Building}
 use Rattle.stream_grammar.specs.grammar.Bounds.{rules_of}
-use Rattle.stream_frames.specs.Runs.{is_plain_value, are_plain, value_quote, is_between_characters, open_quote, Leads}
-use Rattle.stream_frames.proofs.RunLemmas.{Quiet, no_bytes_led, more_led, plain-append, implied, turned, between-state}
+use Rattle.stream_frames.specs.Runs.{is_plain_value, is_wide, is_value_character, are_plain, Spells, value_quote, is_between_characters, open_quote, Leads}
+use Rattle.stream_frames.proofs.RunLemmas.{Quiet, no_bytes_led, more_led, leads_then, plain-append, implied, turned, between-state}
+use Rattle.stream_frames.proofs.WideLemmas.{text_at, wide_led}
 
--- No plain byte is markup or white space.
+-- No plain byte is markup, and white space only where it stands for itself.
 
-abbrev is_value_kind : Quote → Kind → Bool
-is_value_kind q kinds.Less = false
-is_value_kind q kinds.Ampersand = false
-is_value_kind q kinds.Control = false
-is_value_kind q kinds.Space = false
-is_value_kind Double kinds.Quotation = false
-is_value_kind Single kinds.Apostrophe = false
-is_value_kind q k = true
+abbrev is_value_kind : Quote → Kind → ℕ → Bool
+is_value_kind q kinds.Less c = false
+is_value_kind q kinds.Ampersand c = false
+is_value_kind q kinds.Control c = false
+is_value_kind q kinds.Space c = c == 32
+is_value_kind Double kinds.Quotation c = false
+is_value_kind Single kinds.Apostrophe c = false
+is_value_kind q k c = true
 
-value-kind : (q : Quote) (k : Kind) (c : ℕ) → is_value_kind q k ≡ true → in_value q k c ≡ tells_and_goes (token.Value c ∷ []) (stage.Text (Value q))
+value-kind : (q : Quote) (k : Kind) (c : ℕ) → is_value_kind q k c ≡ true → in_value q k c ≡ tells_and_goes (token.Value c ∷ []) (stage.Text (Value q))
 value-kind q kinds.Less c h = absurd (let bad : false ≡ true = h in cc)
 value-kind q kinds.Ampersand c h = absurd (let bad : false ≡ true = h in cc)
 value-kind q kinds.Control c h = absurd (let bad : false ≡ true = h in cc)
-value-kind q kinds.Space c h = absurd (let bad : false ≡ true = h in cc)
+value-kind q kinds.Space c h = ap (λ (x : ℕ). tells_and_goes (token.Value x ∷ []) (stage.Text (Value q))) (sym (eqb-true c 32 h))
 value-kind Double kinds.Quotation c h = absurd (let bad : false ≡ true = h in cc)
 value-kind Single kinds.Apostrophe c h = absurd (let bad : false ≡ true = h in cc)
 value-kind Double k c h = refl
 value-kind Single k c h = refl
 
 abbrev fits_value : Quote → ℕ → Bool
-fits_value q b = not (is_plain_value q b) || (is_value_kind q (ascii_kind b) && not (b == 13))
+fits_value q b = not (is_plain_value q b) || (is_value_kind q (ascii_kind b) b && not (b == 13))
 
 value-fits : (q : Quote) (b : ℕ) → b < 128 → fits_value q b ≡ true
 unfolding ascii_kind
@@ -62,11 +64,11 @@ value-fits Double b h = agree_below_at (fits_value Double) (λ x. true) 128 b re
 value-fits Single b h = agree_below_at (fits_value Single) (λ x. true) 128 b refl h
 
 value-low : (q : Quote) (b : ℕ) → is_plain_value q b ≡ true → nat_lt b 128 ≡ true
-value-low Double b h = (and_parts (nat_lt 32 b) (nat_lt b 128) (and_parts (nat_lt 32 b && nat_lt b 128) _ h).0).1
-value-low Single b h = (and_parts (nat_lt 32 b) (nat_lt b 128) (and_parts (nat_lt 32 b && nat_lt b 128) _ h).0).1
+value-low Double b h = (and_parts (nat_le 32 b) (nat_lt b 128) (and_parts (nat_le 32 b && nat_lt b 128) _ h).0).1
+value-low Single b h = (and_parts (nat_le 32 b) (nat_lt b 128) (and_parts (nat_le 32 b && nat_lt b 128) _ h).0).1
 
-value-of : (q : Quote) (b : ℕ) → is_plain_value q b ≡ true → (is_value_kind q (ascii_kind b) ≡ true) × ((b == 13) ≡ false)
-value-of q b h = implied (is_plain_value q b) (is_value_kind q (ascii_kind b)) (b == 13) h (value-fits q b (ltb-true b 128 (value-low q b h)))
+value-of : (q : Quote) (b : ℕ) → is_plain_value q b ≡ true → (is_value_kind q (ascii_kind b) b ≡ true) × ((b == 13) ≡ false)
+value-of q b h = implied (is_plain_value q b) (is_value_kind q (ascii_kind b) b) (b == 13) h (value-fits q b (ltb-true b 128 (value-low q b h)))
 
 abbrev pub value_at : Quote → State
 value_at q = at (stage.Text (Value q)) pending.Nothing false
@@ -90,18 +92,18 @@ value-nest : (r : Rules) (ms : List RawName) (m : RawName) (i b : ℕ) → nest 
 unfolding nest
 value-nest r ms m i b = refl
 
-value-framed : (r : Rules) (q : Quote) (ms : List RawName) (m : RawName) (i b : ℕ) → is_plain_value q b ≡ true → frame_next r (value_in q ms m i) b ≡ value_in q ms m i
-value-framed r q ms m i b h = ap (framed r (valuing ms m i)) (turn-value q b h) ∙ ap (placed r (value_at q)) (value-nest r ms m i b)
-
 -- what is built, with these bytes more of the value
 abbrev valued : Building → List ℕ → Building
 valued b value = record b { tag = record b.tag { value = value } }
 
-value-quiet : (l : Limits) (q : Quote) (ms : List RawName) (m : RawName) (i : ℕ) (b : Building) (c : ℕ) → is_plain_value q c ≡ true → Quiet l (value_in q ms m i) b c (token.Value c ∷ []) (value_in q ms m i) (valued b (b.tag.value ++ c ∷ []))
-value-quiet l q ms m i b c h = record {
-  framed = value-framed (rules_of l) q ms m i c h;
-  told = ap tokens_told (turn-value q c h);
-  built = ap (λ (w : List ℕ). valued b (b.tag.value ++ w)) (encode1 c (ltb-true c 128 (value-low q c h)));
+-- the last byte of a character
+value-quiet : (l : Limits) (q : Quote) (ms : List RawName) (m : RawName) (i : ℕ) (b : Building) (g : Pending) (byte c : ℕ)
+    → turn (at (stage.Text (Value q)) g false) byte ≡ leads (value_at q) (token.Value c ∷ [])
+    → Quiet l (text_at (Value q) g (valuing ms m i)) b byte (token.Value c ∷ []) (value_in q ms m i) (valued b (b.tag.value ++ encode_utf8 c))
+value-quiet l q ms m i b g byte c e = record {
+  framed = ap (framed (rules_of l) (valuing ms m i)) e ∙ ap (placed (rules_of l) (value_at q)) (value-nest (rules_of l) ms m i c);
+  told = ap tokens_told e;
+  built = refl;
   named = refl;
   unbroken = refl;
   still = refl;
@@ -109,14 +111,33 @@ value-quiet l q ms m i b c h = record {
   same = refl;
 }
 
-value-run : (xs : List ℕ) (q : Quote) (ms : List RawName) (m : RawName) (i : ℕ) (b : Building) → are_plain (is_plain_value q) xs ≡ true → Leads (value_in q ms m i) b xs (value_in q ms m i) (valued b (b.tag.value ++ xs))
-value-run [] q ms m i b plain = no_bytes_led (value_in q ms m i) b (valued b (b.tag.value ++ [])) (ap (valued b) (append-nil b.tag.value))
-value-run (c ∷ xs) q ms m i b plain =
-    let p = and_parts (is_plain_value q c) (are_plain (is_plain_value q) xs) plain in
+-- a character
+character-led : (q : Quote) (ms : List RawName) (m : RawName) (i : ℕ) (b : Building) (c : ℕ)
+    → is_value_character q c ≡ true → Leads (value_in q ms m i) b (encode_utf8 c) (value_in q ms m i) (valued b (b.tag.value ++ encode_utf8 c))
+character-led q ms m i b c h =
     let f : Frame = value_in q ms m i in
-    let b1 : Building = valued b (b.tag.value ++ c ∷ []) in
-    subst (λ (w : List ℕ). Leads f b (c ∷ xs) f (valued b w)) (append_assoc b.tag.value (c ∷ []) xs)
-    (more_led f f f b b1 (valued b ((b.tag.value ++ c ∷ []) ++ xs)) c (token.Value c ∷ []) xs (λ l. value-quiet l q ms m i b c p.0) (value-run xs q ms m i b1 p.1))
+    let d : Building = valued b (b.tag.value ++ encode_utf8 c) in
+    elim (or_cases (is_plain_value q c) (is_wide c) h) [
+      | inl plain ↦ subst (λ (xs : List ℕ). Leads f b xs f d) (sym (encode1 c (ltb-true c 128 (value-low q c plain))))
+          (more_led f f f b d d c (token.Value c ∷ []) [] (λ l. value-quiet l q ms m i b pending.Nothing c c (turn-value q c plain)) (no_bytes_led f d d refl))
+      | inr wide ↦ wide_led (Value q) (valuing ms m i) c b d (record {
+        ending = λ l g byte e. value-quiet l q ms m i b g byte c e;
+        staying = λ r g. refl;
+        within = refl;
+      }) wide
+    ]
+
+value-run : (cs : List ℕ) (q : Quote) (ms : List RawName) (m : RawName) (i : ℕ) (b : Building) → are_plain (is_value_character q) cs ≡ true
+    → Leads (value_in q ms m i) b (encode_utf8_all cs) (value_in q ms m i) (valued b (b.tag.value ++ encode_utf8_all cs))
+value-run [] q ms m i b plain = no_bytes_led (value_in q ms m i) b (valued b (b.tag.value ++ [])) (ap (valued b) (append-nil b.tag.value))
+value-run (c ∷ cs) q ms m i b plain =
+    let p = and_parts (is_value_character q c) (are_plain (is_value_character q) cs) plain in
+    let f : Frame = value_in q ms m i in
+    let here : List ℕ = encode_utf8 c in
+    let more : List ℕ = encode_utf8_all cs in
+    let b1 : Building = valued b (b.tag.value ++ here) in
+    subst (λ (w : List ℕ). Leads f b (here ++ more) f (valued b w)) (append_assoc b.tag.value here more)
+    (leads_then f f f b b1 (valued b ((b.tag.value ++ here) ++ more)) here more (character-led q ms m i b c p.0) (value-run cs q ms m i b1 p.1))
 
 pub value-state : (st : State) (q : Quote) → (if is_between_characters st then value_quote st.stage else None) ≡ Some q → st ≡ value_at q
 value-state st q e = by (is_between_characters st) refl e
@@ -129,8 +150,12 @@ value-state st q e = by (is_between_characters st) refl e
     by true h e = between-state st h ∙ ap (λ (s : Stage). at s pending.Nothing false) (value-stage st.stage q e)
     by false h e = absurd (let bad : None ≡ Some q = e in cc)
 
-pub value_led : (f : Frame) (q : Quote) (b c : Building) (xs : List ℕ) → open_quote f ≡ Some q → are_plain (is_plain_value q) xs ≡ true → c ≡ record b { tag = record b.tag { value = b.tag.value ++ xs } } → Leads f b xs f c
-value_led (open_at st (valuing ms m i)) q b c xs h plain made =
-    subst (λ (y : Building). Leads (open_at st (valuing ms m i)) b xs (open_at st (valuing ms m i)) y) (sym made)
-    (subst (λ (s : State). Leads (open_at s (valuing ms m i)) b xs (open_at s (valuing ms m i)) (valued b (b.tag.value ++ xs))) (sym (value-state st q h)) (value-run xs q ms m i b plain))
-value_led f q b c xs h plain made = absurd (let bad : None ≡ Some q = h in cc)
+pub value_led : (f : Frame) (q : Quote) (b c : Building) (xs : List ℕ)
+    → open_quote f ≡ Some q → Spells (is_value_character q) xs → c ≡ record b { tag = record b.tag { value = b.tag.value ++ xs } } → Leads f b xs f c
+value_led (open_at st (valuing ms m i)) q b c xs h spelt made =
+    let f : State → Frame = λ s. open_at s (valuing ms m i) in
+    let here : Frame = f (value_at q) in
+    subst (λ (y : Building). Leads (f st) b xs (f st) y) (sym made)
+    (subst (λ (s : State). Leads (f s) b xs (f s) (valued b (b.tag.value ++ xs))) (sym (value-state st q h))
+    (subst (λ (w : List ℕ). Leads here b w here (valued b (b.tag.value ++ w))) spelt.bytes (value-run spelt.text q ms m i b spelt.plain)))
+value_led f q b c xs h spelt made = absurd (let bad : None ≡ Some q = h in cc)

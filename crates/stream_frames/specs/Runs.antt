@@ -1,6 +1,6 @@
 -- Runs: bytes that end nothing and have no fault, so that they can be read at once.
 use Rattle.std.specs.Prelude.{◌≡◌, ◌<◌, ◌≤◌, ℕ, ◌+◌, ◌^◌, List, [], ◌∷◌, ◌++◌, length, Bool, true, false, not, ◌==◌}
-use Rattle.std.specs.Prelude.{◌&&◌, ◌||◌, nat_lt, nat_le, Option, Some, None, if◌then◌else◌}
+use Rattle.std.specs.Prelude.{◌&&◌, ◌||◌, nat_lt, nat_le, Option, Some, None, if◌then◌else◌, encode_utf8_all}
 use Rattle.stream_grammar.specs.declared.item.Limits.{Limits}
 use Rattle.stream_grammar.specs.machine.Building.{Building, Opened}
 use Rattle.stream_grammar.specs.machine.Framing.{Frame, open_at}
@@ -8,6 +8,7 @@ use Rattle.stream_grammar.specs.machine.Nesting.{inside, in_value, naming, namin
 use Rattle.stream_grammar.specs.machine.Texts.{HasTexts}
 use Rattle.stream_grammar.specs.machine.Reading.{Reading, reads, reading_after, taken_reading, is_done}
 use Rattle.stream_grammar.specs.grammar.Bounds.{told_number}
+use Rattle.stream_lex.specs.grammar.Classes.{has_between, characters}
 use Rattle.stream_lex.specs.machine.Characters.{is_nothing}
 use Rattle.stream_lex.specs.declared.stages.Context.TheVariants.{Words, Value}
 use Rattle.stream_lex.specs.declared.stages.NameOwner.TheVariants.{StartTag, EndTag, Attribute}
@@ -23,10 +24,10 @@ use Rattle.stream_lex.specs.declared.stages.State.{State}
 abbrev pub is_plain_word : ℕ → Bool
 is_plain_word b = (nat_le 32 b && nat_lt b 128) && (not (b == 38) && (not (b == 60) && not (b == 93)))
 
--- XML 1.0, 2.3 and 3.3.3: a character of a value in these quotes below 128 that is no markup and no white space
+-- XML 1.0, 2.3 and 3.3.3: a character of a value in these quotes below 128 that is no markup, and no white space but a space
 abbrev pub is_plain_value : Quote → ℕ → Bool
-is_plain_value Double b = (nat_lt 32 b && nat_lt b 128) && (not (b == 38) && (not (b == 60) && not (b == 34)))
-is_plain_value Single b = (nat_lt 32 b && nat_lt b 128) && (not (b == 38) && (not (b == 60) && not (b == 39)))
+is_plain_value Double b = (nat_le 32 b && nat_lt b 128) && (not (b == 38) && (not (b == 60) && not (b == 34)))
+is_plain_value Single b = (nat_le 32 b && nat_lt b 128) && (not (b == 38) && (not (b == 60) && not (b == 39)))
 
 -- Namespaces in XML 1.0, 3: a further character of a name below 128, but for the colon
 abbrev pub is_name_byte : ℕ → Bool
@@ -35,6 +36,23 @@ is_name_byte b = ((nat_le 97 b && nat_le b 122) || (nat_le 65 b && nat_le b 90))
 abbrev pub are_plain : (ℕ → Bool) → List ℕ → Bool
 are_plain ok [] = true
 are_plain ok (b ∷ bs) = ok b && are_plain ok bs
+
+-- XML 1.0 [2]: a character from 128 on that words and values may have
+abbrev pub is_wide : ℕ → Bool
+is_wide c = has_between characters c c
+
+-- a plain character of words, and one of a value in these quotes
+abbrev pub is_word_character : ℕ → Bool
+is_word_character c = is_plain_word c || is_wide c
+
+abbrev pub is_value_character : Quote → ℕ → Bool
+is_value_character q c = is_plain_value q c || is_wide c
+
+-- bytes are whole characters of a kind in UTF-8 (RFC 3629, 3)
+pub record Spells (ok : ℕ → Bool) (xs : List ℕ) : Type 0 where
+  pub text : List ℕ
+  pub plain : are_plain ok text ≡ true
+  pub bytes : encode_utf8_all text ≡ xs
 
 -- Where a run may stand.
 

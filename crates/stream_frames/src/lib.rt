@@ -18,6 +18,7 @@ mod tags;
 mod tracker;
 mod tracker_markup;
 mod tracker_runs;
+mod wide;
 mod work;
 
 pub use framer::{Framer, LIMITS, Short};

@@ -1,6 +1,12 @@
-use Rattle.std.proofs.Common.{◌≡◌, take, true}
-use Rattle.stream_frames.specs.Runs.{are_plain, is_plain_value}
+use Rattle.std.proofs.Common.{◌≤◌, ◌-◌, take, length}
+use Rattle.stream_frames.specs.Runs.{Spells, is_value_character}
 use Rattle.stream_frames.proofs.plain.plain_value.Given as goal
 
-abbrev pub invariant-loop-i : goal.invariant-loop-i
-invariant-loop-i l = are_plain (is_plain_value l.quote) (take l.i l.bytes) ≡ true
+abbrev pub invariant-loop-at : goal.invariant-loop-at
+invariant-loop-at l = record {
+  within : l.at ≤ length l.bytes;
+  plain : Spells (is_value_character l.quote) (take l.at l.bytes);
+}
+
+abbrev pub decreases-loop-at : goal.decreases-loop-at
+decreases-loop-at l = length l.bytes - l.at
