@@ -1,14 +1,12 @@
 -- Plain bytes and characters: put together, and as texts.
-use Rattle.std.proofs.Common.{◌≡◌, ℕ, suc, ◌+◌, ◌-◌, ◌<◌, inl, inr, List, [], ◌∷◌, ◌++◌, length, take, drop, append_assoc, refl, sym, ap, ◌∙◌, subst}
+use Rattle.std.proofs.Common.{◌≡◌, ℕ, ◌+◌, ◌-◌, ◌<◌, inl, inr, List, [], ◌∷◌, ◌++◌, length, take, drop, append_assoc, refl, sym, ap, ◌∙◌, subst}
 use Rattle.std.proofs.Common.{arith, Bool, true, ◌&&◌, ◌||◌, nat_lt, nat_le, encode_utf8, encode_utf8_all}
 use Rattle.std.specs.Char.{IsScalar}
-use Rattle.std.specs.Str.{IsUtf8, is_utf8, all_scalars}
-use Rattle.std.proofs.lemmas.Str.{is_utf8-from_IsUtf8}
+use Rattle.std.specs.Str.{IsUtf8, all_scalars}
 use Rattle.std.proofs.lemmas.Bool.{and_parts, and_from, or_cases, or_left, or_right, ltb-true}
 use Rattle.std.proofs.lemmas.List.{take_rest}
 use Rattle.std.proofs.Math.Seq.{take-add}
 use lib.Utf8.{low_scalar}
-use Rattle.stanza_tree.proofs.Utf8Lemmas.{ascii-utf8}
 use Rattle.stream_lex.specs.declared.characters.Allowed.TheVariants as allowed
 use Rattle.stream_lex.specs.declared.stages.Quote.{Quote}
 use Rattle.stream_lex.specs.declared.stages.Quote.TheVariants.{Double, Single}

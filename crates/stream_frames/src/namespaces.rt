@@ -115,7 +115,9 @@ fn may_be_declared(prefix: &[u8], space: &[u8]) -> bool
     } else if prefix == b"xml".as_slice() {
         space == XML_SPACE.as_bytes()
     } else {
-        space != XML_SPACE.as_bytes() && space != XMLNS_SPACE.as_bytes() && may_be_undone(prefix, space)
+        space != XML_SPACE.as_bytes()
+            && space != XMLNS_SPACE.as_bytes()
+            && may_be_undone(prefix, space)
     }
 }
 

@@ -363,7 +363,7 @@ wide-led s p r c (Begun q low high) b (begun, spelt) g =
     (λ e. let v = (wide-goes s p r c low high 0 e).0 in (
       begun,
       subst (λ (y : Sort). AreGathered y q (build_all b (byte_told (voice s) p c)).tag) (sym (begun-sort s q r c (bytes_of p) spelt))
-      (wide-step p (sort_of (at s p r)) (byte_told (voice s) p c) (sort (through s)) q c b v.0 v.1 v.2 ([], IsUtf8-nil, sym spelt) g),
+          (wide-step p (sort_of (at s p r)) (byte_told (voice s) p c) (sort (through s)) q c b v.0 v.1 v.2 ([], IsUtf8-nil, sym spelt) g),
     ))
     (λ e. tt)
 wide-led s p r c (Whole n) b spelt g =
@@ -371,7 +371,7 @@ wide-led s p r c (Whole n) b spelt g =
     (λ e. let v = (wide-goes s p r c n n n e).1 in (
       refl,
       wide-step p (sort_of (at s p r)) (byte_told (voice s) p c ++ end_told (voice s) n) (sort (through s)) pending.Nothing c b v.0 v.1 v.2
-      (encode_utf8 n, IsUtf8-encode n (class-scalar (allowed_at s) n e), sym spelt ∙ sym (append-nil (encode_utf8 n))) g,
+          (encode_utf8 n, IsUtf8-encode n (class-scalar (allowed_at s) n e), sym spelt ∙ sym (append-nil (encode_utf8 n))) g,
     ))
     (λ e. tt)
 wide-led s p r c Broken b spelt g = tt
