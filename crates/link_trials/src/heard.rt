@@ -13,7 +13,8 @@ use stream_grammar::Item;
 const HEADER: &[u8] =
     b"<stream:stream xmlns='jabber:client' xmlns:stream='http://etherx.jabber.org/streams' to='example.org' version='1.0'>";
 
-fn feed(framer: &mut Framer, bytes: &[u8]) -> Result<Option<Item>, Fail>
+/// The item that ends with the bytes.
+pub(crate) fn feed(framer: &mut Framer, bytes: &[u8]) -> Result<Option<Item>, Fail>
     requires { is_ready framer.old.reading ≡ true }
     ensures { IfOk result (λ i. is_ready framer.new.reading ≡ true) }
 {

@@ -13,7 +13,6 @@ mod namespaces;
 mod places;
 mod plain;
 mod runs;
-mod scan;
 mod tags;
 mod tracker;
 mod tracker_markup;
@@ -22,8 +21,4 @@ mod wide;
 mod work;
 
 pub use framer::{Framer, LIMITS, Short};
-pub use namespaces::own_bindings;
-pub use scan::syntax_fault;
-pub use stream_grammar::{Binding, FrameFault, Item, Limits, NameFault, Rules, Written};
-pub use tags::{Resolved, TagFault, element, resolve};
-pub use tracker::Tracker;
+pub use stream_grammar::{FrameFault, Item, Limits};

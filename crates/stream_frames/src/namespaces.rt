@@ -265,7 +265,10 @@ pub(crate) fn share_declared(alloc: Global, attributes: &mut Vec<Written>) -> Re
 }
 
 /// The bindings that a tag with these attributes declares, in their order.
-pub fn own_bindings(alloc: Global, attributes: &[Written]) -> Result<Several<Binding>, NoMemory>
+pub(crate) fn own_bindings(
+    alloc: Global,
+    attributes: &[Written],
+) -> Result<Several<Binding>, NoMemory>
     ensures { IfOk result (λ s. s ≡ own attributes.now) }
 {
     let mut bindings = Vec::new(alloc);

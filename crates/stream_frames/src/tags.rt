@@ -17,7 +17,7 @@ use stream_grammar::{Binding, NameFault, Written};
 
 /// Why a tag did not become an element.
 #[derive(Clone, Copy, Debug, PartialEq, Eq)]
-pub enum TagFault {
+pub(crate) enum TagFault {
     /// There was no memory.
     NoMemory,
     /// Its names are refused.
@@ -78,10 +78,10 @@ fn attribute_spaces(alloc: Global, names: &[Expanded<'_>]) -> Result<Vec<Text>, 
 /// What a tag needs to become an element, besides its names and values: the namespaces that these names are in, and room for
 /// its attributes.
 #[derive(Drop)]
-pub struct Resolved {
-    pub space: Text,
-    pub spaces: Vec<Text>,
-    pub room: Vec<Attr>,
+pub(crate) struct Resolved {
+    pub(crate) space: Text,
+    pub(crate) spaces: Vec<Text>,
+    pub(crate) room: Vec<Attr>,
 }
 
 /// What a tag with this name and these attributes needs to become an element, or why it can't. The bindings are those of each
@@ -89,7 +89,7 @@ pub struct Resolved {
 /// attributes times the bindings; and with the attributes times the bytes of their names and namespaces, since each two names
 /// are compared.
 #[tactic(auto, using(crate::proofs::ExpandedLemmas::fault_by_names, crate::proofs::ExpandedLemmas::spaces_by_names, crate::proofs::FillLemmas::attrs_filled))]
-pub fn resolve(
+pub(crate) fn resolve(
     alloc: Global,
     layers: &[Several<Binding>],
     name: &[u8],
@@ -175,7 +175,7 @@ fn full_attrs(
 
 /// The element that a tag begins, without children. Its names and values become the element's: takes no memory, and costs the
 /// bytes of its names.
-pub fn element(
+pub(crate) fn element(
     alloc: Global,
     resolved: Resolved,
     name: Vec<u8>,

@@ -3,10 +3,10 @@
 ghost use Rattle.std.specs.Prelude.{◌≡◌, ℕ, ◌<◌, ◌^◌, [], true, false, None, Some, IfOk, IfErr, OnOk, OnErr};
 ghost use Rattle.stream_lex.specs.declared.stages.State.{State};
 ghost use Rattle.stream_lex.specs.machine.Leading.{tokens_of, IsTurned};
-ghost use Rattle.stream_grammar.specs.machine.Framing.{open_at, ended, first_frame, frame_next, is_broken, has_ended, lexical_fault, fault_at};
+ghost use Rattle.stream_grammar.specs.machine.Framing.{open_at, ended, first_frame, frame_next, is_broken, lexical_fault, fault_at};
 ghost use Rattle.stream_lex.specs.machine.Live.{is_live};
 ghost use Rattle.stream_lex.specs.machine.Turns.{turn};
-ghost use Rattle.stream_grammar.specs.machine.Ends.{is_between_tops, told_at};
+ghost use Rattle.stream_grammar.specs.machine.Ends.{told_at};
 ghost use Rattle.stream_frames.specs.Stacks.{raw};
 ghost use Rattle.stream_frames.specs.Moves.{tokens_move, breaks};
 ghost use Rattle.stream_grammar.specs.grammar.Trees.{RawName, is_space};
@@ -231,7 +231,7 @@ fn read(rules: Rules, place: Place, open: &Names, turned: &Turned) -> Result<Mov
 /// A reader of the syntax of one stream, byte by byte: of its names, how its tags nest, and what stands between top elements.
 /// It keeps the names of the elements that are open.
 #[derive(Drop)]
-pub struct Tracker {
+pub(crate) struct Tracker {
     pub(crate) alloc: Global,
     pub(crate) rules: Rules,
     pub(crate) state: State,
@@ -255,7 +255,7 @@ impl Model for Tracker {
 
 impl Tracker {
     /// A tracker that has read nothing. Takes no memory.
-    pub fn new(alloc: Global, rules: Rules) -> Tracker
+    pub(crate) fn new(alloc: Global, rules: Rules) -> Tracker
         requires deep { rules.depth < 2 ^ 63 }
         requires wide { rules.attributes < 2 ^ 63 }
         ensures { result ≡ record { rules = rules; frame = first_frame } }
@@ -333,17 +333,6 @@ impl Tracker {
         }
     }
 
-    /// Reads a byte. Answers its fault where it is the first with which no stream goes on. After a fault every byte is taken and
-    /// nothing answered. Where there was no memory the tracker is as before.
-    pub fn step(&mut self, byte: u8) -> Result<Option<FrameFault>, NoMemory>
-        ensures frame { OnOk result (self.new ≡ record self.old { frame = frame_next self.old.rules self.old.frame byte }) }
-        ensures fault { IfOk result (λ f. f ≡ fault_told self.old.rules self.old.frame byte) }
-        ensures err { OnErr result (self.new ≡ self.old) }
-    {
-        let turned = self.lex(byte);
-        self.step_lexed(byte, &turned)
-    }
-
     /// Whether a header or a top element is open, as far as its start tag has come beyond its `<`.
     pub(crate) fn is_in_item(&self) -> bool
         ensures { result ≡ in_item self.now.frame }
@@ -352,19 +341,5 @@ impl Tracker {
             Standing::Open(place) => is_place_in_item(place, &self.open),
             Standing::Ended | Standing::Broken => false,
         }
-    }
-
-    /// Whether nothing but the stream is open, and no tag has begun.
-    pub fn is_between_tops(&self) -> bool
-        ensures { result ≡ is_between_tops self.now.frame }
-    {
-        matches!(self.standing, Standing::Open(Place::Inside)) && self.open.is_one()
-    }
-
-    /// Whether the bytes so far are a whole stream, with its end tag.
-    pub fn is_ended(&self) -> bool
-        ensures { result ≡ has_ended self.now.frame }
-    {
-        matches!(self.standing, Standing::Ended)
     }
 }

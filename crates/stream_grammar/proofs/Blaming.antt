@@ -174,9 +174,6 @@ open-none st n b g e q = ap (λ (o : Outcome). is_broken (settled q n o)) e
 
 -- After the end a carriage return makes no difference to a fault.
 
-abbrev blamed : Rules → Frame → ℕ → Outcome → FrameFault
-blamed r f b o = byte_fault r f b o
-
 wide-blamed : (r : Rules) (f : Frame) (b : ℕ) (x : Reach) → byte_fault r f b (turn_wide (at (stage.Text Words) pending.Nothing true) b x) ≡ byte_fault r f b (turn_wide (at (stage.Text Words) pending.Nothing false) b x)
 unfolding turn_wide
 wide-blamed r f b (Begun q low high) = both-ways (has_between (class_of (allowed_at (stage.Text Words))) low high)

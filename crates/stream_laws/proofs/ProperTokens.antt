@@ -16,7 +16,7 @@ use Rattle.stream_lex.specs.declared.stages.Base.{Base}
 use Rattle.stream_lex.specs.grammar.Classes.{CharacterClass, has_between, is_xml, name_starts, name_characters, characters}
 use Rattle.stream_lex.specs.grammar.Kinds.{kind, ascii_kind, wide_kind, is_kind, is_wide, is_name_start, is_name_further}
 use Rattle.stream_lex.specs.grammar.Kinds.{is_wide_name_start, is_wide_name_further, is_allowed}
-use Rattle.stream_lex.specs.grammar.Expressions.{Sign, says, refuses, all_said, Expression, empty, silent_symbol}
+use Rattle.stream_lex.specs.grammar.Expressions.{Sign, says, refuses, all_said, Expression, silent_symbol}
 use Rattle.stream_lex.specs.grammar.Expressions.{symbol, digits, concat, union, star, Times, IsText}
 use Rattle.stream_lex.specs.grammar.Grammar.{first_name_token, next_name_token, spread, a, optional, tells, told, refused, optional_space, word}
 use Rattle.stream_lex.specs.grammar.Grammar.{first_character, later_first, further_character, local, colon, qualified_name}
@@ -62,10 +62,6 @@ checks-append n m k (refuses f ∷ us) vs a b = tt
 -- The texts of an expression, which begin and end at no name or at a whole one.
 abbrev pub Pass : Expression → Type 0
 Pass p = (n : List ℕ) → EndsName n → (cs : List ℕ) (ms : List Sign) → IsText p cs ms → (m : List ℕ) × EndsName m × Checks n ms m
-
-pub pass-empty : Pass empty
-unfolding IsText
-pass-empty = λ n e cs ms (f, g). (n, e, subst (λ (l : List Sign). Checks n l n) (sym g) refl)
 
 pub pass-silent : (P : Kind → ℕ → Bool) → Pass (silent_symbol P)
 unfolding IsText
@@ -213,12 +209,6 @@ starts-within = refl
 character-xml : (c : ℕ) → has_between characters c c ≡ true → is_xml c ≡ true
 unfolding characters
 character-xml c h = grind (arith, nat_tests, h)
-
-pub start-xml : (c : ℕ) → has_between name_starts c c ≡ true → is_xml c ≡ true
-start-xml c h = character-xml c (class-has name_starts characters c starts-within h)
-
-pub further-xml : (c : ℕ) → has_between name_characters c c ≡ true → is_xml c ≡ true
-further-xml c h = character-xml c (class-has name_characters characters c names-within h)
 
 wide-allowed : (c : ℕ) → is_allowed (wide_kind c) ≡ true → is_xml c ≡ true
 unfolding wide_kind

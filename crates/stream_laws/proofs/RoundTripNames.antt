@@ -21,7 +21,6 @@ use Rattle.stream_lex.specs.machine.Turns.{settled}
 use Rattle.stream_lex.specs.machine.Live.{is_live}
 use Rattle.stream_lex.proofs.Lists.{false-true}
 use Rattle.stream_lex.proofs.Spans.{encode1}
-use Rattle.stream_grammar.specs.grammar.Trees.{RawName}
 use Rattle.stream_grammar.specs.grammar.Proper.{starts_name, continues_name, IsNcName}
 use Rattle.stream_laws.proofs.RoundTripRuns.{Runs, runs-none, runs-then, runs-one, runs-told, between, ascii-turn, wide-runs, high-first}
 
@@ -178,10 +177,6 @@ first-runs s r f h c b e = elim (cases_lt c 128) [
   | inr l ↦ runs-told (ap (λ v. voiced v c) b.told) (subst (λ (t : Stage). Runs (between s) (encode_utf8 c) (between t) (voiced (voice s) c)) b.to
       (wide-runs s c b.live l (subst (λ a. has_between (class_of a) c c ≡ true) (sym b.wide) (wide-start c l e))))
 ]
-
--- the bytes of a name, which are told one by one
-abbrev pub name_bytes : RawName → List ℕ
-name_bytes n = n.0 ∷ n.1
 
 pub spread-more : (f g : ℕ → Token) (xs ys : List ℕ) (b : ℕ) (zs : List ℕ) → xs ≡ b ∷ zs → spread f g xs ++ map g ys ≡ spread f g (xs ++ ys)
 spread-more f g [] ys b zs e = absurd (let bad : [] ≡ b ∷ zs = e in cc)

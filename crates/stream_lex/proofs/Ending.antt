@@ -337,9 +337,6 @@ number-text p base v ds clean are x = (ds ++ 59 ∷ [], text_token p (value base
 xml-low : (n : ℕ) → 32 ≤ n → n < 55296 → is_xml n ≡ true
 xml-low n h k = grind (arith, nat_tests)
 
-xml-middle : (n : ℕ) → 57344 ≤ n → n < 65534 → is_xml n ≡ true
-xml-middle n h k = grind (arith, nat_tests)
-
 xml-high : (n : ℕ) → 65536 ≤ n → n < 0x110000 → is_xml n ≡ true
 xml-high n h k = grind (arith, nat_tests)
 

@@ -11,5 +11,4 @@ pub mod ByteSteps
 pub mod Standing
 pub mod Telling
 pub mod Ended
-pub mod Scanning
 pub mod WordsLaw

@@ -5,7 +5,7 @@ use Rattle.std.specs.declared.option.Option.TheVariants.{None, Some}
 use Rattle.stream_lex.specs.declared.Token.{Token}
 use Rattle.stream_lex.specs.declared.LexFault.{LexFault}
 use Rattle.stream_lex.specs.declared.stages.State.{State}
-use Rattle.stream_lex.specs.grammar.Expressions.{Sign, says, all_said}
+use Rattle.stream_lex.specs.grammar.Expressions.{Sign, all_said}
 use Rattle.stream_lex.specs.grammar.Reading.{AreTold, IsTold}
 use Rattle.stream_lex.specs.machine.Leading.{Leads, Stands}
 use Rattle.stream_lex.proofs.Lists.{says-head, says-tail}

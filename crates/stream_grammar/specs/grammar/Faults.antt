@@ -1,5 +1,5 @@
 -- Where bytes begin no stream, and what kind of fault that is (RFC 6120, 4.9.3 and 11.1).
-use Rattle.std.specs.Prelude.{ℕ, ◌+◌, ◌≤◌, ◌<◌, List, take, length, true}
+use Rattle.std.specs.Prelude.{ℕ, ◌+◌, ◌<◌, List, true}
 use Rattle.stream_lex.specs.declared.LexFault.TheVariants as lexical
 use Rattle.stream_lex.specs.grammar.Reading.{BeginsReading, IsKind}
 use Rattle.stream_grammar.specs.declared.FrameFault.{FrameFault}
@@ -41,10 +41,3 @@ Row r f bytes = ⊥
 
 abbrev pub IsSyntaxKind : Rules → FrameFault → List ℕ → Type 0
 IsSyntaxKind r f bytes = Row r f bytes × ((g : FrameFault) → rank g < rank f → Row r g bytes → ⊥)
-
--- k is the least number such that the first k bytes begin no stream, and f its kind
-pub record IsSyntaxFault (r : Rules) (bytes : List ℕ) (k : ℕ) (f : FrameFault) : Type 0 where
-  pub within : k ≤ length bytes
-  pub void : Begins r (take k bytes) → ⊥
-  pub least : (j : ℕ) → j < k → Begins r (take j bytes)
-  pub kind : IsSyntaxKind r f (take k bytes)
