@@ -11,6 +11,8 @@ mod exchanges;
 #[cfg(test)]
 mod keyed_hashes;
 #[cfg(test)]
+mod login_texts;
+#[cfg(test)]
 mod queues;
 #[cfg(test)]
 mod resumptions;
