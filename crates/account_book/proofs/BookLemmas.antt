@@ -7,7 +7,9 @@ use Rattle.std.proofs.lemmas.Slice.Eq.{bytes_eq-Decides}
 use Rattle.std.proofs.lemmas.List.{map-append, length-map, length-append}
 use Rattle.std.proofs.lemmas.List.Folds.{list_all-append}
 use Rattle.std.specs.List.{list_any, list_all, position, position_or_len, slice_get}
+use Rattle.jid_core.specs.Names.{are_distinct}
 use Rattle.jid_core.specs.Preparation.{is_local}
+use Rattle.jid_core.proofs.NameLemmas.{distinct-more}
 use Rattle.account_book.specs.declared.account.Account.{Account}
 use Rattle.account_book.specs.Entries.{entry_of}
 use Rattle.account_book.specs.Lines.{has_name}
@@ -92,6 +94,15 @@ pub all-local : (accounts : List Account) (a : Account) → list_all is_local (n
 all-local accounts a h is =
     ap (list_all is_local) (map-append (λ x. x.name) accounts (a ∷ [])) ∙ list_all-append is_local (names_of accounts) (a.name ∷ [])
     ∙ ap (λ b. b && (is_local a.name && true)) h ∙ ap (λ b. b && true) is
+
+name-among : (name : List ℕ) (accounts : List Account) → list_any (bytes_eq name) (names_of accounts) ≡ has_name (map entry_of accounts) name
+name-among name [] = refl
+name-among name (a ∷ more) = ap (λ b. bytes_eq name a.name || b) (name-among name more)
+
+pub all-differ : (accounts : List Account) (a : Account) → are_distinct (names_of accounts) ≡ true → has_name (map entry_of accounts) a.name ≡ false → are_distinct (names_of (accounts ++ a ∷ [])) ≡ true
+all-differ accounts a h fresh =
+    ap are_distinct (map-append (λ x. x.name) accounts (a ∷ []))
+    ∙ distinct-more a.name (names_of accounts) h (name-among a.name accounts ∙ fresh)
 
 pub one-more : (accounts : List Account) (a : Account) (new : List Account) → new ≡ accounts ++ a ∷ [] → length accounts < 4096 → length new ≤ 4096
 one-more accounts a new is few = let l = ap length is ∙ length-append accounts (a ∷ []) in omega (arith, l, few)

@@ -5,6 +5,7 @@ ghost use Rattle.std.specs.List.{list_all};
 ghost use Rattle.std.specs.Option.{option_copied};
 ghost use Rattle.sha2.specs.Sha256.{sha256};
 ghost use Rattle.hmac_kdf.specs.Hmac.{hmac};
+ghost use Rattle.jid_core.specs.Names.{are_distinct};
 ghost use Rattle.jid_core.specs.Preparation.{is_local};
 ghost use Rattle.account_book.specs.Entries.{entry_of};
 ghost use Rattle.account_book.specs.Lines.{line_after, has_name, Reads};
@@ -35,6 +36,7 @@ pub struct Accounts {
 impl Model for Accounts {
     ghost use Rattle.std.specs.Prelude.{◌≡◌, ◌≤◌, map, length, IsTrue};
     ghost use Rattle.std.specs.List.{list_all};
+    ghost use Rattle.jid_core.specs.Names.{are_distinct};
     ghost use Rattle.jid_core.specs.Preparation.{is_local};
     ghost use Rattle.account_book.specs.Lists.{Book, names_of};
 
@@ -43,7 +45,8 @@ impl Model for Accounts {
     ghost view = { λ b. record { accounts = b.accounts.items; secret = b.secret } };
 
     ghost invariant = { λ b. (map (λ k. k.items) b.names.keys ≡ names_of b.accounts.items)
-        × IsTrue (list_all is_local (names_of b.accounts.items)) × (length b.accounts.items ≤ 4096) };
+        × IsTrue (list_all is_local (names_of b.accounts.items)) × IsTrue (are_distinct (names_of b.accounts.items))
+        × (length b.accounts.items ≤ 4096) };
 }
 
 impl Accounts {
@@ -70,6 +73,7 @@ impl Accounts {
     pub fn names(&self) -> &[Account]
         ensures accounts { result.now ≡ self.now.accounts }
         ensures prepared { IsTrue (list_all is_local (names_of result.now)) }
+        ensures differ { IsTrue (are_distinct (names_of result.now)) }
         ensures few { length result.now ≤ 4096 }
     {
         self.accounts.as_slice()

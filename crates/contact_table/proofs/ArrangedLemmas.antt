@@ -11,7 +11,8 @@ use Rattle.std.specs.List.Sorted.{IsNonDecreasingBy, IsStableByKey}
 use Rattle.jid_core.specs.Addresses.{same_part}
 use Rattle.stanza_model.specs.declared.here.Here.{Here}
 use Rattle.contact_table.specs.Arranged.{arranged, those_of}
-use Rattle.contact_table.specs.Orders.{are_distinct, place_of, with_place, with_places}
+use Rattle.jid_core.specs.Names.{are_distinct}
+use Rattle.contact_table.specs.Orders.{place_of, with_place, with_places}
 use Rattle.contact_table.proofs.ByteLemmas.{bytes_equal}
 use Rattle.contact_table.proofs.OrderLemmas.{neither, not_true}
 

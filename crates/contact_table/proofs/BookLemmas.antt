@@ -13,7 +13,8 @@ use Rattle.contact_table.specs.Marks.{seen_in, sees_in, set_listed, sheet_of, ta
 use Rattle.contact_table.specs.Orders.{with_user}
 use Rattle.contact_table.specs.declared.flag.Flag.{Flag}
 use Rattle.contact_table.specs.declared.flag.Flag.TheVariants.{Sees, Seen, Asked}
-use Rattle.contact_table.proofs.ByteLemmas.{bytes_equal, bytes_flip}
+use Rattle.jid_core.proofs.NameLemmas.{bytes_flip}
+use Rattle.contact_table.proofs.ByteLemmas.{bytes_equal}
 use Rattle.contact_table.proofs.ListedLemmas.{alike, and_flip, any_listed, listed, listed_snoc, removed}
 use Rattle.contact_table.proofs.PairLemmas.{firsts_with, has_with, pair, same_pair, seconds_with}
 

@@ -8,7 +8,8 @@ use Rattle.contact_table.specs.Marks.{Sheet, empty_sheet}
 use Rattle.contact_table.specs.Tables.{BookRecord, room_of, spare}
 use Rattle.contact_table.specs.Folders.{Edits, Entries, IsNamed, IsOwn, Keeps, Name, folder_at, names_in, places, places_in, room_in, rooms, sheet, sheet_in}
 use Rattle.contact_table.specs.declared.folder.Folder.{Folder}
-use Rattle.contact_table.proofs.ByteLemmas.{bytes_equal, bytes_flip, bytes_same}
+use Rattle.jid_core.proofs.NameLemmas.{bytes_flip}
+use Rattle.contact_table.proofs.ByteLemmas.{bytes_equal, bytes_same}
 
 at_set : (user u : List ℕ) (es : Entries) (f new : Folder) → folder_at user es ≡ Some f
     → folder_at u (set_value (λ k. bytes_eq user k.items) es new) ≡ cond (bytes_eq user u) (Some new) (folder_at u es)

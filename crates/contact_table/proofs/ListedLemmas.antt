@@ -3,7 +3,8 @@ use Rattle.std.proofs.Common.{◌≡◌, ℕ, List, [], ◌∷◌, ◌++◌, map
 use Rattle.std.proofs.lemmas.List.Elements.{filter-append}
 use Rattle.std.proofs.lemmas.List.{map-append}
 use Rattle.std.specs.List.{list_any}
-use Rattle.contact_table.proofs.ByteLemmas.{bytes_equal, bytes_flip}
+use Rattle.jid_core.proofs.NameLemmas.{bytes_flip}
+use Rattle.contact_table.proofs.ByteLemmas.{bytes_equal}
 
 pub and_flip : (a b : Bool) → (a && b) ≡ (b && a)
 and_flip true true = refl

@@ -6,8 +6,10 @@ use Rattle.std.proofs.lemmas.List.{map-append, length-map}
 use Rattle.std.proofs.lemmas.List.Folds.{list_any-append}
 use Rattle.std.specs.List.{list_any, position, position_or_len}
 use Rattle.std.specs.Set.{remove_key}
-use Rattle.contact_table.specs.Orders.{are_distinct, with_user}
-use Rattle.contact_table.proofs.ByteLemmas.{bytes_equal, bytes_flip}
+use Rattle.jid_core.specs.Names.{are_distinct}
+use Rattle.jid_core.proofs.NameLemmas.{bytes_flip, distinct-more}
+use Rattle.contact_table.specs.Orders.{with_user}
+use Rattle.contact_table.proofs.ByteLemmas.{bytes_equal}
 
 pub not_true : (b : Bool) → not b ≡ true → b ≡ false
 not_true true is = cc
@@ -61,18 +63,6 @@ pub user_added : {K : Type 0} (f : K → List ℕ) (k : K) (ks new : List K)
 user_added f k ks new made =
     ap (map f) made ∙ added f k ks (list_any (λ x. bytes_eq (f k) (f x)) ks)
     ∙ ap (λ b. cond b (map f ks) (map f ks ++ f k ∷ [])) (any_of_keys f (bytes_eq (f k)) ks)
-
-distinct_snoc : (u : List ℕ) (us : List (List ℕ)) → are_distinct us ≡ true → list_any (bytes_eq u) us ≡ false
-    → are_distinct (us ++ u ∷ []) ≡ true
-distinct_snoc u [] distinct fresh = refl
-distinct_snoc u (v ∷ us) distinct fresh =
-    let parts = and_parts (not (list_any (bytes_eq v) us)) (are_distinct us) distinct in
-    let other = neither (bytes_eq u v) (list_any (bytes_eq u) us) fresh in
-    let apart : (list_any (bytes_eq v) us || (bytes_eq v u || false)) ≡ false =
-    nor (list_any (bytes_eq v) us) (bytes_eq v u || false) (not_true (list_any (bytes_eq v) us) parts.0)
-    (nor (bytes_eq v u) false (bytes_flip v u ∙ other.0) refl) in
-    both_true (not (list_any (bytes_eq v) (us ++ u ∷ []))) (are_distinct (us ++ u ∷ []))
-    (ap not (list_any-append (bytes_eq v) us (u ∷ []) ∙ apart)) (distinct_snoc u us parts.1 other.1)
 
 -- one less
 
@@ -138,4 +128,4 @@ distinct_with u true us distinct = by (list_any (bytes_eq u) us) refl
   where
     by : (b : Bool) → list_any (bytes_eq u) us ≡ b → are_distinct (cond b us (us ++ u ∷ [])) ≡ true
     by true there = distinct
-    by false there = distinct_snoc u us distinct there
+    by false there = distinct-more u us distinct there

@@ -6,7 +6,8 @@ use Rattle.std.specs.List.{list_any}
 use Rattle.contact_table.specs.Books.{Pair, firsts_of, has_pair, is_pair, seconds_of, with_pair}
 use Rattle.contact_table.specs.Folders.{has_user}
 use Rattle.contact_table.specs.Orders.{with_user}
-use Rattle.contact_table.proofs.ByteLemmas.{bytes_equal, bytes_flip, bytes_same}
+use Rattle.jid_core.proofs.NameLemmas.{bytes_flip}
+use Rattle.contact_table.proofs.ByteLemmas.{bytes_equal, bytes_same}
 use Rattle.contact_table.proofs.ListedLemmas.{and_flip, any_listed, listed, listed_snoc, removed}
 use Rattle.contact_table.proofs.OrderLemmas.{any_flip}
 

@@ -1,16 +1,11 @@
 -- A list of users that is found by hash.
-use Rattle.std.specs.Prelude.{ℕ, List, [], ◌∷◌, ◌++◌, Bool, true, false, not, ◌&&◌, Option, Some, None, bytes_eq, if◌then◌else◌}
+use Rattle.std.specs.Prelude.{ℕ, List, [], ◌∷◌, ◌++◌, Bool, true, false, not, Option, Some, None, bytes_eq, if◌then◌else◌}
 use Rattle.std.specs.List.{filter, list_any, position}
 use Rattle.stanza_model.specs.declared.here.Here.{Here}
 
 pub record OrderRecord : Type 0 where
   pub users : List (List ℕ)
   pub spare : ℕ  -- for how many more there is memory
-
--- no two are the same
-abbrev pub are_distinct : List (List ℕ) → Bool
-are_distinct [] = true
-are_distinct (u ∷ us) = not (list_any (bytes_eq u) us) && are_distinct us
 
 -- a user that is to be there and isn't comes last; one that isn't to be there goes
 abbrev pub with_user : List ℕ → Bool → List (List ℕ) → List (List ℕ)

@@ -20,7 +20,8 @@ pub struct Order {
 impl Model for Order {
     ghost use Rattle.std.specs.Prelude.{map, IsTrue};
     ghost use Rattle.indexmap.specs.IndexSet.{spare};
-    ghost use Rattle.contact_table.specs.Orders.{OrderRecord, are_distinct};
+    ghost use Rattle.jid_core.specs.Names.{are_distinct};
+    ghost use Rattle.contact_table.specs.Orders.{OrderRecord};
 
     ghost Value = { OrderRecord };
 

@@ -1,4 +1,5 @@
 pub mod Addresses
 pub mod AsciiParts
 pub mod Cuts
+pub mod Names
 pub mod Preparation

@@ -10,9 +10,10 @@ use Rattle.std.proofs.lemmas.Option.{cond_some}
 use Rattle.std.proofs.lemmas.Slice.Eq.{bytes_eq-Decides}
 use Rattle.std.specs.Prelude.{Result, Ok, Err}
 use Rattle.jid_core.specs.Cuts.{before, after}
+use Rattle.jid_core.specs.Names.{are_distinct}
 use Rattle.jid_core.specs.Preparation.{is_local, local_of}
 use Rattle.jid_core.specs.declared.fault.JidFault.{JidFault}
-use Rattle.replay_script.specs.Lines.{same, user_of, new_user, is_user, all_differ, are_users, users_of}
+use Rattle.replay_script.specs.Lines.{same, user_of, new_user, is_user, are_users, users_of}
 
 abbrev is_comma : ℕ → Bool
 is_comma b = b == 44
@@ -74,15 +75,15 @@ halves false b h = (refl, h)
 pub users_more : (us : List (List ℕ)) (u : List ℕ) → list_all is_user us ≡ true → is_user u ≡ true → list_all is_user (us ++ u ∷ []) ≡ true
 users_more us u all one = list_all-append is_user us (u ∷ []) ∙ both (list_all is_user us) (is_user u && true) all (both (is_user u) true one refl)
 
-pub differ_more : (us : List (List ℕ)) (u : List ℕ) → all_differ us ≡ true → list_any (λ x. bytes_eq x u) us ≡ false → all_differ (us ++ u ∷ []) ≡ true
+pub differ_more : (us : List (List ℕ)) (u : List ℕ) → are_distinct us ≡ true → list_any (λ x. bytes_eq x u) us ≡ false → are_distinct (us ++ u ∷ []) ≡ true
 differ_more [] u differ new = refl
 differ_more (x ∷ more) u differ new =
-    let old = parts-of (not (list_any (λ y. bytes_eq x y) more)) (all_differ more) differ in
+    let old = parts-of (not (list_any (λ y. bytes_eq x y) more)) (are_distinct more) differ in
     let apart = halves (bytes_eq x u) (list_any (λ y. bytes_eq y u) more) new in
     let none : list_any (λ y. bytes_eq x y) (more ++ u ∷ []) ≡ false =
     list_any-append (λ y. bytes_eq x y) more (u ∷ [])
     ∙ or-false (list_any (λ y. bytes_eq x y) more) (bytes_eq x u || false) (not-true (list_any (λ y. bytes_eq x y) more) old.0) (or-false (bytes_eq x u) false apart.0 refl) in
-    both (not (list_any (λ y. bytes_eq x y) (more ++ u ∷ []))) (all_differ (more ++ u ∷ [])) (ap not none) (differ_more more u old.1 apart.1)
+    both (not (list_any (λ y. bytes_eq x y) (more ++ u ∷ []))) (are_distinct (more ++ u ∷ [])) (ap not none) (differ_more more u old.1 apart.1)
 
 or-one : (a b : Bool) → a ≡ true → (a || b) ≡ true
 or-one true b p = refl
@@ -101,13 +102,13 @@ and-last true b p = p
 and-last false b p = refl
 
 -- a user that is there already
-differ_again : (us : List (List ℕ)) (u : List ℕ) (ys : List (List ℕ)) → list_any (λ x. bytes_eq x u) us ≡ true → all_differ (us ++ u ∷ ys) ≡ false
+differ_again : (us : List (List ℕ)) (u : List ℕ) (ys : List (List ℕ)) → list_any (λ x. bytes_eq x u) us ≡ true → are_distinct (us ++ u ∷ ys) ≡ false
 differ_again [] u ys old = absurd (cc)
 differ_again (x ∷ more) u ys old = elim (cases_Bool (bytes_eq x u)) [
-  | inl e ↦ not-false (list_any (λ y. bytes_eq x y) (more ++ u ∷ ys)) (all_differ (more ++ u ∷ ys))
+  | inl e ↦ not-false (list_any (λ y. bytes_eq x y) (more ++ u ∷ ys)) (are_distinct (more ++ u ∷ ys))
       (list_any-append (λ y. bytes_eq x y) more (u ∷ ys)
       ∙ or-other (list_any (λ y. bytes_eq x y) more) (bytes_eq x u || list_any (λ y. bytes_eq x y) ys) (or-one (bytes_eq x u) (list_any (λ y. bytes_eq x y) ys) e))
-  | inr e ↦ and-last (not (list_any (λ y. bytes_eq x y) (more ++ u ∷ ys))) (all_differ (more ++ u ∷ ys))
+  | inr e ↦ and-last (not (list_any (λ y. bytes_eq x y) (more ++ u ∷ ys))) (are_distinct (more ++ u ∷ ys))
       (differ_again more u ys (or-rest (bytes_eq x u) (list_any (λ y. bytes_eq y u) more) e old))
 ]
   where
@@ -132,7 +133,7 @@ users_bad field rest us is none =
     list_all-append is_user us (before 44 rest ∷ first.0)
     ∙ and-last (list_all is_user us) (is_user (before 44 rest) && list_all is_user first.0) (first-none (is_user (before 44 rest)) (list_all is_user first.0) (ap is_some none)) in
     refused field (us ++ before 44 rest ∷ first.0) (whole field rest us first.0 is first.1)
-    (middle (nat_le (length (us ++ before 44 rest ∷ first.0)) 4096) (list_all is_user (us ++ before 44 rest ∷ first.0)) (all_differ (us ++ before 44 rest ∷ first.0)) fails)
+    (middle (nat_le (length (us ++ before 44 rest ∷ first.0)) 4096) (list_all is_user (us ++ before 44 rest ∷ first.0)) (are_distinct (us ++ before 44 rest ∷ first.0)) fails)
   where
     first-none : (a b : Bool) → a ≡ false → (a && b) ≡ false
     first-none true b p = absurd (cc)
@@ -149,7 +150,7 @@ pub users_twice : (field rest : List ℕ) (us : List (List ℕ)) → us ++ slice
 users_twice field rest us is old =
     let first = split-first rest (after 44 rest) refl in
     refused field (us ++ before 44 rest ∷ first.0) (whole field rest us first.0 is first.1)
-    (and-last (nat_le (length (us ++ before 44 rest ∷ first.0)) 4096 && list_all is_user (us ++ before 44 rest ∷ first.0)) (all_differ (us ++ before 44 rest ∷ first.0))
+    (and-last (nat_le (length (us ++ before 44 rest ∷ first.0)) 4096 && list_all is_user (us ++ before 44 rest ∷ first.0)) (are_distinct (us ++ before 44 rest ∷ first.0))
     (differ_again us (before 44 rest) first.0 old))
 
 longer : (us : List (List ℕ)) (x : List ℕ) (ys : List (List ℕ)) → length us ≡ 4096 → 4096 < length (us ++ x ∷ ys)
@@ -160,7 +161,7 @@ pub users_many : (field rest : List ℕ) (us : List (List ℕ)) → us ++ slice_
 users_many field rest us is count =
     let first = split-first rest (after 44 rest) refl in
     refused field (us ++ before 44 rest ∷ first.0) (whole field rest us first.0 is first.1)
-    (front-false (nat_le (length (us ++ before 44 rest ∷ first.0)) 4096) (list_all is_user (us ++ before 44 rest ∷ first.0)) (all_differ (us ++ before 44 rest ∷ first.0))
+    (front-false (nat_le (length (us ++ before 44 rest ∷ first.0)) 4096) (list_all is_user (us ++ before 44 rest ∷ first.0)) (are_distinct (us ++ before 44 rest ∷ first.0))
     (lt-leb (length (us ++ before 44 rest ∷ first.0)) 4096 (longer us (before 44 rest) first.0 count)))
   where
     front-false : (a b c : Bool) → a ≡ false → (a && b && c) ≡ false
@@ -168,10 +169,10 @@ users_many field rest us is count =
     front-false false b c p = refl
 
 -- all of them
-pub users_good : (field : List ℕ) (us : List (List ℕ)) → us ≡ slice_split is_comma field → length us ≤ 4096 → list_all is_user us ≡ true → all_differ us ≡ true → users_of field ≡ Some us
+pub users_good : (field : List ℕ) (us : List (List ℕ)) → us ≡ slice_split is_comma field → length us ≤ 4096 → list_all is_user us ≡ true → are_distinct us ≡ true → users_of field ≡ Some us
 users_good field us is few all differ =
     cond-true (are_users (slice_split is_comma field)) (Some (slice_split is_comma field)) None
-    (ap are_users (sym is) ∙ both (nat_le (length us) 4096 && list_all is_user us) (all_differ us) (both (nat_le (length us) 4096) (list_all is_user us) (le-leb (length us) 4096 few) all) differ)
+    (ap are_users (sym is) ∙ both (nat_le (length us) 4096 && list_all is_user us) (are_distinct us) (both (nat_le (length us) 4096) (list_all is_user us) (le-leb (length us) 4096 few) all) differ)
     ∙ ap Some (sym is)
 
 -- a user is written as it is prepared
@@ -203,12 +204,12 @@ last_parts field rest us u is one cut =
 pub step_users : (us : List (List ℕ)) (u text : List ℕ) → list_all is_user us ≡ true → user_of text ≡ Some u → list_all is_user (us ++ u ∷ []) ≡ true
 step_users us u text all one = users_more us u all (ap is_user (user-is text u one) ∙ ap is_some one)
 
-pub step_differ : (us : List (List ℕ)) (u text : List ℕ) → all_differ us ≡ true → user_of text ≡ Some u → list_any (λ x. bytes_eq x text) us ≡ false → all_differ (us ++ u ∷ []) ≡ true
+pub step_differ : (us : List (List ℕ)) (u text : List ℕ) → are_distinct us ≡ true → user_of text ≡ Some u → list_any (λ x. bytes_eq x text) us ≡ false → are_distinct (us ++ u ∷ []) ≡ true
 step_differ us u text differ one new = differ_more us u differ (ap (λ t. list_any (λ x. bytes_eq x t) us) (user-is text u one) ∙ new)
 
 -- the last user
 pub users_all : (field rest : List ℕ) (us : List (List ℕ)) (u : List ℕ) → us ++ slice_split is_comma rest ≡ slice_split is_comma field → length us < 4096
-    → list_all is_user us ≡ true → all_differ us ≡ true → user_of (before 44 rest) ≡ Some u → list_any (λ x. bytes_eq x (before 44 rest)) us ≡ false → after 44 rest ≡ None
+    → list_all is_user us ≡ true → are_distinct us ≡ true → user_of (before 44 rest) ≡ Some u → list_any (λ x. bytes_eq x (before 44 rest)) us ≡ false → after 44 rest ≡ None
     → users_of field ≡ Some (us ++ u ∷ [])
 users_all field rest us u is few all differ one new cut =
     users_good field (us ++ u ∷ []) (last_parts field rest us u is one cut) (omega (arith, few, length-append us (u ∷ []))) (step_users us u (before 44 rest) all one)
@@ -231,14 +232,19 @@ users_refused field rest us is none = elim (cases_Bool (list_any (λ x. bytes_eq
 
 -- one user more, and the last
 pub users_step : (field rest more : List ℕ) (us : List (List ℕ)) (u : List ℕ) → us ++ slice_split is_comma rest ≡ slice_split is_comma field
-    → list_all is_user us ≡ true → all_differ us ≡ true → new_user us (before 44 rest) ≡ Some u → after 44 rest ≡ Some more
-    → ((us ++ u ∷ []) ++ slice_split is_comma more ≡ slice_split is_comma field) × (list_all is_user (us ++ u ∷ []) ≡ true) × (all_differ (us ++ u ∷ []) ≡ true)
+    → list_all is_user us ≡ true → are_distinct us ≡ true → new_user us (before 44 rest) ≡ Some u → after 44 rest ≡ Some more
+    → ((us ++ u ∷ []) ++ slice_split is_comma more ≡ slice_split is_comma field) × (list_all is_user (us ++ u ∷ []) ≡ true) × (are_distinct (us ++ u ∷ []) ≡ true)
 users_step field rest more us u is all differ one cut =
     let new = new-user (list_any (λ x. bytes_eq x (before 44 rest)) us) us (before 44 rest) u one in
     (step_parts field rest more us u is new.1 cut, step_users us u (before 44 rest) all new.1, step_differ us u (before 44 rest) differ new.1 new.0)
 
+pub end_differ : (us : List (List ℕ)) (text u : List ℕ) → are_distinct us ≡ true → new_user us text ≡ Some u → are_distinct (us ++ u ∷ []) ≡ true
+end_differ us text u differ one =
+    let new = new-user (list_any (λ x. bytes_eq x text) us) us text u one in
+    step_differ us u text differ new.1 new.0
+
 pub users_end : (field rest : List ℕ) (us : List (List ℕ)) (u : List ℕ) → us ++ slice_split is_comma rest ≡ slice_split is_comma field → length us < 4096
-    → list_all is_user us ≡ true → all_differ us ≡ true → new_user us (before 44 rest) ≡ Some u → after 44 rest ≡ None → users_of field ≡ Some (us ++ u ∷ [])
+    → list_all is_user us ≡ true → are_distinct us ≡ true → new_user us (before 44 rest) ≡ Some u → after 44 rest ≡ None → users_of field ≡ Some (us ++ u ∷ [])
 users_end field rest us u is few all differ one cut =
     let new = new-user (list_any (λ x. bytes_eq x (before 44 rest)) us) us (before 44 rest) u one in
     users_all field rest us u is few all differ new.1 new.0 cut

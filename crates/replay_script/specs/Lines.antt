@@ -1,7 +1,8 @@
 -- What each line of a script is. Its fields are separated by one space.
-use Rattle.std.specs.Prelude.{◌≡◌, ◌≤◌, ⊤, ℕ, ◌==◌, nat_lt, nat_le, Bool, true, false, not, ◌&&◌, List, [], ◌∷◌, length}
+use Rattle.std.specs.Prelude.{◌≡◌, ◌≤◌, ⊤, ℕ, ◌==◌, nat_lt, nat_le, Bool, true, false, not, ◌&&◌, List, length}
 use Rattle.std.specs.Prelude.{codes, bytes_eq, Option, Some, None, Result, Ok, Err, is_some, if◌then◌else◌}
 use Rattle.std.specs.List.{slice_split, list_all, list_any}
+use Rattle.jid_core.specs.Names.{are_distinct}
 use Rattle.jid_core.specs.Addresses.{Address, address_of}
 use Rattle.jid_core.specs.Preparation.{is_local, local_of, resource_of}
 use Rattle.jid_core.specs.declared.fault.JidFault.{JidFault}
@@ -128,11 +129,6 @@ read_whole text (Err fault) = None
 abbrev pub domain_of : List ℕ → Option Address
 domain_of text = if nat_le (length text) 1017 then read_whole text (address_of text) else None
 
--- no two are the same
-abbrev pub all_differ : List (List ℕ) → Bool
-all_differ [] = true
-all_differ (x ∷ more) = not (list_any (λ y. bytes_eq x y) more) && all_differ more
-
 abbrev pub is_user : List ℕ → Bool
 is_user text = is_some (user_of text)
 
@@ -142,7 +138,7 @@ new_user users text = if list_any (λ u. bytes_eq u text) users then None else u
 
 -- USER,USER: 1 to 4,096 different ones
 abbrev pub are_users : List (List ℕ) → Bool
-are_users users = nat_le (length users) 4096 && list_all is_user users && all_differ users
+are_users users = nat_le (length users) 4096 && list_all is_user users && are_distinct users
 
 abbrev pub users_of : List ℕ → Option (List (List ℕ))
 users_of text = if are_users (slice_split (λ b. b == 44) text) then Some (slice_split (λ b. b == 44) text) else None
@@ -190,7 +186,7 @@ step_of line = cut line step_by
 
 -- what House::new and the events of a step ask of them holds
 abbrev pub StepFits : Step → Type 0
-StepFits (step.Begin domain users workers) = (list_all is_local users ≡ true) × (length users ≤ 4096)
+StepFits (step.Begin domain users workers) = (list_all is_local users ≡ true) × (are_distinct users ≡ true) × (length users ≤ 4096)
 StepFits (step.Event e) = Meets e
 StepFits (step.Feed w bytes) = ⊤
 StepFits (step.Fresh w) = ⊤

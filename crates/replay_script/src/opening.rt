@@ -1,6 +1,7 @@
 //! The first line of a script, `house DOMAIN USER,USER WORKERS`.
 ghost use Rattle.std.specs.Prelude.{◌≡◌, ◌≤◌, length, bytes_eq, IfOk, IsTrue};
 ghost use Rattle.std.specs.List.{list_any, list_all};
+ghost use Rattle.jid_core.specs.Names.{are_distinct};
 ghost use Rattle.jid_core.specs.Preparation.{is_local};
 ghost use Rattle.replay_script.specs.Lines.{StepFits, domain_of, new_user, users_of, workers_of, house_of};
 ghost use Rattle.replay_script.specs.Readings.{Gives};
@@ -84,6 +85,7 @@ fn read_new_user(alloc: Global, users: &[Part], bytes: &[u8]) -> Result<Part, Li
 fn read_users(alloc: Global, field: &[u8]) -> Result<Several<Part>, LineFault>
     ensures read { Gives (users_of field.now) result }
     ensures prepared { IfOk result (λ users. IsTrue (list_all is_local users)) }
+    ensures differ { IfOk result (λ users. IsTrue (are_distinct users)) }
     ensures few { IfOk result (λ users. length users ≤ 4096) }
 {
     let mut users = Vec::new(alloc);

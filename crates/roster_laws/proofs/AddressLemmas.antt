@@ -2,7 +2,8 @@
 use Rattle.std.proofs.Common.{◌≡◌, ℕ, List, true, ◌&&◌, bytes_eq, Option, Some, None, refl, ap, ◌∙◌}
 use Rattle.std.proofs.lemmas.Bool.{and_from}
 use Rattle.jid_core.specs.Addresses.{Address, same_address, same_bare, same_part}
-use Rattle.contact_table.proofs.ByteLemmas.{bytes_flip, bytes_same}
+use Rattle.jid_core.proofs.NameLemmas.{bytes_flip}
+use Rattle.contact_table.proofs.ByteLemmas.{bytes_same}
 
 part_flip : (p q : Option (List ℕ)) → same_part p q ≡ same_part q p
 part_flip None None = refl

@@ -13,7 +13,8 @@ use Rattle.stanza_model.specs.declared.shared.Contact.{Contact}
 use Rattle.stanza_model.specs.declared.shared.Side.{Side}
 use Rattle.stanza_model.specs.declared.stanza.Stanza.{Stanza}
 use Rattle.contact_table.specs.Books.{Book, Pair, bare_of, has_pair, pair_of, with_pair}
-use Rattle.contact_table.proofs.ByteLemmas.{bytes_flip, bytes_same}
+use Rattle.jid_core.proofs.NameLemmas.{bytes_flip}
+use Rattle.contact_table.proofs.ByteLemmas.{bytes_same}
 use Rattle.contact_table.proofs.PairLemmas.{has_with, pair, same_pair}
 use Rattle.roster_book.specs.Items.{address_in, contact_in, is_other, is_removal, only_item, other_than, query_in, wanted_by, wanted_in}
 use Rattle.roster_book.specs.Refusals.{refusal}

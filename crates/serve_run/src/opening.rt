@@ -4,6 +4,7 @@ ghost use Rattle.std.specs.Prelude.{◌≡◌, ◌⊎◌, ◌≤◌, [], IfErr, 
 ghost use Rattle.std.specs.List.{list_all};
 ghost use Rattle.account_book.specs.Entries.{entry_of};
 ghost use Rattle.account_book.specs.Lists.{entries_of, names_of};
+ghost use Rattle.jid_core.specs.Names.{are_distinct};
 ghost use Rattle.jid_core.specs.Preparation.{is_local};
 ghost use Rattle.house_core.specs.Houses.{held};
 ghost use Rattle.house_model.specs.Histories.{StandsFor};
@@ -35,6 +36,7 @@ pub(crate) fn accounts_of(alloc: Global, list: &[u8], secret: [u8; 32]) -> Resul
 fn users_of(alloc: Global, accounts: &Accounts) -> Result<Vec<Part>, NoMemory>
     ensures names { IfOk result (λ users. users.items ≡ names_of accounts.now.accounts) }
     ensures prepared { list_all is_local (names_of accounts.now.accounts) ≡ true }
+    ensures differ { are_distinct (names_of accounts.now.accounts) ≡ true }
     ensures few { length accounts.now.accounts ≤ 4096 }
 {
     let mut users = Vec::new(alloc);

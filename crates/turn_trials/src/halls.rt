@@ -38,6 +38,9 @@ fn hall_of(alloc: Global, lines: u32) -> Result<(Hall, Vec<Pass>), Fail>
 {
     let domain = Jid::read(alloc, b"example.org")?;
     let users = [Part::local(alloc, b"alice")?, Part::local(alloc, b"bob")?];
+    if users[0].bytes() == users[1].bytes() {
+        return Err(Fail::new("two users"));
+    }
     let house = House::new(alloc, &domain, &users, lines)?;
     Ok(Hall::start(alloc, house, lines)?)
 }

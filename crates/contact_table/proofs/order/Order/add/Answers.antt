@@ -1,5 +1,6 @@
 use Rattle.std.proofs.Common.{true, ap, map, ◌∙◌}
-use Rattle.contact_table.specs.Orders.{are_distinct, with_user}
+use Rattle.jid_core.specs.Names.{are_distinct}
+use Rattle.contact_table.specs.Orders.{with_user}
 use Rattle.contact_table.proofs.OrderLemmas.{distinct_with, user_added}
 use Rattle.contact_table.proofs.order.Order.add.Goals as goal
 

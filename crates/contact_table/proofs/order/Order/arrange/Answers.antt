@@ -1,7 +1,7 @@
 use Rattle.std.proofs.Common.{◌≡◌, true, rules, subst, map}
 use Rattle.std.proofs.lemmas.List.Sorted.{answers_always, IsNonDecreasingBy-from_sort_by_key}
 use Rattle.contact_table.specs.Arranged.{arranged}
-use Rattle.contact_table.specs.Orders.{are_distinct}
+use Rattle.jid_core.specs.Names.{are_distinct}
 use Rattle.contact_table.proofs.ArrangedLemmas.{arranged_is, ok_carried}
 use Rattle.contact_table.proofs.order.Order.arrange.Goals as goal
 

@@ -1,6 +1,7 @@
 use Rattle.std.proofs.Common.{ℕ, List, false, bytes_eq, map, ap, ◌∙◌}
 use Rattle.std.specs.Set.{remove_key}
-use Rattle.contact_table.specs.Orders.{are_distinct, with_user}
+use Rattle.jid_core.specs.Names.{are_distinct}
+use Rattle.contact_table.specs.Orders.{with_user}
 use Rattle.contact_table.proofs.OrderLemmas.{distinct_with, user_removed}
 use Rattle.contact_table.proofs.order.Order.take_out.Goals as goal
 
