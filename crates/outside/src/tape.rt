@@ -36,7 +36,8 @@ impl Model for Tape {
       bytes = t.most - vec_len t.bytes;
     } };
 
-    ghost invariant = { λ t. (tapes.sizes t.kinds.items ≡ vec_len t.bytes) × (vec_len t.bytes ≤ t.most) × (t.most ≤ vec_capacity t.bytes) × (vec_len t.kinds ≤ vec_capacity t.kinds) };
+    ghost invariant = { λ t. (tapes.sizes t.kinds.items ≡ vec_len t.bytes) × (vec_len t.bytes ≤ t.most) × (t.most ≤ vec_capacity t.bytes)
+        × (vec_len t.kinds ≤ vec_capacity t.kinds) };
 }
 
 impl Tape {

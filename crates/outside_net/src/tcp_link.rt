@@ -81,7 +81,8 @@ impl<R: Clock + Drop> Link for TcpLink<R> {
     ghost ends = { λ l. l.ends };
 
     /// Where there is nothing to read, waits at most 20 milliseconds for it, and answers `Quiet` then, or at once where its
-    /// line was rung since it last waited. Links for which nothing comes stop waiting at the same moments. `End` where the peer closed its side, `Failed` at any error. Takes no memory.
+    /// line was rung since it last waited. Links for which nothing comes stop waiting at the same moments. `End` where the peer
+    /// closed its side, `Failed` at any error. Takes no memory.
     fn recv(&mut self, into: &mut [u8]) -> Heard
         requires { 0 < length into.old }
         ensures fits { HeardFits result into.new }

@@ -8,7 +8,8 @@ use Rattle.stanza_router.specs.declared.places.Place.TheVariants.{Account, Serve
 abbrev pub service_domain : List ℕ → List ℕ
 service_domain domain = codes "rooms." ++ domain
 
--- RFC 6120, 10.5: at the server's domain a local part is a user's, and with a resource it is one session's. A domain alone is the server, whatever the resource.
+-- RFC 6120, 10.5: at the server's domain a local part is a user's, and with a resource it is one session's. A domain alone is the server,
+-- whatever the resource.
 abbrev pub at_server : List ℕ → Option (List ℕ) → Option (List ℕ) → Place
 at_server user None resource = Server
 at_server user (Some local) None = if bytes_eq local user then Account else User local

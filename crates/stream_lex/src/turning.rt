@@ -13,10 +13,10 @@ ghost use Rattle.stream_lex.specs.machine.Live.{is_live, is_live_stage};
 ghost use Rattle.stream_lex.specs.machine.Leading.{tokens_of, IsTurned};
 
 use crate::characters::{Allowed, Pending, Reach, is_encoded, may_come, reach_of};
+use crate::literals::fault_of_word;
+use crate::names::{first_name_token_of, next_name_token_of};
 use crate::stages::{Brackets, Context, Half, NameOwner, Stage, State};
-use crate::steps::{
-    Move, fault_of_word, first_name_token_of, move_ascii, next_name_token_of, text_token_of,
-};
+use crate::steps::{Move, move_ascii, text_token_of};
 use crate::{LexFault, Lexed, Token};
 
 impl Lexed {

@@ -68,7 +68,12 @@ headed layers b = record b { tag = nothing_gathered; layers = layers; item = Som
 -- another start tag
 abbrev pub begun : List (List Binding) → Building → Building
 begun layers b =
-    record b { tag = nothing_gathered; layers = layers; opened = record { name = name_on layers b.tag.name; attrs = attrs_on layers b.tag.attributes; children = [] } ∷ settled_words b.words b.opened; words = [] }
+    record b {
+      tag = nothing_gathered;
+      layers = layers;
+      opened = record { name = name_on layers b.tag.name; attrs = attrs_on layers b.tag.attributes; children = [] } ∷ settled_words b.words b.opened;
+      words = [];
+    }
 
 -- an element came to its end, and these are open round it
 abbrev pub ended_in : Element → List ℕ → List Opened → Building → Building
