@@ -24,21 +24,21 @@ use Rattle.house_model.specs.Gate.{Verdict}
 use Rattle.house_model.specs.Histories.{passed}
 use Rattle.house_model.specs.declared.event.Event.TheVariants as event
 use Rattle.house_model.specs.declared.reply.Reply.{Reply}
-use Rattle.house_core.specs.declared.world.World as code
+use Rattle.house_world.specs.declared.world.World as code
 use Rattle.house_core.specs.declared.gate.Pass as pass
 use Rattle.house_core.specs.Gates.{Passes}
 use Rattle.house_core.specs.Bindings.{begun_in, replaced_by, replaced_in}
 use Rattle.house_core.specs.Houses.{held}
-use Rattle.house_core.specs.Wholes.{IsTied, IsFew}
-use Rattle.house_core.specs.Worlds.{Did, Ends, KeepsLogged, seen}
+use Rattle.house_world.specs.Wholes.{IsTied, IsFew}
+use Rattle.house_world.specs.Worlds.{Did, Ends, KeepsLogged, seen}
 use Rattle.house_core.proofs.CallLemmas.{house}
-use Rattle.house_core.proofs.DidLemmas.{did_none, did_then}
+use Rattle.house_world.proofs.DidLemmas.{did_none, did_then}
 use Rattle.house_core.proofs.EndsLemmas.{ends_by}
-use Rattle.house_core.proofs.ActLemmas.{some_kept}
-use Rattle.house_core.proofs.AtLemmas.{at_is}
-use Rattle.house_core.proofs.ReadLemmas.{read_there}
-use Rattle.house_core.proofs.WorldLemmas.{few_later}
-use Rattle.house_core.proofs.BookLemmas.{book_same}
+use Rattle.house_world.proofs.ActLemmas.{some_kept}
+use Rattle.house_world.proofs.AtLemmas.{at_is}
+use Rattle.house_world.proofs.ReadLemmas.{read_there}
+use Rattle.house_world.proofs.WorldLemmas.{few_later}
+use Rattle.house_world.proofs.BookLemmas.{book_same}
 
 -- its answers fit a pull
 pub bound_fits : (id jid : List ℕ) → length id ≤ 65536 → length jid ≤ 3071 → length (answer_text (answer.Bound id jid)) ≤ 524288

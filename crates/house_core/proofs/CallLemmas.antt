@@ -14,12 +14,12 @@ use Rattle.house_model.specs.Steps.{last_moment, later, moment_of, turn, verdict
 use Rattle.house_model.specs.Histories.{kept_step}
 use Rattle.roster_laws.specs.Keeping.{AreKept}
 use Rattle.house_model.proofs.BookKept.{IsQuiet, event_keeps}
-use Rattle.house_core.specs.declared.world.World as code
+use Rattle.house_world.specs.declared.world.World as code
 use Rattle.house_core.specs.Houses.{HouseRecord, held}
 use Rattle.house_core.specs.Wholes.{IsWhole}
-use Rattle.house_core.specs.Worlds.{Did, Ends, left_at, seen}
+use Rattle.house_world.specs.Worlds.{Did, Ends, left_at, seen}
 use Rattle.house_model.specs.declared.reply.Reply.{Reply}
-use Rattle.house_core.proofs.WorldLemmas.{few_later}
+use Rattle.house_world.proofs.WorldLemmas.{few_later}
 
 abbrev pub house : Address → List (List ℕ) → (turns moment : ℕ) → code.World → HouseRecord
 house domain users turns moment a = record { domain = domain; users = users; turns = turns; moment = moment; table = a.table; answers = a.answers.items; book = a.book }
@@ -39,6 +39,7 @@ whole_by : {domain : List ℕ} (users : List (List ℕ)) (turns moment moment' :
     → AreKept domain b.book.book → IsWhole domain users (turns + 1) moment' b.table b.answers.items b.book
 whole_by users turns moment moment' a b es more whole passed few did rosters = record {
   prepared = whole.prepared;
+  differ = whole.differ;
   few = whole.few;
   passed = passed;
   answered = did.answered ∙ (whole.answered ∙ sym did.lines);

@@ -29,11 +29,11 @@ use Rattle.house_model.specs.Traffic.{KeptTraffic, kept_handled, kept_resume}
 use Rattle.house_model.specs.Effects.{At, Close, Say}
 use Rattle.house_model.specs.Gate.{Verdict, does}
 use Rattle.house_model.specs.Steps.{has_id, resumes_by, takes}
-use Rattle.house_core.specs.declared.world.World as code
-use Rattle.house_core.specs.Houses.{hold_by, session_by, traffic_of}
+use Rattle.house_world.specs.declared.world.World as code
+use Rattle.house_world.specs.Views.{hold_by, session_by, traffic_of}
 use Rattle.house_core.specs.Resumes.{IsNarrow, facts_by, facts_with, is_known_to, users_address, verdict_by}
-use Rattle.house_core.specs.Wholes.{IsTied}
-use Rattle.house_core.specs.Worlds.{Counts, Handles, seen}
+use Rattle.house_world.specs.Wholes.{IsTied}
+use Rattle.house_world.specs.Worlds.{Counts, Handles, seen}
 
 abbrev decide_by : (digits yours ended : Bool) → Decision → Decision
 decide_by digits yours ended d = if not digits then Unknown else if not yours then NotYours else if ended then decided.Ended else d

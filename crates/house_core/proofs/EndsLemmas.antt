@@ -13,10 +13,10 @@ use Rattle.house_model.specs.Gate as model
 use Rattle.house_model.specs.Gate.{Verdict}
 use Rattle.house_model.specs.Steps.{asks, enables, id_if, body}
 use Rattle.house_core.specs.declared.gate.Pass.TheVariants.{Stop}
-use Rattle.house_core.specs.declared.world.World as code
+use Rattle.house_world.specs.declared.world.World as code
 use Rattle.house_core.specs.Gates.{Passes}
-use Rattle.house_core.specs.Wholes.{IsSession, IsTied}
-use Rattle.house_core.specs.Worlds.{seen, Did, Ends}
+use Rattle.house_world.specs.Wholes.{IsSession, IsTied}
+use Rattle.house_world.specs.Worlds.{seen, Did, Ends}
 
 -- what the gate answers itself
 pub stop_ends : (k : Kept) (e : Event) (p : model.Pass) (r : Reply) (a b : code.World) → Passes (Stop r) p a b → Ends (body k e p) 0 r a b

@@ -1,7 +1,7 @@
 -- What the gate answers, as the code finds it.
 use Rattle.std.proofs.lemmas.Bool.{leb-false}
 use Rattle.std.proofs.lemmas.Option.{same_Some}
-use Rattle.house_core.specs.Wholes.{IsTied}
+use Rattle.house_world.specs.Wholes.{IsTied}
 use Rattle.std.proofs.Common.{◌≡◌, ◌⊎◌, inl, inr, ℕ, ◌&&◌, nat_le, List, [], ◌∷◌, ◌++◌, Bool, true, false}
 use Rattle.std.proofs.Common.{length, get_or, Some, None, refl, sym, ap, subst, ◌∙◌}
 use Rattle.sm_resume.specs.declared.decision.Cause.TheVariants.{Flood}
@@ -17,9 +17,9 @@ use Rattle.house_model.specs.Gate.{Verdict, does, left, flooded, ready, gate_at,
 use Rattle.house_core.specs.declared.gate.Needs.{Needs}
 use Rattle.house_core.specs.declared.gate.Pass.{Pass}
 use Rattle.house_core.specs.declared.gate.Pass.TheVariants as code_pass
-use Rattle.house_core.specs.declared.world.World as code
+use Rattle.house_world.specs.declared.world.World as code
 use Rattle.house_core.specs.Gates.{needs_of, looks, look_at, Found, HasRoom}
-use Rattle.house_core.specs.Worlds.{Did, left_at, seen}
+use Rattle.house_world.specs.Worlds.{Did, left_at, seen}
 
 pub left_is : (k : Kept) (g : stage.Line) → left k g ≡ left_at k.world k.head.moment g
 left_is k Empty = refl

@@ -17,17 +17,18 @@ use Rattle.house_model.specs.Steps.{body, logs_in, moment_of, turn, verdict}
 use Rattle.house_model.specs.Traffic.{KeptTraffic, brief}
 use Rattle.house_model.proofs.BookKept.{event_keeps}
 use Rattle.roster_laws.specs.Keeping.{AreKept}
-use Rattle.house_core.specs.Keeping.{Keeps}
+use Rattle.house_world.specs.Keeping.{Keeps}
 use Rattle.house_core.specs.declared.gate.Pass.TheVariants.{Stop}
-use Rattle.house_core.specs.declared.world.World as code
+use Rattle.house_world.specs.declared.world.World as code
 use Rattle.house_core.specs.Gates.{Passes}
 use Rattle.house_core.specs.Houses.{held}
 use Rattle.house_core.specs.Logins.{Enters}
-use Rattle.house_core.specs.Wholes.{AreUsers, IsFew, IsTied, IsWhole}
-use Rattle.house_core.specs.Worlds.{Did, seen}
+use Rattle.house_world.specs.Wholes.{AreUsers, IsFew, IsTied}
+use Rattle.house_core.specs.Wholes.{IsWhole}
+use Rattle.house_world.specs.Worlds.{Did, seen}
 use Rattle.house_core.proofs.CallLemmas.{house}
-use Rattle.house_core.proofs.WorldLemmas.{few_later}
-use Rattle.house_core.proofs.BookLemmas.{book_same}
+use Rattle.house_world.proofs.WorldLemmas.{few_later}
+use Rattle.house_world.proofs.BookLemmas.{book_same}
 
 -- effects that keep whatever users there are
 ends_enter : (v : Verdict) (many : ℕ) (r : Reply) (a b : code.World) → r ≡ v.reply → Did v.effects 0 a b → Enters v many r a b
@@ -93,6 +94,7 @@ pub whole_enters : (domain : Address) (users : List (List ℕ)) (turns moment : 
     → IsWhole domain.domain users (turns + 1) moment b.table b.answers.items b.book
 whole_enters domain users turns moment a b e r whole enters = record {
   prepared = whole.prepared;
+  differ = whole.differ;
   few = whole.few;
   passed = whole.passed;
   answered = enters.answered ∙ (whole.answered ∙ sym enters.lines);

@@ -9,13 +9,15 @@ use Rattle.house_model.specs.States.{opening, keep, empty_line}
 use Rattle.contact_table.specs.Books.{empty_book, Book}
 use Rattle.contact_table.specs.Tables.{BookRecord}
 use Rattle.std.specs.List.{list_all}
+use Rattle.jid_core.specs.Names.{are_distinct}
 use Rattle.jid_core.specs.Preparation.{is_local}
 use Rattle.session_table.specs.Sessions.{SessionRecord}
 use Rattle.roster_laws.specs.Keeping.{AreKept}
 use Rattle.roster_laws.proofs.KeepLemmas.{none_kept}
 use Rattle.house_core.specs.Wholes.{IsWhole}
-use Rattle.house_core.specs.Keeping.{AreShortNames}
-use Rattle.house_core.specs.Houses.{HouseRecord, held, lines_of}
+use Rattle.house_world.specs.Keeping.{AreShortNames}
+use Rattle.house_core.specs.Houses.{HouseRecord, held}
+use Rattle.house_world.specs.Views.{lines_of}
 
 same_all : {A : Type 0} (n i : ℕ) (v : A) → get_or (replicate n v) i v ≡ v
 same_all zero i v = refl
@@ -66,10 +68,11 @@ no_session : {P : Type 0} (x : SessionRecord) → ◌≡◌ {A = Option SessionR
 no_session x is = absurd (cc)
 
 fresh_whole : (domain : List ℕ) (users : List (List ℕ)) (workers spare : ℕ) (book : BookRecord) → list_all is_local users ≡ true
-    → length users ≤ 4096 → book.domain ≡ domain → book.book ≡ empty_book
+    → are_distinct users ≡ true → length users ≤ 4096 → book.domain ≡ domain → book.book ≡ empty_book
     → IsWhole domain users 0 0 (new_table workers spare) (replicate workers []) book
-fresh_whole domain users workers spare book prepared few served empty = record {
+fresh_whole domain users workers spare book prepared differ few served empty = record {
   prepared = prepared;
+  differ = differ;
   few = few;
   passed = omega arith;
   answered = length-replicate workers [] ∙ sym (length-replicate workers Empty);
@@ -91,9 +94,9 @@ fresh_whole domain users workers spare book prepared few served empty = record {
 }
 
 pub new_whole : (domain : List ℕ) (users : List (List ℕ)) (workers : ℕ) (t : TableRecord) (answers : List (List Answer)) (book : BookRecord)
-    → list_all is_local users ≡ true → length users ≤ 4096 → t ≡ new_table workers t.spare → answers ≡ replicate workers []
+    → list_all is_local users ≡ true → are_distinct users ≡ true → length users ≤ 4096 → t ≡ new_table workers t.spare → answers ≡ replicate workers []
     → book.domain ≡ domain → book.book ≡ empty_book → IsWhole domain users 0 0 t answers book
-new_whole domain users workers t answers book prepared few lines none served empty =
+new_whole domain users workers t answers book prepared differ few lines none served empty =
     subst (λ (u : TableRecord). IsWhole domain users 0 0 u answers book) (sym lines)
     (subst (λ (xs : List (List Answer)). IsWhole domain users 0 0 (new_table workers t.spare) xs book) (sym none)
-    (fresh_whole domain users workers t.spare book prepared few served empty))
+    (fresh_whole domain users workers t.spare book prepared differ few served empty))

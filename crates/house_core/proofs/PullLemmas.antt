@@ -26,18 +26,19 @@ use Rattle.house_model.specs.States.{Kept, World}
 use Rattle.house_model.specs.Steps.{body, due, gives_entry, nothing, pulls, pulls_from, requests}
 use Rattle.house_model.specs.Traffic.{KeptTraffic}
 use Rattle.house_core.specs.declared.gate.Pass.TheVariants.{Stop}
-use Rattle.house_core.specs.declared.world.World as code
+use Rattle.house_world.specs.declared.world.World as code
 use Rattle.house_core.specs.Gates.{Passes}
-use Rattle.house_core.specs.Houses.{session_by, world_of}
-use Rattle.house_core.specs.Pulls.{Framed, Gave, GaveAt, Gives, pass_of}
-use Rattle.house_core.specs.Wholes.{IsTied}
-use Rattle.house_core.specs.Worlds.{Did, IsHeld, seen}
-use Rattle.house_core.proofs.DidLemmas.{did_none, did_then}
-use Rattle.house_core.proofs.DueLemmas.{due_is, due_is_none, there_at}
-use Rattle.house_core.proofs.OffLemmas.{there}
-use Rattle.house_core.proofs.ReadLemmas.{world_said}
-use Rattle.house_core.proofs.WorldLemmas.{few_later}
-use Rattle.house_core.proofs.BookLemmas.{book_same}
+use Rattle.house_world.specs.Views.{session_by, world_of}
+use Rattle.house_core.specs.Pulls.{Framed, GaveAt, Gives, pass_of}
+use Rattle.house_world.specs.Oldest.{Gave}
+use Rattle.house_world.specs.Wholes.{IsTied}
+use Rattle.house_world.specs.Worlds.{Did, IsHeld, seen}
+use Rattle.house_world.proofs.DidLemmas.{did_none, did_then}
+use Rattle.house_world.proofs.DueLemmas.{due_is, due_is_none, there_at}
+use Rattle.house_world.proofs.OffLemmas.{there}
+use Rattle.house_world.proofs.ReadLemmas.{world_said}
+use Rattle.house_world.proofs.WorldLemmas.{few_later}
+use Rattle.house_world.proofs.BookLemmas.{book_same}
 
 -- effects that counted nothing counted at most one
 pub did_more : (es : List Effect) (a b : code.World) → Did es 0 a b → Did es 1 a b

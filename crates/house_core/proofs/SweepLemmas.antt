@@ -8,11 +8,11 @@ use Rattle.house_model.specs.declared.reply.Reply.TheVariants.{Nothing, Swept}
 use Rattle.house_model.specs.States.{World, Kept}
 use Rattle.house_model.specs.Steps.{departs, sweeps, verdict}
 use Rattle.house_model.specs.Traffic.{KeptTraffic}
-use Rattle.house_core.specs.declared.world.World as code
-use Rattle.house_core.specs.Wholes.{IsTied}
-use Rattle.house_core.specs.Worlds.{Did, Ends, seen}
-use Rattle.house_core.proofs.DidLemmas.{did_none}
-use Rattle.house_core.proofs.DueLemmas.{due_is, due_is_none}
+use Rattle.house_world.specs.declared.world.World as code
+use Rattle.house_world.specs.Wholes.{IsTied}
+use Rattle.house_world.specs.Worlds.{Did, Ends, seen}
+use Rattle.house_world.proofs.DidLemmas.{did_none}
+use Rattle.house_world.proofs.DueLemmas.{due_is, due_is_none}
 
 pub swept_ends : (k : Kept) (w t s : ℕ) (a b : code.World) → Rises 0 a.table.sessions a.table.made → k.world ≡ seen a
     → first_due k.head.moment a.table.sessions ≡ Some s → Did (departs (seen a) s Lost) 0 a b

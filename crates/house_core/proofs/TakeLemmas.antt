@@ -18,11 +18,11 @@ use Rattle.house_model.specs.Effects.{At, On, Say, Close}
 use Rattle.house_model.specs.Gate as model
 use Rattle.house_model.specs.Gate.{Verdict, does}
 use Rattle.house_model.specs.Steps.{body, resumes_by}
-use Rattle.house_core.specs.declared.world.World as code
+use Rattle.house_world.specs.declared.world.World as code
 use Rattle.house_core.specs.Resumes.{is_known_to, verdict_by}
-use Rattle.house_core.specs.Worlds.{Did, Ends, seen}
+use Rattle.house_world.specs.Worlds.{Did, Ends, seen}
 use Rattle.house_core.proofs.AnswerLemmas.{spelling_length}
-use Rattle.house_core.proofs.DidLemmas.{did_then}
+use Rattle.house_world.proofs.DidLemmas.{did_then}
 
 pub resumed_fits : (h : ℕ) (id : ResumeId) → h < 2 ^ 32 → id.session < 2 ^ 64 → length id.digits ≡ 16 → length (answer_text (Resumed h id)) ≤ 524288
 resumed_fits h id low small digits =

@@ -1,7 +1,7 @@
 -- What the checks before an event answer.
 use Rattle.std.specs.Prelude.{◌≡◌, ℕ, ◌<◌, Bool, true, false, [], length, Option, Some, None, slice_index_or, ⊤}
 use Rattle.session_table.specs.Tables.{line_of}
-use Rattle.house_core.specs.Wholes.{IsHeldBy}
+use Rattle.house_world.specs.Wholes.{IsHeldBy}
 use Rattle.session_table.specs.declared.line.Line as stage
 use Rattle.session_table.specs.declared.line.Line.TheVariants.{Empty, Fresh, Logged, Bound, Over}
 use Rattle.house_model.specs.declared.reply.Reply.TheVariants as reply
@@ -9,8 +9,8 @@ use Rattle.house_model.specs.Gate as model
 use Rattle.house_core.specs.declared.gate.Needs.{Needs}
 use Rattle.house_core.specs.declared.gate.Pass.{Pass}
 use Rattle.house_core.specs.declared.gate.Pass.TheVariants.{Stop, Waits, Knows, Holds}
-use Rattle.house_core.specs.declared.world.World.{World}
-use Rattle.house_core.specs.Worlds.{Did}
+use Rattle.house_world.specs.declared.world.World.{World}
+use Rattle.house_world.specs.Worlds.{Did}
 
 abbrev pub needs_of : Needs → model.Needs
 needs_of n = record { fresh = n.fresh; logged = n.logged; bound = n.bound; answers = n.answers }

@@ -1,11 +1,6 @@
 pub mod Houses
 pub mod Wholes
-pub mod Worlds
 pub mod Gates
-pub mod Keeping
-pub mod Listings
-pub mod Marks
-pub mod Readiness
 pub mod Pulls
 pub mod Logins
 pub mod Resumes

@@ -4,10 +4,10 @@ use Rattle.house_model.specs.declared.reply.Reply.{Reply}
 use Rattle.house_model.specs.Effects.{apply_all}
 use Rattle.house_model.specs.Gate.{Verdict}
 use Rattle.house_model.specs.Traffic.{brief}
-use Rattle.house_core.specs.Keeping.{Keeps}
-use Rattle.house_core.specs.declared.world.World.{World}
-use Rattle.house_core.specs.Wholes.{AreUsers, IsFew, IsTied}
-use Rattle.house_core.specs.Worlds.{seen}
+use Rattle.house_world.specs.Keeping.{Keeps}
+use Rattle.house_world.specs.declared.world.World.{World}
+use Rattle.house_world.specs.Wholes.{AreUsers, IsFew, IsTied}
+use Rattle.house_world.specs.Worlds.{seen}
 
 -- a verdict, as it was carried out in a world of so many users
 pub record Enters (v : Verdict) (many : ℕ) (reply : Reply) (old new : World) : Type 0 where

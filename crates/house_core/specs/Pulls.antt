@@ -7,15 +7,10 @@ use Rattle.house_model.specs.declared.reply.Reply.{Reply}
 use Rattle.house_model.specs.Answers.{answer_text}
 use Rattle.house_model.specs.Effects.{At, Said}
 use Rattle.house_model.specs.Gate.{Pass, Waits, Holds, Verdict}
-use Rattle.house_core.specs.declared.world.World.{World}
-use Rattle.house_core.specs.Worlds.{Did, Ends}
+use Rattle.house_world.specs.declared.world.World.{World}
+use Rattle.house_world.specs.Worlds.{Did, Ends}
 
--- the oldest answer is appended and waits no more, where one waits
-abbrev pub Gave : (old new : List Answer) → Bool → (before after : List ℕ) → Type 0
-Gave [] new given before after = (given ≡ false) × ((new ≡ []) × (after ≡ before))
-Gave (a ∷ more) new given before after = (given ≡ true) × ((new ≡ more) × (after ≡ before ++ answer_text a))
-
--- the same of the answers at a line
+-- the oldest answer of a line is appended and waits no more, where one waits
 abbrev pub GaveAt : ℕ → List Answer → (old new : World) → Bool → (before after : List ℕ) → Type 0
 GaveAt w [] old new given before after = (given ≡ false) × ((new.table ≡ old.table) × (Did [] 0 old new × (after ≡ before)))
 GaveAt w (a ∷ more) old new given before after = (given ≡ true) × (Did (At w Said ∷ []) 0 old new × (after ≡ before ++ answer_text a))

@@ -7,13 +7,13 @@ ghost use Rattle.house_model.specs.declared.event.Event.{Event};
 ghost use Rattle.house_model.specs.States.{Kept};
 ghost use Rattle.house_model.specs.Steps.{acks, last_moment, verdict};
 ghost use Rattle.house_model.specs.Traffic.{brief};
-ghost use Rattle.house_core.specs.Wholes.{IsFew, IsHeldBy, IsTied};
-ghost use Rattle.house_core.specs.Worlds.{Ends, IsHeld, seen};
+ghost use Rattle.house_world.specs.Wholes.{IsFew, IsHeldBy, IsTied};
+ghost use Rattle.house_world.specs.Worlds.{Ends, IsHeld, seen};
 
-use crate::deeds::given;
-use crate::gate::{Needs, Pass};
-use crate::world::World;
+use crate::counting::counts;
+use crate::gate::{Needs, Pass, check};
 use house_model::Reply;
+use house_world::{World, given};
 use session_table::Session;
 use sm_counters::{Count, within};
 use sm_resume::Cause;
@@ -34,70 +34,68 @@ fn handled_of(session: &Session, h: u32) -> Option<u32>
     within(session.queue.kept(), given(session), Count(h))
 }
 
-impl World {
-    fn handled(&self, s: u64, h: u32) -> Option<u32>
-        requires tied { IsTied self.now.table }
-        requires held { IsHeld s self.now.table }
-        ensures handled { (x : SessionRecord) → session_of s self.now.table ≡ Some x → result ≡ acknowledged h x.queue }
-        ensures within { (x : SessionRecord) → session_of s self.now.table ≡ Some x → IfSome result (λ n. n ≤ x.queue.given) }
-    {
-        match self.table.session(s) {
-            Some(session) => handled_of(session, h),
-            None => None,
+fn handled(world: &World, s: u64, h: u32) -> Option<u32>
+    requires tied { IsTied world.now.table }
+    requires held { IsHeld s world.now.table }
+    ensures handled { (x : SessionRecord) → session_of s world.now.table ≡ Some x → result ≡ acknowledged h x.queue }
+    ensures within { (x : SessionRecord) → session_of s world.now.table ≡ Some x → IfSome result (λ n. n ≤ x.queue.given) }
+{
+    match world.table.session(s) {
+        Some(session) => handled_of(session, h),
+        None => None,
+    }
+}
+
+fn too_high(world: &World, s: u64, h: u32) -> Cause
+    requires { IsHeld s world.now.table }
+    ensures { result ≡ brief.too_high ((seen world.now).sessions s).traffic h }
+{
+    match world.table.session(s) {
+        Some(session) => Cause::TooHigh {
+            h,
+            kept: session.queue.kept().0,
+            sent: session.queue.sent().0,
+        },
+        None => Cause::Lost,
+    }
+}
+
+fn hear(world: &mut World, w: u32, s: u64, h: u32) -> Reply
+    requires line { w < length world.old.table.lines }
+    requires answered { length world.old.answers.items ≡ length world.old.table.lines }
+    requires tied { IsTied world.old.table }
+    requires small { IsFew (2 ^ 64 - 2) world.old.table }
+    requires held { IsHeldBy w s world.old.table }
+    ensures { Ends (acks ((seen world.old).sessions s).counts s h ((seen world.old).sessions s).traffic) 0 result world.old world.new }
+{
+    if !counts(world, s) {
+        return Reply::Done;
+    }
+    match handled(world, s, h) {
+        Some(n) => {
+            world.ack(s, h, n);
+            Reply::Done
+        }
+        None => {
+            let cause = too_high(world, s, h);
+            world.end_held(w, s, cause);
+            Reply::Over(cause)
         }
     }
+}
 
-    fn too_high(&self, s: u64, h: u32) -> Cause
-        requires { IsHeld s self.now.table }
-        ensures { result ≡ brief.too_high ((seen self.now).sessions s).traffic h }
-    {
-        match self.table.session(s) {
-            Some(session) => Cause::TooHigh {
-                h,
-                kept: session.queue.kept().0,
-                sent: session.queue.sent().0,
-            },
-            None => Cause::Lost,
-        }
-    }
-
-    fn hear(&mut self, w: u32, s: u64, h: u32) -> Reply
-        requires line { w < length self.old.table.lines }
-        requires answered { length self.old.answers.items ≡ length self.old.table.lines }
-        requires tied { IsTied self.old.table }
-        requires small { IsFew (2 ^ 64 - 2) self.old.table }
-        requires held { IsHeldBy w s self.old.table }
-        ensures { Ends (acks ((seen self.old).sessions s).counts s h ((seen self.old).sessions s).traffic) 0 result self.old self.new }
-    {
-        if !self.counts(s) {
-            return Reply::Done;
-        }
-        match self.handled(s, h) {
-            Some(n) => {
-                self.ack(s, h, n);
-                Reply::Done
-            }
-            None => {
-                let cause = self.too_high(s, h);
-                self.end_held(w, s, cause);
-                Reply::Over(cause)
-            }
-        }
-    }
-
-    /// What the client says of the stanzas that it handled, once it is checked.
-    pub(crate) fn acknowledge(&mut self, w: u32, h: u32, moment: u64) -> Reply
-        requires line { w < length self.old.table.lines }
-        requires answered { length self.old.answers.items ≡ length self.old.table.lines }
-        requires moment { moment ≤ last_moment }
-        requires tied { IsTied self.old.table }
-        requires small { IsFew (2 ^ 64 - 2) self.old.table }
-        ensures { (k : Kept) → k.world ≡ seen self.old → k.head.moment ≡ moment → Ends (verdict k (Event.Ack w h)) 0 result self.old self.new }
-    {
-        match self.check(&TO_ACK, w, moment) {
-            Pass::Stop(reply) => reply,
-            Pass::Holds { session, .. } => self.hear(w, session, h),
-            _ => Reply::Unready,
-        }
+/// What the client says of the stanzas that it handled, once it is checked.
+pub(crate) fn acknowledge(world: &mut World, w: u32, h: u32, moment: u64) -> Reply
+    requires line { w < length world.old.table.lines }
+    requires answered { length world.old.answers.items ≡ length world.old.table.lines }
+    requires moment { moment ≤ last_moment }
+    requires tied { IsTied world.old.table }
+    requires small { IsFew (2 ^ 64 - 2) world.old.table }
+    ensures { (k : Kept) → k.world ≡ seen world.old → k.head.moment ≡ moment → Ends (verdict k (Event.Ack w h)) 0 result world.old world.new }
+{
+    match check(world, &TO_ACK, w, moment) {
+        Pass::Stop(reply) => reply,
+        Pass::Holds { session, .. } => hear(world, w, session, h),
+        _ => Reply::Unready,
     }
 }

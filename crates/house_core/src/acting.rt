@@ -6,14 +6,15 @@ ghost use Rattle.house_model.specs.Steps.{last_moment, verdict};
 ghost use Rattle.house_model.specs.Histories.{StandsFor, StanzaFits, Turn, ended, kept_step, passed};
 ghost use Rattle.roster_laws.specs.Keeping.{AreKept};
 ghost use Rattle.house_core.specs.Houses.{held};
-ghost use Rattle.house_core.specs.Keeping.{AreShortNames};
-ghost use Rattle.house_core.specs.Wholes.{IsFew, IsTied};
-ghost use Rattle.house_core.specs.Worlds.{Did, Ends, seen};
+ghost use Rattle.house_world.specs.Keeping.{AreShortNames};
+ghost use Rattle.house_world.specs.Wholes.{IsFew, IsTied};
+ghost use Rattle.house_world.specs.Worlds.{Did, Ends, seen};
 
-use crate::gate::{Needs, Pass};
+use crate::gate::{Needs, Pass, check};
 use crate::house::House;
-use crate::world::World;
 use house_model::{Reply, Stanza};
+use house_routing::effects_of;
+use house_world::World;
 use jid_core::{Jid, Part};
 use stanza_tree::NoMemory;
 use std::alloc::Global;
@@ -25,41 +26,39 @@ const TO_ACT: Needs = Needs {
     answers: false,
 };
 
-impl World {
-    /// The stanza of a connection, once it is checked: its effects are made, the memory is taken that they need, and they are applied.
-    fn act_at(
-        &mut self,
-        alloc: Global,
-        domain: &Jid,
-        users: &[Part],
-        w: u32,
-        stanza: &Stanza,
-        moment: u64,
-    ) -> Result<Reply, NoMemory>
-        requires line { w < length self.old.table.lines }
-        requires answered { length self.old.answers.items ≡ length self.old.table.lines }
-        requires moment { moment ≤ last_moment }
-        requires tied { IsTied self.old.table }
-        requires small { IsFew (2 ^ 64 - 5002) self.old.table }
-        requires domain { self.old.book.domain ≡ domain.now.domain }
-        requires names { AreShortNames self.old.book.book.asked }
-        requires rosters { AreKept domain.now.domain self.old.book.book }
-        requires fits { StanzaFits stanza.now }
-        ensures done { IfOk result (λ reply. (k : Kept) → k.world ≡ seen self.old → k.head.moment ≡ moment
-            → k.head.domain ≡ domain.now → k.head.users ≡ users.now → (t : ℕ)
-            → Ends (verdict k (Event.Act w stanza.now t)) 1 reply self.old self.new) }
-        ensures refused { OnErr result (Did [] 0 self.old self.new) }
-    {
-        match self.check(&TO_ACT, w, moment) {
-            Pass::Stop(reply) => Ok(reply),
-            Pass::Holds { session, .. } => {
-                let effects = self.effects_of(alloc, &domain.domain, users, session, stanza)?;
-                self.prepare(effects.as_slice())?;
-                self.carry_out(session, effects);
-                Ok(Reply::Done)
-            }
-            _ => Ok(Reply::Unready),
+/// The stanza of a connection, once it is checked: its effects are made, the memory is taken that they need, and they are applied.
+fn act_at(
+    world: &mut World,
+    alloc: Global,
+    domain: &Jid,
+    users: &[Part],
+    w: u32,
+    stanza: &Stanza,
+    moment: u64,
+) -> Result<Reply, NoMemory>
+    requires line { w < length world.old.table.lines }
+    requires answered { length world.old.answers.items ≡ length world.old.table.lines }
+    requires moment { moment ≤ last_moment }
+    requires tied { IsTied world.old.table }
+    requires small { IsFew (2 ^ 64 - 5002) world.old.table }
+    requires domain { world.old.book.domain ≡ domain.now.domain }
+    requires names { AreShortNames world.old.book.book.asked }
+    requires rosters { AreKept domain.now.domain world.old.book.book }
+    requires fits { StanzaFits stanza.now }
+    ensures done { IfOk result (λ reply. (k : Kept) → k.world ≡ seen world.old → k.head.moment ≡ moment
+        → k.head.domain ≡ domain.now → k.head.users ≡ users.now → (t : ℕ)
+        → Ends (verdict k (Event.Act w stanza.now t)) 1 reply world.old world.new) }
+    ensures refused { OnErr result (Did [] 0 world.old world.new) }
+{
+    match check(world, &TO_ACT, w, moment) {
+        Pass::Stop(reply) => Ok(reply),
+        Pass::Holds { session, .. } => {
+            let effects = effects_of(world, alloc, &domain.domain, users, session, stanza)?;
+            world.prepare(effects.as_slice())?;
+            world.carry_out(session, effects);
+            Ok(Reply::Done)
         }
+        _ => Ok(Reply::Unready),
     }
 }
 
@@ -76,9 +75,15 @@ impl House {
         let moment = self.later(t);
         let alloc = *self.users.allocator();
         let users = self.users.as_slice();
-        let reply = self
-            .world
-            .act_at(alloc, &self.domain, users, w, stanza, moment)?;
+        let reply = act_at(
+            &mut self.world,
+            alloc,
+            &self.domain,
+            users,
+            w,
+            stanza,
+            moment,
+        )?;
         self.moment = moment;
         Ok(reply)
     }

@@ -12,15 +12,16 @@ ghost use Rattle.house_model.specs.Steps.{binds, has_place};
 ghost use Rattle.house_model.specs.declared.event.Event.{Event};
 ghost use Rattle.house_core.specs.Bindings.{begun_in, replaced_in, told_in};
 ghost use Rattle.house_core.specs.Houses.{held};
-ghost use Rattle.house_core.specs.Readiness.{AreNotable, AreReady};
-ghost use Rattle.house_core.specs.Wholes.{IsFew, IsTied};
-ghost use Rattle.house_core.specs.Worlds.{Did, Ends, KeepsLogged, seen};
+ghost use Rattle.house_world.specs.Readiness.{AreNotable, AreReady};
+ghost use Rattle.house_world.specs.Wholes.{IsFew, IsTied};
+ghost use Rattle.house_world.specs.Worlds.{Did, Ends, KeepsLogged, seen};
 
-use crate::gate::{Needs, Pass};
+use crate::gate::{Needs, Pass, check};
 use crate::house::House;
 use crate::make::{make_address, make_bound};
-use crate::world::World;
 use house_model::{Answer, Reply};
+use house_routing::departure;
+use house_world::World;
 use jid_core::{Jid, Part};
 use sm_resume::Cause;
 use stanza_model::Effect;
@@ -39,137 +40,135 @@ const TO_BIND: Needs = Needs {
     answers: true,
 };
 
-impl World {
-    // Whether neither limit is passed by one session more at an address. The one there is not counted, since it departs.
-    fn has_place(&self, address: &Jid) -> bool
-        requires tied { IsTied self.now.table }
-        requires small { IsFew (2 ^ 64 - 5001) self.now.table }
-        ensures place { (k : Kept) → k.world ≡ seen self.now → result ≡ has_place k address.now }
-        ensures rises { Rises 0 self.now.table.sessions self.now.table.made }
-    {
-        let _ = self.table.session(0);
-        let mut all = 0usize;
-        let mut of_user = 0usize;
-        for (_number, session) in self.table.sessions() {
-            if session.address().is_same(address) {
-                continue;
-            }
-            all += 1;
-            if session.address().is_same_bare(address) {
-                of_user += 1;
-            }
+// Whether neither limit is passed by one session more at an address. The one there is not counted, since it departs.
+fn has_place(world: &World, address: &Jid) -> bool
+    requires tied { IsTied world.now.table }
+    requires small { IsFew (2 ^ 64 - 5001) world.now.table }
+    ensures place { (k : Kept) → k.world ≡ seen world.now → result ≡ has_place k address.now }
+    ensures rises { Rises 0 world.now.table.sessions world.now.table.made }
+{
+    let _ = world.table.session(0);
+    let mut all = 0usize;
+    let mut of_user = 0usize;
+    for (_number, session) in world.table.sessions() {
+        if session.address().is_same(address) {
+            continue;
         }
-        all < MOST_SESSIONS && of_user < MOST_OF_USER
-    }
-
-    // What others are told of the session of an address, where there is one: the next one replaces it.
-    fn replaced(&self, alloc: Global, address: &Jid) -> Result<Vec<Effect>, NoMemory>
-        requires tied { IsTied self.now.table }
-        ensures told { IfOk result (λ told. told.items ≡ told_in (seen self.now) address.now) }
-        ensures short { IfOk result (λ told. AreSmall told.items) }
-    {
-        let _ = self.table.session(0);
-        match self.table.at(address) {
-            Some(s) => self.departure(alloc, s),
-            None => Ok(Vec::new(alloc)),
+        all += 1;
+        if session.address().is_same_bare(address) {
+            of_user += 1;
         }
     }
+    all < MOST_SESSIONS && of_user < MOST_OF_USER
+}
 
-    // The session of an address departs, where there is one.
-    fn replace(&mut self, address: &Jid, told: Vec<Effect>)
-        requires answered { length self.old.answers.items ≡ length self.old.table.lines }
-        requires tied { IsTied self.old.table }
-        requires small { IsFew (2 ^ 64 - 5001) self.old.table }
-        requires told { told.items ≡ told_in (seen self.old) address.now }
-        requires ready { AreReady told.items self.old.table }
-        requires short { AreSmall told.items }
-        requires places { AreNotable told.items self.old.book }
-        ensures did { Did (replaced_in (seen self.old) address.now) 0 self.old self.new }
-        ensures others { KeepsLogged self.old self.new }
-        ensures room { self.old.table.spare ≤ self.new.table.spare }
-    {
-        let _ = self.table.session(0);
-        if let Some(s) = self.table.at(address) {
-            let next = self.table.made() + 1;
-            self.depart(s, Cause::Replaced(next), told);
-        }
+// What others are told of the session of an address, where there is one: the next one replaces it.
+fn replaced(world: &World, alloc: Global, address: &Jid) -> Result<Vec<Effect>, NoMemory>
+    requires tied { IsTied world.now.table }
+    ensures told { IfOk result (λ told. told.items ≡ told_in (seen world.now) address.now) }
+    ensures short { IfOk result (λ told. AreSmall told.items) }
+{
+    let _ = world.table.session(0);
+    match world.table.at(address) {
+        Some(s) => departure(world, alloc, s),
+        None => Ok(Vec::new(alloc)),
     }
+}
 
-    // A session of an address begins at a line, and the client is told.
-    fn settle(&mut self, w: u32, address: Jid, answer: Answer, told: Vec<Effect>)
-        requires line { w < length self.old.table.lines }
-        requires answered { length self.old.answers.items ≡ length self.old.table.lines }
-        requires tied { IsTied self.old.table }
-        requires small { IsFew (2 ^ 64 - 5001) self.old.table }
-        requires logged { is_logged (line_of w self.old.table) ≡ true }
-        requires few { length (slice_index_or self.old.answers.items w []) < 8 }
-        requires room { 0 < self.old.table.spare }
-        requires answer { length (answer_text answer) ≤ 524288 }
-        requires told { told.items ≡ told_in (seen self.old) address }
-        requires ready { AreReady told.items self.old.table }
-        requires short { AreSmall told.items }
-        requires places { AreNotable told.items self.old.book }
-        ensures { Did (begun_in (seen self.old) w (conn_of (line_of w self.old.table)) address answer) 1 self.old self.new }
-    {
-        self.replace(&address, told);
-        self.begin(w, address);
-        self.say(w, answer);
+// The session of an address departs, where there is one.
+fn replace(world: &mut World, address: &Jid, told: Vec<Effect>)
+    requires answered { length world.old.answers.items ≡ length world.old.table.lines }
+    requires tied { IsTied world.old.table }
+    requires small { IsFew (2 ^ 64 - 5001) world.old.table }
+    requires told { told.items ≡ told_in (seen world.old) address.now }
+    requires ready { AreReady told.items world.old.table }
+    requires short { AreSmall told.items }
+    requires places { AreNotable told.items world.old.book }
+    ensures did { Did (replaced_in (seen world.old) address.now) 0 world.old world.new }
+    ensures others { KeepsLogged world.old world.new }
+    ensures room { world.old.table.spare ≤ world.new.table.spare }
+{
+    let _ = world.table.session(0);
+    if let Some(s) = world.table.at(address) {
+        let next = world.table.made() + 1;
+        world.depart(s, Cause::Replaced(next), told);
     }
+}
 
-    // Takes the memory for one session more, and for what others are told of the one that it replaces.
-    fn make_room(&mut self, told: &[Effect]) -> Result<(), NoMemory>
-        requires tied { IsTied self.old.table }
-        ensures room { OnOk result (0 < self.new.table.spare) }
-        ensures ready { OnOk result (AreReady told.now self.new.table) }
-        ensures places { OnOk result (AreNotable told.now self.new.book) }
-        ensures same { Did [] 0 self.old self.new }
-    {
-        self.prepare(told)?;
-        self.table.reserve()
-    }
+// A session of an address begins at a line, and the client is told.
+fn settle(world: &mut World, w: u32, address: Jid, answer: Answer, told: Vec<Effect>)
+    requires line { w < length world.old.table.lines }
+    requires answered { length world.old.answers.items ≡ length world.old.table.lines }
+    requires tied { IsTied world.old.table }
+    requires small { IsFew (2 ^ 64 - 5001) world.old.table }
+    requires logged { is_logged (line_of w world.old.table) ≡ true }
+    requires few { length (slice_index_or world.old.answers.items w []) < 8 }
+    requires room { 0 < world.old.table.spare }
+    requires answer { length (answer_text answer) ≤ 524288 }
+    requires told { told.items ≡ told_in (seen world.old) address }
+    requires ready { AreReady told.items world.old.table }
+    requires short { AreSmall told.items }
+    requires places { AreNotable told.items world.old.book }
+    ensures { Did (begun_in (seen world.old) w (conn_of (line_of w world.old.table)) address answer) 1 world.old world.new }
+{
+    replace(world, &address, told);
+    world.begin(w, address);
+    world.say(w, answer);
+}
 
-    // The connection's user has a session of this address. All memory is taken first.
-    fn bind_at(&mut self, w: u32, address: Jid, id: &Text) -> Result<(), NoMemory>
-        requires line { w < length self.old.table.lines }
-        requires answered { length self.old.answers.items ≡ length self.old.table.lines }
-        requires tied { IsTied self.old.table }
-        requires small { IsFew (2 ^ 64 - 5001) self.old.table }
-        requires logged { is_logged (line_of w self.old.table) ≡ true }
-        requires few { length (slice_index_or self.old.answers.items w []) < 8 }
-        requires id { IdFits id.now }
-        ensures done { OnOk result (Did (begun_in (seen self.old) w (conn_of (line_of w self.old.table)) address
-            (Answer.Bound id.now (address_text address))) 1 self.old self.new) }
-        ensures refused { OnErr result (Did [] 0 self.old self.new) }
-    {
-        let alloc = *self.answers.allocator();
-        let answer = make_bound(alloc, &address, id)?;
-        let told = self.replaced(alloc, &address)?;
-        self.make_room(told.as_slice())?;
-        self.settle(w, address, answer, told);
-        Ok(())
-    }
+// Takes the memory for one session more, and for what others are told of the one that it replaces.
+fn make_room(world: &mut World, told: &[Effect]) -> Result<(), NoMemory>
+    requires tied { IsTied world.old.table }
+    ensures room { OnOk result (0 < world.new.table.spare) }
+    ensures ready { OnOk result (AreReady told.now world.new.table) }
+    ensures places { OnOk result (AreNotable told.now world.new.book) }
+    ensures same { Did [] 0 world.old world.new }
+{
+    world.prepare(told)?;
+    world.table.reserve()
+}
 
-    // The same, unless there are too many sessions.
-    fn bind(&mut self, w: u32, address: Jid, id: &Text) -> Result<Reply, NoMemory>
-        requires line { w < length self.old.table.lines }
-        requires answered { length self.old.answers.items ≡ length self.old.table.lines }
-        requires tied { IsTied self.old.table }
-        requires small { IsFew (2 ^ 64 - 5001) self.old.table }
-        requires logged { is_logged (line_of w self.old.table) ≡ true }
-        requires few { length (slice_index_or self.old.answers.items w []) < 8 }
-        requires id { IdFits id.now }
-        ensures done { (k : Kept) → k.world ≡ seen self.old
-            → IfOk result (λ r. Ends (binds (has_place k address) k w (conn_of (line_of w self.old.table)) address id.now) 1 r self.old self.new) }
-        ensures refused { OnErr result (Did [] 0 self.old self.new) }
-    {
-        if self.has_place(&address) {
-            self.bind_at(w, address, id)?;
-            return Ok(Reply::Bound);
-        }
-        let id = id.copy(*self.answers.allocator())?;
-        self.say(w, Answer::Refused { id });
-        Ok(Reply::Done)
+// The connection's user has a session of this address. All memory is taken first.
+fn bind_at(world: &mut World, w: u32, address: Jid, id: &Text) -> Result<(), NoMemory>
+    requires line { w < length world.old.table.lines }
+    requires answered { length world.old.answers.items ≡ length world.old.table.lines }
+    requires tied { IsTied world.old.table }
+    requires small { IsFew (2 ^ 64 - 5001) world.old.table }
+    requires logged { is_logged (line_of w world.old.table) ≡ true }
+    requires few { length (slice_index_or world.old.answers.items w []) < 8 }
+    requires id { IdFits id.now }
+    ensures done { OnOk result (Did (begun_in (seen world.old) w (conn_of (line_of w world.old.table)) address
+        (Answer.Bound id.now (address_text address))) 1 world.old world.new) }
+    ensures refused { OnErr result (Did [] 0 world.old world.new) }
+{
+    let alloc = *world.answers.allocator();
+    let answer = make_bound(alloc, &address, id)?;
+    let told = replaced(world, alloc, &address)?;
+    make_room(world, told.as_slice())?;
+    settle(world, w, address, answer, told);
+    Ok(())
+}
+
+// The same, unless there are too many sessions.
+fn bind(world: &mut World, w: u32, address: Jid, id: &Text) -> Result<Reply, NoMemory>
+    requires line { w < length world.old.table.lines }
+    requires answered { length world.old.answers.items ≡ length world.old.table.lines }
+    requires tied { IsTied world.old.table }
+    requires small { IsFew (2 ^ 64 - 5001) world.old.table }
+    requires logged { is_logged (line_of w world.old.table) ≡ true }
+    requires few { length (slice_index_or world.old.answers.items w []) < 8 }
+    requires id { IdFits id.now }
+    ensures done { (k : Kept) → k.world ≡ seen world.old
+        → IfOk result (λ r. Ends (binds (has_place k address) k w (conn_of (line_of w world.old.table)) address id.now) 1 r world.old world.new) }
+    ensures refused { OnErr result (Did [] 0 world.old world.new) }
+{
+    if has_place(world, &address) {
+        bind_at(world, w, address, id)?;
+        return Ok(Reply::Bound);
     }
+    let id = id.copy(*world.answers.allocator())?;
+    world.say(w, Answer::Refused { id });
+    Ok(Reply::Done)
 }
 
 impl House {
@@ -190,7 +189,7 @@ impl House {
     {
         self.turns += 1;
         let moment = self.later(t);
-        match self.world.check(&TO_BIND, w, moment) {
+        match check(&mut self.world, &TO_BIND, w, moment) {
             Pass::Knows { user, .. } => {
                 let alloc = *self.users.allocator();
                 let address = make_address(
@@ -200,7 +199,7 @@ impl House {
                     resource,
                     &dice,
                 )?;
-                let reply = self.world.bind(w, address, id)?;
+                let reply = bind(&mut self.world, w, address, id)?;
                 self.moment = moment;
                 Ok(reply)
             }

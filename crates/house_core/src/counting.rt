@@ -1,19 +1,18 @@
 //! Stream management (XEP-0198): stanzas are counted, acknowledged and asked for.
 ghost use Rattle.std.specs.Prelude.{◌≡◌, ◌<◌, ◌≤◌, ◌+◌, ◌-◌, ◌^◌, ◌++◌, ◌∷◌, [], ℕ, List, length, slice_index_or};
-ghost use Rattle.sm_counters.specs.Numbers.{count_of};
 ghost use Rattle.house_model.specs.declared.event.Event.{Event};
 ghost use Rattle.house_model.specs.States.{Kept, State};
 ghost use Rattle.house_model.specs.Steps.{asks, enables, id_if, last_moment, verdict};
 ghost use Rattle.house_model.specs.Histories.{Turn, StandsFor, kept_step, made};
 ghost use Rattle.house_core.specs.Houses.{held};
-ghost use Rattle.house_core.specs.Wholes.{IsFew, IsHeldBy, IsTied};
-ghost use Rattle.house_core.specs.Worlds.{Did, Ends, IsHeld, seen};
+ghost use Rattle.house_world.specs.Wholes.{IsFew, IsHeldBy, IsTied};
+ghost use Rattle.house_world.specs.Worlds.{Did, Ends, IsHeld, seen};
 
-use crate::gate::{Needs, Pass};
+use crate::acking::acknowledge;
+use crate::gate::{Needs, Pass, check};
 use crate::house::House;
-use crate::world::World;
 use house_model::{Answer, Reply};
-use session_table::Session;
+use house_world::{World, inward};
 use sm_resume::ResumeId;
 
 pub(crate) const TO_MANAGE: Needs = Needs {
@@ -29,17 +28,6 @@ const TO_ASK: Needs = Needs {
     bound: true,
     answers: true,
 };
-
-/// How many counts there are: a count has 32 bits (XEP-0198, 4).
-const COUNTS: u64 = 1 << 32;
-
-/// The count of the client's stanzas that were acted on.
-pub(crate) fn inward(session: &Session) -> u32
-    requires { session.now.base_in ≤ session.now.acted }
-    ensures { result ≡ count_of (session.now.acted - session.now.base_in) }
-{
-    ((session.acted - session.base_in) % COUNTS) as u32
-}
 
 fn id_if(wants: bool, session: u64, digits: [u8; 16]) -> Option<ResumeId>
     ensures { result ≡ id_if wants session digits }
@@ -59,7 +47,7 @@ impl House {
         ensures reply { result ≡ (kept_step (held self.old) (Event.Enable w resume dice)).reply }
     {
         self.turns += 1;
-        self.world.manage(w, resume, dice, self.moment)
+        manage(&mut self.world, w, resume, dice, self.moment)
     }
 
     /// The connection asks that its stanzas be counted (XEP-0198, 3). Takes no memory.
@@ -81,7 +69,7 @@ impl House {
         ensures reply { result ≡ (kept_step (held self.old) (Event.Ack w h)).reply }
     {
         self.turns += 1;
-        self.world.acknowledge(w, h, self.moment)
+        acknowledge(&mut self.world, w, h, self.moment)
     }
 
     /// The client says how many stanzas it handled (XEP-0198, 4). Takes no memory.
@@ -103,7 +91,7 @@ impl House {
         ensures reply { result ≡ (kept_step (held self.old) (Event.Ask w)).reply }
     {
         self.turns += 1;
-        self.world.ask(w, self.moment)
+        ask(&mut self.world, w, self.moment)
     }
 
     /// The client asks how many of its stanzas were handled (XEP-0198, 4). Takes no memory.
@@ -118,91 +106,89 @@ impl House {
     }
 }
 
-impl World {
-    // What the client asks for, once it is checked.
-    fn ask(&mut self, w: u32, moment: u64) -> Reply
-        requires line { w < length self.old.table.lines }
-        requires answered { length self.old.answers.items ≡ length self.old.table.lines }
-        requires moment { moment ≤ last_moment }
-        requires tied { IsTied self.old.table }
-        ensures { (k : Kept) → k.world ≡ seen self.old → k.head.moment ≡ moment → Ends (verdict k (Event.Ask w)) 0 result self.old self.new }
-    {
-        match self.check(&TO_ASK, w, moment) {
-            Pass::Stop(reply) => reply,
-            Pass::Holds { session, .. } => {
-                self.tell(w, session);
-                Reply::Done
-            }
-            _ => Reply::Unready,
+// What the client asks for, once it is checked.
+fn ask(world: &mut World, w: u32, moment: u64) -> Reply
+    requires line { w < length world.old.table.lines }
+    requires answered { length world.old.answers.items ≡ length world.old.table.lines }
+    requires moment { moment ≤ last_moment }
+    requires tied { IsTied world.old.table }
+    ensures { (k : Kept) → k.world ≡ seen world.old → k.head.moment ≡ moment → Ends (verdict k (Event.Ask w)) 0 result world.old world.new }
+{
+    match check(world, &TO_ASK, w, moment) {
+        Pass::Stop(reply) => reply,
+        Pass::Holds { session, .. } => {
+            tell(world, w, session);
+            Reply::Done
         }
+        _ => Reply::Unready,
     }
+}
 
-    /// The session's client is told the inward count, where it counts.
-    fn tell(&mut self, w: u32, s: u64)
-        requires line { w < length self.old.answers.items }
-        requires room { length (slice_index_or self.old.answers.items w []) < 8 }
-        requires tied { IsTied self.old.table }
-        requires held { IsHeldBy w s self.old.table }
-        ensures { Did (asks ((seen self.old).sessions s).counts w s ((seen self.old).sessions s).traffic).effects 0 self.old self.new }
-    {
-        let Some(session) = self.table.session(s) else {
-            return;
-        };
-        if session.counts {
-            let h = inward(session);
-            self.say(w, Answer::Counted { h });
-        }
+/// The session's client is told the inward count, where it counts.
+fn tell(world: &mut World, w: u32, s: u64)
+    requires line { w < length world.old.answers.items }
+    requires room { length (slice_index_or world.old.answers.items w []) < 8 }
+    requires tied { IsTied world.old.table }
+    requires held { IsHeldBy w s world.old.table }
+    ensures { Did (asks ((seen world.old).sessions s).counts w s ((seen world.old).sessions s).traffic).effects 0 world.old world.new }
+{
+    let Some(session) = world.table.session(s) else {
+        return;
+    };
+    if session.counts {
+        let h = inward(session);
+        world.say(w, Answer::Counted { h });
     }
+}
 
-    // Whether the session counts already.
-    pub(crate) fn counts(&self, s: u64) -> bool
-        requires { IsHeld s self.now.table }
-        ensures { result ≡ ((seen self.now).sessions s).counts }
-    {
-        match self.table.session(s) {
-            Some(session) => session.counts,
-            None => false,
-        }
+// Whether the session counts already.
+pub(crate) fn counts(world: &World, s: u64) -> bool
+    requires { IsHeld s world.now.table }
+    ensures { result ≡ ((seen world.now).sessions s).counts }
+{
+    match world.table.session(s) {
+        Some(session) => session.counts,
+        None => false,
     }
+}
 
-    // The counts of a session begin, where they have not yet.
-    fn start(&mut self, w: u32, s: u64, resume: bool, dice: [u8; 16])
-        requires line { w < length self.old.answers.items }
-        requires room { length (slice_index_or self.old.answers.items w []) < 8 }
-        requires tied { IsTied self.old.table }
-        requires small { IsFew (2 ^ 64 - 2) self.old.table }
-        requires held { IsHeldBy w s self.old.table }
-        ensures { Did (enables ((seen self.old).sessions s).counts w s (id_if resume s dice)).effects 0 self.old self.new }
-    {
-        if self.counts(s) {
-            self.say(w, Answer::Unexpected);
-        } else {
-            let id = id_if(resume, s, dice);
-            self.enable(s, id);
-            self.say(w, Answer::Enabled { id });
-        }
+// The counts of a session begin, where they have not yet.
+fn start(world: &mut World, w: u32, s: u64, resume: bool, dice: [u8; 16])
+    requires line { w < length world.old.answers.items }
+    requires room { length (slice_index_or world.old.answers.items w []) < 8 }
+    requires tied { IsTied world.old.table }
+    requires small { IsFew (2 ^ 64 - 2) world.old.table }
+    requires held { IsHeldBy w s world.old.table }
+    ensures { Did (enables ((seen world.old).sessions s).counts w s (id_if resume s dice)).effects 0 world.old world.new }
+{
+    if counts(world, s) {
+        world.say(w, Answer::Unexpected);
+    } else {
+        let id = id_if(resume, s, dice);
+        world.enable(s, id);
+        world.say(w, Answer::Enabled { id });
     }
+}
 
-    // The client's request that its stanzas be counted.
-    fn manage(&mut self, w: u32, resume: bool, dice: [u8; 16], moment: u64) -> Reply
-        requires line { w < length self.old.table.lines }
-        requires answered { length self.old.answers.items ≡ length self.old.table.lines }
-        requires moment { moment ≤ last_moment }
-        requires tied { IsTied self.old.table }
-        requires small { IsFew (2 ^ 64 - 2) self.old.table }
-        ensures { (k : Kept) → k.world ≡ seen self.old → k.head.moment ≡ moment → Ends (verdict k (Event.Enable w resume dice)) 0 result self.old self.new }
-    {
-        match self.check(&TO_MANAGE, w, moment) {
-            Pass::Stop(reply) => reply,
-            Pass::Holds { session, .. } => {
-                self.start(w, session, resume, dice);
-                Reply::Done
-            }
-            Pass::Knows { .. } => {
-                self.say(w, Answer::Unexpected);
-                Reply::Done
-            }
-            Pass::Waits => Reply::Unready,
+// The client's request that its stanzas be counted.
+fn manage(world: &mut World, w: u32, resume: bool, dice: [u8; 16], moment: u64) -> Reply
+    requires line { w < length world.old.table.lines }
+    requires answered { length world.old.answers.items ≡ length world.old.table.lines }
+    requires moment { moment ≤ last_moment }
+    requires tied { IsTied world.old.table }
+    requires small { IsFew (2 ^ 64 - 2) world.old.table }
+    ensures { (k : Kept) → k.world ≡ seen world.old → k.head.moment ≡ moment → Ends (verdict k (Event.Enable w resume dice)) 0 result world.old world.new }
+{
+    match check(world, &TO_MANAGE, w, moment) {
+        Pass::Stop(reply) => reply,
+        Pass::Holds { session, .. } => {
+            start(world, w, session, resume, dice);
+            Reply::Done
         }
+        Pass::Knows { .. } => {
+            world.say(w, Answer::Unexpected);
+            Reply::Done
+        }
+        Pass::Waits => Reply::Unready,
     }
 }

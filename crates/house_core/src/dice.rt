@@ -1,5 +1,5 @@
 //! Random bytes as hexadecimal digits.
-ghost use Rattle.std.specs.Prelude.{◌≡◌, ◌<◌, IfOk, bytes_eq};
+ghost use Rattle.std.specs.Prelude.{◌≡◌, ◌<◌, IfOk};
 ghost use Rattle.house_model.specs.Steps.{hex_digit, hex};
 
 use stanza_tree::NoMemory;
@@ -26,20 +26,4 @@ pub(crate) fn hex_of(alloc: Global, bytes: &[u8]) -> Result<Vec<u8>, NoMemory>
         digits.push(digit(*byte % 16))?;
     }
     Ok(digits)
-}
-
-/// Whether a text is the bytes' hexadecimal digits.
-pub(crate) fn is_hex_of(text: &[u8], bytes: &[u8]) -> bool
-    ensures { result ≡ bytes_eq text.now (hex bytes.now) }
-{
-    let [byte, more @ ..] = bytes else {
-        return text.is_empty();
-    };
-    match text {
-        [high, low, rest @ ..] => {
-            *high == digit(*byte / 16) && *low == digit(*byte % 16) && is_hex_of(rest, more)
-        }
-        [] => false,
-        [_] => false,
-    }
 }

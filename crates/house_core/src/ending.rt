@@ -7,48 +7,47 @@ ghost use Rattle.house_model.specs.Steps.{departs, verdict};
 ghost use Rattle.session_table.specs.Tables.{Rises, is_there};
 ghost use Rattle.sm_resume.specs.declared.decision.Cause.TheVariants.{Lost};
 ghost use Rattle.house_core.specs.Houses.{held};
-ghost use Rattle.house_core.specs.Wholes.{IsFew, IsTied};
-ghost use Rattle.house_core.specs.Worlds.{Did, Ends, seen};
+ghost use Rattle.house_world.specs.Wholes.{IsFew, IsTied};
+ghost use Rattle.house_world.specs.Worlds.{Did, Ends, seen};
 
 use crate::house::House;
-use crate::world::World;
 use house_model::Reply;
+use house_routing::departure;
+use house_world::World;
 use sm_resume::Cause;
 use stanza_tree::NoMemory;
 
-impl World {
-    // The session of least number that is over or past its deadline departs. All memory is taken first.
-    fn sweep(&mut self, moment: u64) -> Result<Reply, NoMemory>
-        requires answered { length self.old.answers.items ≡ length self.old.table.lines }
-        requires tied { IsTied self.old.table }
-        requires small { IsFew (2 ^ 64 - 5001) self.old.table }
-        ensures done { (k : Kept) (w t : ℕ) → k.world ≡ seen self.old → k.head.moment ≡ moment
-            → IfOk result (λ r. Ends (verdict k (Event.Sweep w t)) 0 r self.old self.new) }
-        ensures refused { OnErr result (Did [] 0 self.old self.new) }
-    {
-        let Some(s) = self.table.due(moment) else {
-            return Ok(Reply::Nothing { due: false });
-        };
-        self.sweep_away(s)?;
-        Ok(Reply::Swept(s))
-    }
+// The session of least number that is over or past its deadline departs. All memory is taken first.
+fn sweep(world: &mut World, moment: u64) -> Result<Reply, NoMemory>
+    requires answered { length world.old.answers.items ≡ length world.old.table.lines }
+    requires tied { IsTied world.old.table }
+    requires small { IsFew (2 ^ 64 - 5001) world.old.table }
+    ensures done { (k : Kept) (w t : ℕ) → k.world ≡ seen world.old → k.head.moment ≡ moment
+        → IfOk result (λ r. Ends (verdict k (Event.Sweep w t)) 0 r world.old world.new) }
+    ensures refused { OnErr result (Did [] 0 world.old world.new) }
+{
+    let Some(s) = world.table.due(moment) else {
+        return Ok(Reply::Nothing { due: false });
+    };
+    sweep_away(world, s)?;
+    Ok(Reply::Swept(s))
+}
 
-    // The session departs.
-    fn sweep_away(&mut self, s: u64) -> Result<(), NoMemory>
-        requires answered { length self.old.answers.items ≡ length self.old.table.lines }
-        requires tied { IsTied self.old.table }
-        requires small { IsFew (2 ^ 64 - 5001) self.old.table }
-        requires there { is_there s self.old.table ≡ true }
-        ensures rises { Rises 0 self.old.table.sessions self.old.table.made }
-        ensures did { OnOk result (Did (departs (seen self.old) s Lost) 0 self.old self.new) }
-        ensures refused { OnErr result (Did [] 0 self.old self.new) }
-    {
-        let _ = self.table.session(s);
-        let told = self.departure(*self.answers.allocator(), s)?;
-        self.prepare(told.as_slice())?;
-        self.depart(s, Cause::Lost, told);
-        Ok(())
-    }
+// The session departs.
+fn sweep_away(world: &mut World, s: u64) -> Result<(), NoMemory>
+    requires answered { length world.old.answers.items ≡ length world.old.table.lines }
+    requires tied { IsTied world.old.table }
+    requires small { IsFew (2 ^ 64 - 5001) world.old.table }
+    requires there { is_there s world.old.table ≡ true }
+    ensures rises { Rises 0 world.old.table.sessions world.old.table.made }
+    ensures did { OnOk result (Did (departs (seen world.old) s Lost) 0 world.old world.new) }
+    ensures refused { OnErr result (Did [] 0 world.old world.new) }
+{
+    let _ = world.table.session(s);
+    let told = departure(world, *world.answers.allocator(), s)?;
+    world.prepare(told.as_slice())?;
+    world.depart(s, Cause::Lost, told);
+    Ok(())
 }
 
 impl House {
@@ -61,7 +60,7 @@ impl House {
     {
         self.turns += 1;
         let moment = self.later(t);
-        let reply = self.world.sweep(moment)?;
+        let reply = sweep(&mut self.world, moment)?;
         self.moment = moment;
         Ok(reply)
     }

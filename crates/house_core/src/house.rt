@@ -1,16 +1,15 @@
 //! The house. Each call is one event of the machine; after it the house stands for one turn more.
 ghost use Rattle.std.specs.Prelude.{◌≡◌, ◌≤◌, [], List, length, replicate, true, IfOk};
 ghost use Rattle.std.specs.List.{list_all};
+ghost use Rattle.jid_core.specs.Names.{are_distinct};
 ghost use Rattle.jid_core.specs.Preparation.{is_local};
 ghost use Rattle.house_model.specs.Steps.{later};
 ghost use Rattle.house_model.specs.States.{State, keep, opening};
 ghost use Rattle.house_model.specs.Histories.{StandsFor, Turn, openings};
 ghost use Rattle.house_core.specs.Houses.{held};
 
-use crate::answers::Answers;
-use crate::stirring::Stirred;
-use crate::world::World;
 use contact_table::Book;
+use house_world::{Answers, Stirred, World};
 use jid_core::{Jid, Part};
 use session_table::Table;
 use stanza_tree::NoMemory;
@@ -36,7 +35,15 @@ impl Model for House {
 
     ghost Value = { HouseRecord };
 
-    ghost view = { λ h. record { domain = h.domain; users = h.users.items; turns = h.turns; moment = h.moment; table = h.world.table; answers = h.world.answers.items; book = h.world.book } };
+    ghost view = { λ h. record {
+      domain = h.domain;
+      users = h.users.items;
+      turns = h.turns;
+      moment = h.moment;
+      table = h.world.table;
+      answers = h.world.answers.items;
+      book = h.world.book;
+    } };
 
     ghost invariant = { λ h. IsWhole h.domain.domain h.users.items h.turns h.moment h.world.table h.world.answers.items h.world.book };
 }
@@ -45,6 +52,7 @@ impl House {
     /// A house of this domain and these users, with so many lines, before its first event. Costs the users and the lines.
     pub fn new(alloc: Global, domain: &Jid, users: &[Part], workers: u32) -> Result<House, NoMemory>
         requires prepared { list_all is_local users.now ≡ true }
+        requires differ { are_distinct users.now ≡ true }
         requires few { length users.now ≤ 4096 }
         ensures held { IfOk result (λ h. held h ≡ keep (opening domain.now users.now workers)) }
         ensures history { IfOk result (λ h. StandsFor (opening domain.now users.now workers) [] (held h)) }

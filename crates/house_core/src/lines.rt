@@ -8,13 +8,14 @@ ghost use Rattle.house_model.specs.Steps.{last_moment, logs_in, verdict};
 ghost use Rattle.house_model.specs.Histories.{Turn, StandsFor, kept_step, made};
 ghost use Rattle.house_core.specs.Houses.{held};
 ghost use Rattle.house_core.specs.Logins.{Enters};
-ghost use Rattle.house_core.specs.Wholes.{IsTied};
-ghost use Rattle.house_core.specs.Worlds.{seen};
+ghost use Rattle.house_world.specs.Wholes.{IsTied};
+ghost use Rattle.house_world.specs.Worlds.{seen};
 
-use crate::gate::{Needs, Pass};
+use crate::gate::{Needs, Pass, check};
 use crate::house::House;
-use crate::world::World;
 use house_model::Reply;
+use house_routing::place_among;
+use house_world::World;
 use jid_core::Part;
 use session_table::Line;
 
@@ -55,8 +56,7 @@ impl House {
         ensures reply { result ≡ (kept_step (held self.old) (Event.Login w user.now)).reply }
     {
         self.turns += 1;
-        self.world
-            .login(w, self.users.as_slice(), user, self.moment)
+        login(&mut self.world, w, self.users.as_slice(), user, self.moment)
     }
 
     /// The connection proved that it is this user's. Costs the number of users.
@@ -130,44 +130,36 @@ impl House {
     }
 }
 
-impl World {
-    // The connection at a line is the user's of this name, where there is one.
-    fn log_among(&mut self, w: u32, users: &[Part], user: &Part) -> Reply
-        requires line { w < length self.old.table.lines }
-        requires fresh { is_fresh (line_of w self.old.table) ≡ true }
-        requires tied { IsTied self.old.table }
-        requires few { length users.now ≤ 4096 }
-        ensures { Enters (logs_in w (user_place user.now users.now)) (length users.now) result self.old self.new }
-    {
-        match place_among(users, user) {
-            Some(place) => {
-                self.log(w, place as u32);
-                Reply::Done
-            }
-            None => Reply::NoUser,
+// The connection at a line is the user's of this name, where there is one.
+fn log_among(world: &mut World, w: u32, users: &[Part], user: &Part) -> Reply
+    requires line { w < length world.old.table.lines }
+    requires fresh { is_fresh (line_of w world.old.table) ≡ true }
+    requires tied { IsTied world.old.table }
+    requires few { length users.now ≤ 4096 }
+    ensures { Enters (logs_in w (user_place user.now users.now)) (length users.now) result world.old world.new }
+{
+    match place_among(users, user) {
+        Some(place) => {
+            world.log(w, place as u32);
+            Reply::Done
         }
-    }
-
-    // The login of a user, once it is checked.
-    fn login(&mut self, w: u32, users: &[Part], user: &Part, moment: u64) -> Reply
-        requires line { w < length self.old.table.lines }
-        requires answered { length self.old.answers.items ≡ length self.old.table.lines }
-        requires moment { moment ≤ last_moment }
-        requires tied { IsTied self.old.table }
-        requires few { length users.now ≤ 4096 }
-        ensures { (k : Kept) → k.world ≡ seen self.old → k.head.moment ≡ moment → k.head.users ≡ users.now
-            → Enters (verdict k (Event.Login w user.now)) (length users.now) result self.old self.new }
-    {
-        match self.check(&TO_LOGIN, w, moment) {
-            Pass::Stop(reply) => reply,
-            Pass::Waits => self.log_among(w, users, user),
-            _ => Reply::Unready,
-        }
+        None => Reply::NoUser,
     }
 }
 
-pub(crate) fn place_among(users: &[Part], user: &Part) -> Option<usize>
-    ensures { result ≡ user_place user.now users.now }
+// The login of a user, once it is checked.
+fn login(world: &mut World, w: u32, users: &[Part], user: &Part, moment: u64) -> Reply
+    requires line { w < length world.old.table.lines }
+    requires answered { length world.old.answers.items ≡ length world.old.table.lines }
+    requires moment { moment ≤ last_moment }
+    requires tied { IsTied world.old.table }
+    requires few { length users.now ≤ 4096 }
+    ensures { (k : Kept) → k.world ≡ seen world.old → k.head.moment ≡ moment → k.head.users ≡ users.now
+        → Enters (verdict k (Event.Login w user.now)) (length users.now) result world.old world.new }
 {
-    users.iter().position(|other| other.bytes() == user.bytes())
+    match check(world, &TO_LOGIN, w, moment) {
+        Pass::Stop(reply) => reply,
+        Pass::Waits => log_among(world, w, users, user),
+        _ => Reply::Unready,
+    }
 }

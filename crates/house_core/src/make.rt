@@ -1,8 +1,7 @@
 //! Makes what a binding or a stanza needs, before anything is changed.
-ghost use Rattle.std.specs.Prelude.{◌≡◌, ◌≤◌, Some, [], length, IfOk, IfSome, IsTrue};
+ghost use Rattle.std.specs.Prelude.{◌≡◌, ◌≤◌, Some, [], length, IfOk, IsTrue};
 ghost use Rattle.std.specs.Option.{option_copied};
 ghost use Rattle.jid_core.specs.Addresses.{address_text};
-ghost use Rattle.stanza_model.specs.Stanzas.{to_in};
 ghost use Rattle.jid_core.specs.Preparation.{is_local};
 ghost use Rattle.house_model.specs.Answers.{answer_text};
 ghost use Rattle.house_model.specs.Steps.{hex, resource_or};
@@ -10,7 +9,6 @@ ghost use Rattle.house_model.specs.Steps.{hex, resource_or};
 use crate::dice::hex_of;
 use house_model::Answer;
 use jid_core::{Jid, JidFault, Part};
-use stanza_model::Stanza;
 use stanza_tree::{NoMemory, Text};
 use std::alloc::Global;
 
@@ -88,28 +86,4 @@ pub(crate) fn make_bound(alloc: Global, address: &Jid, id: &Text) -> Result<Answ
         id: id.copy(alloc)?,
         jid,
     })
-}
-
-/// An address has at most 3,071 bytes.
-#[tactic(auto, using(jid_core::proofs::AddressLemmas::address_text_short))]
-pub(crate) fn know_short(address: &Jid)
-    ensures { length (address_text address.now) ≤ 3071 }
-{
-    let _ = &address.domain;
-}
-
-/// A part of an address has at most 1,023 bytes.
-pub(crate) fn know_part(part: &Part)
-    ensures { length part.now ≤ 1023 }
-{
-    let _ = part.bytes();
-}
-
-/// The address of a stanza, where it has one, likewise.
-pub(crate) fn know_to(stanza: &Stanza)
-    ensures { IfSome (to_in stanza.now) (λ a. length (address_text a) ≤ 3071) }
-{
-    if let Some(to) = stanza.to() {
-        know_short(to);
-    }
 }

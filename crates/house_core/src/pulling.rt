@@ -9,15 +9,13 @@ ghost use Rattle.house_model.specs.States.{Kept, State};
 ghost use Rattle.house_model.specs.Steps.{due, last_moment, nothing, pulls, pulls_from, verdict};
 ghost use Rattle.house_core.specs.Houses.{held};
 ghost use Rattle.house_core.specs.Pulls.{Framed, GaveAt, Gives, pass_of};
-ghost use Rattle.house_core.specs.Wholes.{AreShort, IsFew, IsTied};
-ghost use Rattle.house_core.specs.Worlds.{HasNext, IsHeld, seen};
+ghost use Rattle.house_world.specs.Wholes.{AreShort, IsFew, IsTied};
+ghost use Rattle.house_world.specs.Worlds.{HasNext, IsHeld, seen};
 
-use crate::answers::push_request;
-use crate::deeds::given;
-use crate::gate::{Needs, Pass};
+use crate::gate::{Needs, Pass, check};
 use crate::house::House;
-use crate::world::World;
 use house_model::Reply;
+use house_world::{World, given, push_request};
 use session_table::Session;
 use stanza_tree::push_frame;
 
@@ -29,7 +27,7 @@ const TO_PULL: Needs = Needs {
 };
 
 // Appends the frame of a session's next entry. False where there is none.
-fn push_next(session: &Session, out: &mut Vec<u8>) -> bool
+fn push_unsent(session: &Session, out: &mut Vec<u8>) -> bool
     requires short { AreShort session.now.queue.waiting }
     requires room { vec_len out.old + 524288 ≤ vec_capacity out.old }
     ensures frame { Framed (slice_get session.now.queue.waiting session.now.queue.given) result out.old.items out.new.items }
@@ -46,7 +44,7 @@ fn push_next(session: &Session, out: &mut Vec<u8>) -> bool
 }
 
 // Whether a session's client is to be asked for its count.
-fn is_to_ask(session: &Session) -> bool
+fn is_unasked(session: &Session) -> bool
     requires given { session.now.queue.given ≤ length session.now.queue.waiting }
     requires small { session.now.given_up + session.now.queue.given < 2 ^ 64 }
     ensures { result ≡ (session.now.counts && nat_lt session.now.asked_at (session.now.given_up + session.now.queue.given)) }
@@ -54,127 +52,125 @@ fn is_to_ask(session: &Session) -> bool
     session.counts && session.asked_at < session.given_up + given(session) as u64
 }
 
-impl World {
-    // Appends the oldest answer of a line, which then waits no more. False where none waits.
-    fn give_answer(&mut self, w: u32, out: &mut Vec<u8>) -> bool
-        requires line { w < length self.old.answers.items }
-        requires tied { IsTied self.old.table }
-        requires room { vec_len out.old + 524288 ≤ vec_capacity out.old }
-        ensures given { GaveAt w (slice_index_or self.old.answers.items w []) self.old self.new result out.old.items out.new.items }
-        ensures capacity { vec_capacity out.old ≤ vec_capacity out.new }
-    {
-        self.answers[w as usize].give(out)
-    }
+// Appends the oldest answer of a line, which then waits no more. False where none waits.
+fn give_answer(world: &mut World, w: u32, out: &mut Vec<u8>) -> bool
+    requires line { w < length world.old.answers.items }
+    requires tied { IsTied world.old.table }
+    requires room { vec_len out.old + 524288 ≤ vec_capacity out.old }
+    ensures given { GaveAt w (slice_index_or world.old.answers.items w []) world.old world.new result out.old.items out.new.items }
+    ensures capacity { vec_capacity out.old ≤ vec_capacity out.new }
+{
+    world.answers[w as usize].give(out)
+}
 
-    // Appends the frame of a session's next entry. False where there is none.
-    fn push_next(&self, s: u64, out: &mut Vec<u8>) -> bool
-        requires tied { IsTied self.now.table }
-        requires held { IsHeld s self.now.table }
-        requires room { vec_len out.old + 524288 ≤ vec_capacity out.old }
-        ensures frame { (x : SessionRecord) → session_of s self.now.table ≡ Some x
-            → Framed (slice_get x.queue.waiting x.queue.given) result out.old.items out.new.items }
-        ensures next { result ≡ true → HasNext s self.now.table }
-        ensures capacity { vec_capacity out.old ≤ vec_capacity out.new }
-    {
-        match self.table.session(s) {
-            Some(session) => push_next(session, out),
-            None => false,
-        }
+// Appends the frame of a session's next entry. False where there is none.
+fn push_next(world: &World, s: u64, out: &mut Vec<u8>) -> bool
+    requires tied { IsTied world.now.table }
+    requires held { IsHeld s world.now.table }
+    requires room { vec_len out.old + 524288 ≤ vec_capacity out.old }
+    ensures frame { (x : SessionRecord) → session_of s world.now.table ≡ Some x
+        → Framed (slice_get x.queue.waiting x.queue.given) result out.old.items out.new.items }
+    ensures next { result ≡ true → HasNext s world.now.table }
+    ensures capacity { vec_capacity out.old ≤ vec_capacity out.new }
+{
+    match world.table.session(s) {
+        Some(session) => push_unsent(session, out),
+        None => false,
     }
+}
 
-    // Whether a session's client is to be asked for its count.
-    fn is_to_ask(&self, s: u64) -> bool
-        requires tied { IsTied self.now.table }
-        requires held { IsHeld s self.now.table }
-        requires small { IsFew (2 ^ 64 - 2) self.now.table }
-        ensures { (x : SessionRecord) → session_of s self.now.table ≡ Some x
-            → result ≡ (x.counts && nat_lt x.asked_at (x.given_up + x.queue.given)) }
-    {
-        match self.table.session(s) {
-            Some(session) => is_to_ask(session),
-            None => false,
-        }
+// Whether a session's client is to be asked for its count.
+fn is_to_ask(world: &World, s: u64) -> bool
+    requires tied { IsTied world.now.table }
+    requires held { IsHeld s world.now.table }
+    requires small { IsFew (2 ^ 64 - 2) world.now.table }
+    ensures { (x : SessionRecord) → session_of s world.now.table ≡ Some x
+        → result ≡ (x.counts && nat_lt x.asked_at (x.given_up + x.queue.given)) }
+{
+    match world.table.session(s) {
+        Some(session) => is_unasked(session),
+        None => false,
     }
+}
 
-    // Whether a session is over or past its deadline.
-    fn has_due(&self, moment: u64) -> bool
-        ensures { (k : Kept) → k.world ≡ seen self.now → k.head.moment ≡ moment → result ≡ is_some (due k) }
-    {
-        match self.table.due(moment) {
-            Some(s) => self.table.session(s).is_some(),
-            None => false,
-        }
+// Whether a session is over or past its deadline.
+fn has_due(world: &World, moment: u64) -> bool
+    ensures { (k : Kept) → k.world ≡ seen world.now → k.head.moment ≡ moment → result ≡ is_some (due k) }
+{
+    match world.table.due(moment) {
+        Some(s) => world.table.session(s).is_some(),
+        None => false,
     }
+}
 
-    // What a line gets for which nothing waits.
-    fn give_nothing(&self, moment: u64) -> Reply
-        ensures { (k : Kept) → k.world ≡ seen self.now → k.head.moment ≡ moment → result ≡ (nothing k).reply }
-    {
-        Reply::Nothing {
-            due: self.has_due(moment),
-        }
+// What a line gets for which nothing waits.
+fn give_nothing(world: &World, moment: u64) -> Reply
+    ensures { (k : Kept) → k.world ≡ seen world.now → k.head.moment ≡ moment → result ≡ (nothing k).reply }
+{
+    Reply::Nothing {
+        due: has_due(world, moment),
     }
+}
 
-    // What a session gives: its next entry, else a request for the client's count.
-    fn give_next(&mut self, s: u64, moment: u64, out: &mut Vec<u8>) -> Reply
-        requires tied { IsTied self.old.table }
-        requires held { IsHeld s self.old.table }
-        requires small { IsFew (2 ^ 64 - 2) self.old.table }
-        requires room { vec_len out.old + 524288 ≤ vec_capacity out.old }
-        ensures gives { (k : Kept) → k.world ≡ seen self.old → k.head.moment ≡ moment
-            → Gives (pulls_from k (pass_of (Some s))) result self.old self.new out.old.items out.new.items }
-        ensures capacity { vec_capacity out.old ≤ vec_capacity out.new }
-    {
-        if self.push_next(s, out) {
-            self.mark(s);
-            return Reply::Frame;
-        }
-        if self.is_to_ask(s) {
-            push_request(out);
-            self.request(s);
-            return Reply::Frame;
-        }
-        self.give_nothing(moment)
+// What a session gives: its next entry, else a request for the client's count.
+fn give_next(world: &mut World, s: u64, moment: u64, out: &mut Vec<u8>) -> Reply
+    requires tied { IsTied world.old.table }
+    requires held { IsHeld s world.old.table }
+    requires small { IsFew (2 ^ 64 - 2) world.old.table }
+    requires room { vec_len out.old + 524288 ≤ vec_capacity out.old }
+    ensures gives { (k : Kept) → k.world ≡ seen world.old → k.head.moment ≡ moment
+        → Gives (pulls_from k (pass_of (Some s))) result world.old world.new out.old.items out.new.items }
+    ensures capacity { vec_capacity out.old ≤ vec_capacity out.new }
+{
+    if push_next(world, s, out) {
+        world.mark(s);
+        return Reply::Frame;
     }
-
-    // What a line gets: the oldest answer, else what its session gives.
-    fn give(&mut self, w: u32, session: Option<u64>, moment: u64, out: &mut Vec<u8>) -> Reply
-        requires line { w < length self.old.answers.items }
-        requires tied { IsTied self.old.table }
-        requires held { IfSome session (λ s. IsHeld s self.old.table) }
-        requires small { IsFew (2 ^ 64 - 2) self.old.table }
-        requires room { vec_len out.old + 524288 ≤ vec_capacity out.old }
-        ensures gives { (k : Kept) → k.world ≡ seen self.old → k.head.moment ≡ moment
-            → Gives (pulls k w (slice_index_or self.old.answers.items w []) (pass_of session)) result self.old self.new out.old.items out.new.items }
-        ensures capacity { vec_capacity out.old ≤ vec_capacity out.new }
-    {
-        if self.give_answer(w, out) {
-            return Reply::Frame;
-        }
-        match session {
-            Some(s) => self.give_next(s, moment, out),
-            None => self.give_nothing(moment),
-        }
+    if is_to_ask(world, s) {
+        push_request(out);
+        world.request(s);
+        return Reply::Frame;
     }
+    give_nothing(world, moment)
+}
 
-    // What a line gets, once it is checked.
-    fn pull(&mut self, w: u32, moment: u64, out: &mut Vec<u8>) -> Reply
-        requires line { w < length self.old.table.lines }
-        requires answered { length self.old.answers.items ≡ length self.old.table.lines }
-        requires moment { moment ≤ last_moment }
-        requires tied { IsTied self.old.table }
-        requires small { IsFew (2 ^ 64 - 2) self.old.table }
-        requires room { vec_len out.old + 524288 ≤ vec_capacity out.old }
-        ensures gives { (k : Kept) (t : ℕ) → k.world ≡ seen self.old → k.head.moment ≡ moment
-            → Gives (verdict k (Event.Pull w t)) result self.old self.new out.old.items out.new.items }
-        ensures capacity { vec_capacity out.old ≤ vec_capacity out.new }
-    {
-        match self.check(&TO_PULL, w, moment) {
-            Pass::Stop(reply) => reply,
-            Pass::Holds { session, .. } => self.give(w, Some(session), moment, out),
-            Pass::Knows { .. } => self.give(w, None, moment, out),
-            Pass::Waits => self.give(w, None, moment, out),
-        }
+// What a line gets: the oldest answer, else what its session gives.
+fn give(world: &mut World, w: u32, session: Option<u64>, moment: u64, out: &mut Vec<u8>) -> Reply
+    requires line { w < length world.old.answers.items }
+    requires tied { IsTied world.old.table }
+    requires held { IfSome session (λ s. IsHeld s world.old.table) }
+    requires small { IsFew (2 ^ 64 - 2) world.old.table }
+    requires room { vec_len out.old + 524288 ≤ vec_capacity out.old }
+    ensures gives { (k : Kept) → k.world ≡ seen world.old → k.head.moment ≡ moment
+        → Gives (pulls k w (slice_index_or world.old.answers.items w []) (pass_of session)) result world.old world.new out.old.items out.new.items }
+    ensures capacity { vec_capacity out.old ≤ vec_capacity out.new }
+{
+    if give_answer(world, w, out) {
+        return Reply::Frame;
+    }
+    match session {
+        Some(s) => give_next(world, s, moment, out),
+        None => give_nothing(world, moment),
+    }
+}
+
+// What a line gets, once it is checked.
+fn pull(world: &mut World, w: u32, moment: u64, out: &mut Vec<u8>) -> Reply
+    requires line { w < length world.old.table.lines }
+    requires answered { length world.old.answers.items ≡ length world.old.table.lines }
+    requires moment { moment ≤ last_moment }
+    requires tied { IsTied world.old.table }
+    requires small { IsFew (2 ^ 64 - 2) world.old.table }
+    requires room { vec_len out.old + 524288 ≤ vec_capacity out.old }
+    ensures gives { (k : Kept) (t : ℕ) → k.world ≡ seen world.old → k.head.moment ≡ moment
+        → Gives (verdict k (Event.Pull w t)) result world.old world.new out.old.items out.new.items }
+    ensures capacity { vec_capacity out.old ≤ vec_capacity out.new }
+{
+    match check(world, &TO_PULL, w, moment) {
+        Pass::Stop(reply) => reply,
+        Pass::Holds { session, .. } => give(world, w, Some(session), moment, out),
+        Pass::Knows { .. } => give(world, w, None, moment, out),
+        Pass::Waits => give(world, w, None, moment, out),
     }
 }
 
@@ -190,7 +186,7 @@ impl House {
     {
         self.turns += 1;
         self.moment = self.later(t);
-        self.world.pull(w, self.moment, out)
+        pull(&mut self.world, w, self.moment, out)
     }
 
     /// The connection takes its next frame, which is appended: the oldest answer, else the next entry, else a request for the

@@ -10,14 +10,14 @@ ghost use Rattle.house_model.specs.Steps.{last_moment, resumes_by, verdict};
 ghost use Rattle.house_model.specs.Histories.{Turn, StandsFor, kept_step, made};
 ghost use Rattle.house_core.specs.Houses.{held};
 ghost use Rattle.house_core.specs.Resumes.{IsNarrow, facts_by, facts_with, is_known_to, users_address};
-ghost use Rattle.house_core.specs.Wholes.{AreUsers, IsFew, IsTied};
-ghost use Rattle.house_core.specs.Worlds.{Ends, seen};
+ghost use Rattle.house_world.specs.Wholes.{AreUsers, IsFew, IsTied};
+ghost use Rattle.house_world.specs.Worlds.{Ends, seen};
 
 use crate::counting::TO_MANAGE;
-use crate::gate::Pass;
+use crate::gate::{Pass, check};
 use crate::house::House;
-use crate::world::World;
 use house_model::{Answer, Reply};
+use house_world::World;
 use jid_core::{Jid, Part};
 use session_table::{Life, Session};
 use sm_counters::Count;
@@ -69,8 +69,15 @@ impl House {
     {
         self.turns += 1;
         self.moment = self.later(t);
-        self.world
-            .go_on(w, id, h, self.moment, self.users.as_slice(), &self.domain)
+        go_on(
+            &mut self.world,
+            w,
+            id,
+            h,
+            self.moment,
+            self.users.as_slice(),
+            &self.domain,
+        )
     }
 
     /// The connection asks for the session of this id, of which it handled `h` stanzas (XEP-0198, 5). Takes no memory.
@@ -86,91 +93,89 @@ impl House {
     }
 }
 
-impl World {
-    fn facts(&self, s: u64, user: &Part, domain: &Jid) -> Option<Facts>
-        requires { IsTied self.now.table }
-        ensures facts { result ≡ facts_by user.now domain.now.domain (session_of s self.now.table) }
-        ensures narrow { (x : SessionRecord) → session_of s self.now.table ≡ Some x → IsSome x.resume_id → IsNarrow x }
-    {
-        match self.table.session(s) {
-            Some(session) => facts_of(session, user, domain),
-            None => None,
+fn facts(world: &World, s: u64, user: &Part, domain: &Jid) -> Option<Facts>
+    requires { IsTied world.now.table }
+    ensures facts { result ≡ facts_by user.now domain.now.domain (session_of s world.now.table) }
+    ensures narrow { (x : SessionRecord) → session_of s world.now.table ≡ Some x → IsSome x.resume_id → IsNarrow x }
+{
+    match world.table.session(s) {
+        Some(session) => facts_of(session, user, domain),
+        None => None,
+    }
+}
+
+// The client of a user, at a line without a session, asks for the session of an id.
+fn take_up(
+    world: &mut World,
+    w: u32,
+    conn: u64,
+    id: &ResumeId,
+    h: u32,
+    user: &Part,
+    domain: &Jid,
+) -> Reply
+    requires line { w < length world.old.table.lines }
+    requires logged { is_logged (line_of w world.old.table) ≡ true }
+    requires conn { conn ≡ conn_of (line_of w world.old.table) }
+    requires answered { length world.old.answers.items ≡ length world.old.table.lines }
+    requires room { length (slice_index_or world.old.answers.items w []) < 8 }
+    requires tied { IsTied world.old.table }
+    requires small { IsFew (2 ^ 64 - 2) world.old.table }
+    ensures { Ends (resumes_by (is_known_to user.now domain.now.domain id.now ((seen world.old).sessions id.now.session))
+        ((seen world.old).sessions id.now.session).hold w conn id.now.session h id.now
+        ((seen world.old).sessions id.now.session).traffic) 0 result world.old world.new }
+{
+    let facts = facts(world, id.session, user, domain);
+    match decide(id, facts.as_ref(), Count(h)) {
+        Decision::Take(n) => {
+            let count = world.resume(w, conn, id.session, h, n);
+            world.say(w, Answer::Resumed { h: count, id: *id });
+            Reply::Resumed
+        }
+        Decision::TooHigh { h, kept, sent } => {
+            let cause = Cause::TooHigh { h, kept, sent };
+            world.close_free(w, cause);
+            Reply::Over(cause)
+        }
+        _ => {
+            world.say(w, Answer::NotFound);
+            Reply::Done
         }
     }
+}
 
-    // The client of a user, at a line without a session, asks for the session of an id.
-    fn take_up(
-        &mut self,
-        w: u32,
-        conn: u64,
-        id: &ResumeId,
-        h: u32,
-        user: &Part,
-        domain: &Jid,
-    ) -> Reply
-        requires line { w < length self.old.table.lines }
-        requires logged { is_logged (line_of w self.old.table) ≡ true }
-        requires conn { conn ≡ conn_of (line_of w self.old.table) }
-        requires answered { length self.old.answers.items ≡ length self.old.table.lines }
-        requires room { length (slice_index_or self.old.answers.items w []) < 8 }
-        requires tied { IsTied self.old.table }
-        requires small { IsFew (2 ^ 64 - 2) self.old.table }
-        ensures { Ends (resumes_by (is_known_to user.now domain.now.domain id.now ((seen self.old).sessions id.now.session))
-            ((seen self.old).sessions id.now.session).hold w conn id.now.session h id.now
-            ((seen self.old).sessions id.now.session).traffic) 0 result self.old self.new }
-    {
-        let facts = self.facts(id.session, user, domain);
-        match decide(id, facts.as_ref(), Count(h)) {
-            Decision::Take(n) => {
-                let count = self.resume(w, conn, id.session, h, n);
-                self.say(w, Answer::Resumed { h: count, id: *id });
-                Reply::Resumed
-            }
-            Decision::TooHigh { h, kept, sent } => {
-                let cause = Cause::TooHigh { h, kept, sent };
-                self.close_free(w, cause);
-                Reply::Over(cause)
-            }
-            _ => {
-                self.say(w, Answer::NotFound);
+// A client asks for the session of an id, once that is checked.
+fn go_on(
+    world: &mut World,
+    w: u32,
+    id: Option<&ResumeId>,
+    h: u32,
+    moment: u64,
+    users: &[Part],
+    domain: &Jid,
+) -> Reply
+    requires line { w < length world.old.table.lines }
+    requires answered { length world.old.answers.items ≡ length world.old.table.lines }
+    requires moment { moment ≤ last_moment }
+    requires tied { IsTied world.old.table }
+    requires small { IsFew (2 ^ 64 - 2) world.old.table }
+    requires users { AreUsers (length users.now) world.old.table }
+    ensures { (k : Kept) → k.world ≡ seen world.old → k.head.moment ≡ moment → k.head.users ≡ users.now → k.head.domain ≡ domain.now
+        → (t : ℕ) → Ends (verdict k (Event.Resume w (option_copied id.entry) h t)) 0 result world.old world.new }
+{
+    match check(world, &TO_MANAGE, w, moment) {
+        Pass::Stop(reply) => reply,
+        Pass::Knows { conn, user } => match id {
+            Some(id) => take_up(world, w, conn, id, h, &users[user as usize], domain),
+            None => {
+                world.say(w, Answer::NotFound);
                 Reply::Done
             }
+        },
+        Pass::Holds { .. } => {
+            world.say(w, Answer::Unexpected);
+            Reply::Done
         }
-    }
-
-    // A client asks for the session of an id, once that is checked.
-    fn go_on(
-        &mut self,
-        w: u32,
-        id: Option<&ResumeId>,
-        h: u32,
-        moment: u64,
-        users: &[Part],
-        domain: &Jid,
-    ) -> Reply
-        requires line { w < length self.old.table.lines }
-        requires answered { length self.old.answers.items ≡ length self.old.table.lines }
-        requires moment { moment ≤ last_moment }
-        requires tied { IsTied self.old.table }
-        requires small { IsFew (2 ^ 64 - 2) self.old.table }
-        requires users { AreUsers (length users.now) self.old.table }
-        ensures { (k : Kept) → k.world ≡ seen self.old → k.head.moment ≡ moment → k.head.users ≡ users.now → k.head.domain ≡ domain.now
-            → (t : ℕ) → Ends (verdict k (Event.Resume w (option_copied id.entry) h t)) 0 result self.old self.new }
-    {
-        match self.check(&TO_MANAGE, w, moment) {
-            Pass::Stop(reply) => reply,
-            Pass::Knows { conn, user } => match id {
-                Some(id) => self.take_up(w, conn, id, h, &users[user as usize], domain),
-                None => {
-                    self.say(w, Answer::NotFound);
-                    Reply::Done
-                }
-            },
-            Pass::Holds { .. } => {
-                self.say(w, Answer::Unexpected);
-                Reply::Done
-            }
-            Pass::Waits => Reply::Unready,
-        }
+        Pass::Waits => Reply::Unready,
     }
 }

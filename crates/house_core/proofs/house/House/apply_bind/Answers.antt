@@ -7,13 +7,13 @@ use Rattle.house_model.specs.declared.reply.Reply.TheVariants.{Unready}
 use Rattle.house_model.specs.Gate.{gate}
 use Rattle.house_model.specs.Histories.{kept_step, passed}
 use Rattle.house_model.specs.Steps.{resource_or, turn}
-use Rattle.house_core.specs.declared.world.World as code
+use Rattle.house_world.specs.declared.world.World as code
 use Rattle.house_core.specs.Houses.{HouseRecord, held}
-use Rattle.house_core.specs.Worlds.{Did, seen}
+use Rattle.house_world.specs.Worlds.{Did, seen}
 use Rattle.house_core.proofs.BoundLemmas.{all_at, bind_ends, bound_is, on_err, other_ends, passed_is, same_did}
 use Rattle.house_core.proofs.CallLemmas.{house, later_passed, state_ends, whole_ends, whole_is}
 use Rattle.house_core.proofs.EndsLemmas.{stop_ends}
-use Rattle.house_core.proofs.WorldLemmas.{few_later}
+use Rattle.house_world.proofs.WorldLemmas.{few_later}
 use Rattle.house_core.proofs.house.House.apply_bind.Goals as goal
 
 pub index-requires : goal.index-requires
@@ -37,8 +37,8 @@ invariant_of-self-in_err-address-in-Knows c =
     let h = c.self.inside in
     let k = turn (Bind c.args.w c.args.id.now (option_copied c.args.resource) c.args.t c.args.dice) (held (house h.domain h.users.items h.turns h.moment h.world)) in
     let same = (c.in-Knows.ensures.passes k refl (sym c.later-moment.ensures)).1 in
-    whole_is h.users.items h.turns h.moment h.moment h.world c.check.new.self [] 0 c.self.invariant c.self.invariant.passed (omega arith) (λ world. refl)
-    (same_did h.world c.check.new.self c.check.ensures.tied same)
+    whole_is h.users.items h.turns h.moment h.moment h.world c.check.new.world [] 0 c.self.invariant c.self.invariant.passed (omega arith) (λ world. refl)
+    (same_did h.world c.check.new.world c.check.ensures.tied same)
 
 pub returns-in_err-address-in-Knows-clause-refused : goal.returns-in_err-address-in-Knows-clause-refused
 returns-in_err-address-in-Knows-clause-refused c =
@@ -46,14 +46,14 @@ returns-in_err-address-in-Knows-clause-refused c =
     let k = turn (Bind c.args.w c.args.id.now (option_copied c.args.resource) c.args.t c.args.dice) (held (house h.domain h.users.items h.turns h.moment h.world)) in
     let same = (c.in-Knows.ensures.passes k refl (sym c.later-moment.ensures)).1 in
     on_err c.from_residual.result
-    (subst (λ (x : HouseRecord). held (house h.domain h.users.items (h.turns + 1) h.moment c.check.new.self) ≡ passed (held x)) c.self.view_is
-    (passed_is h.domain h.users.items h.turns h.moment h.world c.check.new.self (same_did h.world c.check.new.self c.check.ensures.tied same)))
+    (subst (λ (x : HouseRecord). held (house h.domain h.users.items (h.turns + 1) h.moment c.check.new.world) ≡ passed (held x)) c.self.view_is
+    (passed_is h.domain h.users.items h.turns h.moment h.world c.check.new.world (same_did h.world c.check.new.world c.check.ensures.tied same)))
 
 pub bind-requires-clause-small : goal.bind-requires-clause-small
 bind-requires-clause-small c =
     let h = c.self.inside in
     let turns : h.turns ≡ c.args.self.now.turns = ap (λ (x : HouseRecord). x.turns) c.self.view_is in
-    few_later h.turns 18446744073709546615 c.check.new.self.table (c.check.ensures.few h.turns c.self.invariant.counted) (omega (arith, turns, c.requires.turns))
+    few_later h.turns 18446744073709546615 c.check.new.world.table (c.check.ensures.few h.turns c.self.invariant.counted) (omega (arith, turns, c.requires.turns))
 
 pub invariant_of-self-in_default : goal.invariant_of-self-in_default
 invariant_of-self-in_default c =
@@ -61,9 +61,9 @@ invariant_of-self-in_default c =
     let e = Bind c.args.w c.args.id.now (option_copied c.args.resource) c.args.t c.args.dice in
     let now = c.later-moment.result in
     let k = turn e (held (house h.domain h.users.items h.turns h.moment h.world)) in
-    let ends = other_ends k c.args.w c.args.t c.args.id.now (option_copied c.args.resource) c.args.dice c.check.result (gate k e) h.world c.check.new.self
+    let ends = other_ends k c.args.w c.args.t c.args.id.now (option_copied c.args.resource) c.args.dice c.check.result (gate k e) h.world c.check.new.world
     c.check.ensures.tied c.in_default.not-Stop c.in_default.not-Knows (c.check.ensures.passes k refl (sym c.later-moment.ensures)) in
-    whole_ends h.domain h.users.items h.turns h.moment now 0 h.world c.check.new.self e Unready c.self.invariant
+    whole_ends h.domain h.users.items h.turns h.moment now 0 h.world c.check.new.world e Unready c.self.invariant
     (later_passed h.moment c.args.t now c.self.invariant.passed c.later-moment.ensures) (omega arith) ends
 
 pub returns-in_default-clause-state : goal.returns-in_default-clause-state
@@ -72,17 +72,17 @@ returns-in_default-clause-state c =
     let e = Bind c.args.w c.args.id.now (option_copied c.args.resource) c.args.t c.args.dice in
     let now = c.later-moment.result in
     let k = turn e (held (house h.domain h.users.items h.turns h.moment h.world)) in
-    let ends = other_ends k c.args.w c.args.t c.args.id.now (option_copied c.args.resource) c.args.dice c.check.result (gate k e) h.world c.check.new.self
+    let ends = other_ends k c.args.w c.args.t c.args.id.now (option_copied c.args.resource) c.args.dice c.check.result (gate k e) h.world c.check.new.world
     c.check.ensures.tied c.in_default.not-Stop c.in_default.not-Knows (c.check.ensures.passes k refl (sym c.later-moment.ensures)) in
-    subst (λ (x : HouseRecord). held (house h.domain h.users.items (h.turns + 1) now c.check.new.self) ≡ (kept_step (held x) e).state) c.self.view_is
-    (state_ends h.domain h.users.items h.turns h.moment now 0 h.world c.check.new.self e Unready c.later-moment.ensures ends)
+    subst (λ (x : HouseRecord). held (house h.domain h.users.items (h.turns + 1) now c.check.new.world) ≡ (kept_step (held x) e).state) c.self.view_is
+    (state_ends h.domain h.users.items h.turns h.moment now 0 h.world c.check.new.world e Unready c.later-moment.ensures ends)
 
 pub returns-in_default-clause-reply : goal.returns-in_default-clause-reply
 returns-in_default-clause-reply c =
     let h = c.self.inside in
     let e = Bind c.args.w c.args.id.now (option_copied c.args.resource) c.args.t c.args.dice in
     let k = turn e (held (house h.domain h.users.items h.turns h.moment h.world)) in
-    let ends = other_ends k c.args.w c.args.t c.args.id.now (option_copied c.args.resource) c.args.dice c.check.result (gate k e) h.world c.check.new.self
+    let ends = other_ends k c.args.w c.args.t c.args.id.now (option_copied c.args.resource) c.args.dice c.check.result (gate k e) h.world c.check.new.world
     c.check.ensures.tied c.in_default.not-Stop c.in_default.not-Knows (c.check.ensures.passes k refl (sym c.later-moment.ensures)) in
     subst (λ (x : HouseRecord). Unready ≡ (kept_step (held x) e).reply) c.self.view_is ends.answer
 
@@ -92,8 +92,8 @@ invariant_of-self-in-Stop c =
     let e = Bind c.args.w c.args.id.now (option_copied c.args.resource) c.args.t c.args.dice in
     let now = c.later-moment.result in
     let k = turn e (held (house h.domain h.users.items h.turns h.moment h.world)) in
-    let ends = stop_ends k e (gate k e) c.in-Stop.reply h.world c.check.new.self (c.in-Stop.ensures.passes k refl (sym c.later-moment.ensures)) in
-    whole_ends h.domain h.users.items h.turns h.moment now 0 h.world c.check.new.self e c.in-Stop.reply c.self.invariant
+    let ends = stop_ends k e (gate k e) c.in-Stop.reply h.world c.check.new.world (c.in-Stop.ensures.passes k refl (sym c.later-moment.ensures)) in
+    whole_ends h.domain h.users.items h.turns h.moment now 0 h.world c.check.new.world e c.in-Stop.reply c.self.invariant
     (later_passed h.moment c.args.t now c.self.invariant.passed c.later-moment.ensures) (omega arith) ends
 
 pub returns-in-Stop-clause-state : goal.returns-in-Stop-clause-state
@@ -102,16 +102,16 @@ returns-in-Stop-clause-state c =
     let e = Bind c.args.w c.args.id.now (option_copied c.args.resource) c.args.t c.args.dice in
     let now = c.later-moment.result in
     let k = turn e (held (house h.domain h.users.items h.turns h.moment h.world)) in
-    let ends = stop_ends k e (gate k e) c.in-Stop.reply h.world c.check.new.self (c.in-Stop.ensures.passes k refl (sym c.later-moment.ensures)) in
-    subst (λ (x : HouseRecord). held (house h.domain h.users.items (h.turns + 1) now c.check.new.self) ≡ (kept_step (held x) e).state) c.self.view_is
-    (state_ends h.domain h.users.items h.turns h.moment now 0 h.world c.check.new.self e c.in-Stop.reply c.later-moment.ensures ends)
+    let ends = stop_ends k e (gate k e) c.in-Stop.reply h.world c.check.new.world (c.in-Stop.ensures.passes k refl (sym c.later-moment.ensures)) in
+    subst (λ (x : HouseRecord). held (house h.domain h.users.items (h.turns + 1) now c.check.new.world) ≡ (kept_step (held x) e).state) c.self.view_is
+    (state_ends h.domain h.users.items h.turns h.moment now 0 h.world c.check.new.world e c.in-Stop.reply c.later-moment.ensures ends)
 
 pub returns-in-Stop-clause-reply : goal.returns-in-Stop-clause-reply
 returns-in-Stop-clause-reply c =
     let h = c.self.inside in
     let e = Bind c.args.w c.args.id.now (option_copied c.args.resource) c.args.t c.args.dice in
     let k = turn e (held (house h.domain h.users.items h.turns h.moment h.world)) in
-    let ends = stop_ends k e (gate k e) c.in-Stop.reply h.world c.check.new.self (c.in-Stop.ensures.passes k refl (sym c.later-moment.ensures)) in
+    let ends = stop_ends k e (gate k e) c.in-Stop.reply h.world c.check.new.world (c.in-Stop.ensures.passes k refl (sym c.later-moment.ensures)) in
     subst (λ (x : HouseRecord). c.in-Stop.reply ≡ (kept_step (held x) e).reply) c.self.view_is ends.answer
 
 pub invariant_of-self-in_err-reply-in-Knows : goal.invariant_of-self-in_err-reply-in-Knows
@@ -120,8 +120,8 @@ invariant_of-self-in_err-reply-in-Knows c =
     let e = Bind c.args.w c.args.id.now (option_copied c.args.resource) c.args.t c.args.dice in
     let k = turn e (held (house h.domain h.users.items h.turns h.moment h.world)) in
     let same = (c.in-Knows.ensures.passes k refl (sym c.later-moment.ensures)).1 in
-    whole_is h.users.items h.turns h.moment h.moment h.world c.bind.new.self [] 0 c.self.invariant c.self.invariant.passed (omega arith) (λ world. refl)
-    (subst (λ (x : code.World). Did [] 0 x c.bind.new.self) same c.in_err-reply-in-Knows.ensures.refused)
+    whole_is h.users.items h.turns h.moment h.moment h.world c.bind.new.world [] 0 c.self.invariant c.self.invariant.passed (omega arith) (λ world. refl)
+    (subst (λ (x : code.World). Did [] 0 x c.bind.new.world) same c.in_err-reply-in-Knows.ensures.refused)
 
 pub returns-in_err-reply-in-Knows-clause-refused : goal.returns-in_err-reply-in-Knows-clause-refused
 returns-in_err-reply-in-Knows-clause-refused c =
@@ -129,16 +129,16 @@ returns-in_err-reply-in-Knows-clause-refused c =
     let e = Bind c.args.w c.args.id.now (option_copied c.args.resource) c.args.t c.args.dice in
     let k = turn e (held (house h.domain h.users.items h.turns h.moment h.world)) in
     let same = (c.in-Knows.ensures.passes k refl (sym c.later-moment.ensures)).1 in
-    let did = subst (λ (x : code.World). Did [] 0 x c.bind.new.self) same c.in_err-reply-in-Knows.ensures.refused in
+    let did = subst (λ (x : code.World). Did [] 0 x c.bind.new.world) same c.in_err-reply-in-Knows.ensures.refused in
     on_err c.from_residual-in_err-reply-in-Knows.result
-    (subst (λ (x : HouseRecord). held (house h.domain h.users.items (h.turns + 1) h.moment c.bind.new.self) ≡ passed (held x)) c.self.view_is
-    (passed_is h.domain h.users.items h.turns h.moment h.world c.bind.new.self did))
+    (subst (λ (x : HouseRecord). held (house h.domain h.users.items (h.turns + 1) h.moment c.bind.new.world) ≡ passed (held x)) c.self.view_is
+    (passed_is h.domain h.users.items h.turns h.moment h.world c.bind.new.world did))
 
 pub invariant_of-self-in-Knows : goal.invariant_of-self-in-Knows
 invariant_of-self-in-Knows c =
     let h = c.self.inside in
-    let b = c.check.new.self in
-    let d = c.bind.new.self in
+    let b = c.check.new.world in
+    let d = c.bind.new.world in
     let reply = c.in_ok-reply-in-Knows.reply in
     let address = c.in_ok-address-in-Knows.address in
     let e = Bind c.args.w c.args.id.now (option_copied c.args.resource) c.args.t c.args.dice in
@@ -156,8 +156,8 @@ invariant_of-self-in-Knows c =
 pub returns-in_ok-reply-in-Knows-clause-state : goal.returns-in_ok-reply-in-Knows-clause-state
 returns-in_ok-reply-in-Knows-clause-state c =
     let h = c.self.inside in
-    let b = c.check.new.self in
-    let d = c.bind.new.self in
+    let b = c.check.new.world in
+    let d = c.bind.new.world in
     let reply = c.in_ok-reply-in-Knows.reply in
     let address = c.in_ok-address-in-Knows.address in
     let e = Bind c.args.w c.args.id.now (option_copied c.args.resource) c.args.t c.args.dice in
@@ -175,8 +175,8 @@ returns-in_ok-reply-in-Knows-clause-state c =
 pub returns-in_ok-reply-in-Knows-clause-reply : goal.returns-in_ok-reply-in-Knows-clause-reply
 returns-in_ok-reply-in-Knows-clause-reply c =
     let h = c.self.inside in
-    let b = c.check.new.self in
-    let d = c.bind.new.self in
+    let b = c.check.new.world in
+    let d = c.bind.new.world in
     let reply = c.in_ok-reply-in-Knows.reply in
     let address = c.in_ok-address-in-Knows.address in
     let e = Bind c.args.w c.args.id.now (option_copied c.args.resource) c.args.t c.args.dice in

@@ -13,17 +13,17 @@ invariant_of-self c =
     let h = c.self.inside in
     let e = Login c.args.w c.args.user.now in
     let k = turn e (held (house h.domain h.users.items h.turns h.moment h.world)) in
-    let enters = subst (λ (us : List (List ℕ)). Enters (verdict k e) (length us) c.login.result h.world c.login.new.self) c.as_slice.ensures.value
+    let enters = subst (λ (us : List (List ℕ)). Enters (verdict k e) (length us) c.login.result h.world c.login.new.world) c.as_slice.ensures.value
     (c.login.ensures k refl refl (sym c.as_slice.ensures.value)) in
-    whole_enters h.domain h.users.items h.turns h.moment h.world c.login.new.self e c.login.result c.self.invariant enters
+    whole_enters h.domain h.users.items h.turns h.moment h.world c.login.new.world e c.login.result c.self.invariant enters
 
 pub returns-clause-state : goal.returns-clause-state
 returns-clause-state c =
     let h = c.self.inside in
     let e = Login c.args.w c.args.user.now in
     let k = turn e (held (house h.domain h.users.items h.turns h.moment h.world)) in
-    subst (λ (x : HouseRecord). held (house h.domain h.users.items (h.turns + 1) h.moment c.login.new.self) ≡ (kept_step (held x) e).state) c.self.view_is
-    (state_enters h.domain h.users.items h.turns h.moment (length c.as_slice.result.now) h.world c.login.new.self e c.login.result refl
+    subst (λ (x : HouseRecord). held (house h.domain h.users.items (h.turns + 1) h.moment c.login.new.world) ≡ (kept_step (held x) e).state) c.self.view_is
+    (state_enters h.domain h.users.items h.turns h.moment (length c.as_slice.result.now) h.world c.login.new.world e c.login.result refl
     (c.login.ensures k refl refl (sym c.as_slice.ensures.value)))
 
 pub returns-clause-reply : goal.returns-clause-reply

@@ -1,7 +1,7 @@
 use Rattle.std.proofs.Common.{◌++◌, ◌∷◌, [], refl, arith}
 use Rattle.session_table.specs.Tables.{line_of}
 use Rattle.house_model.specs.Effects.{Open}
-use Rattle.house_core.specs.Worlds.{left_at, seen}
+use Rattle.house_world.specs.Worlds.{left_at, seen}
 use Rattle.house_core.proofs.CallLemmas.{left_then, whole_is}
 use Rattle.house_core.proofs.house.House.apply_open.Goals as goal
 

@@ -10,15 +10,15 @@ use Rattle.house_core.proofs.house.House.apply_sweep.Goals as goal
 pub invariant_of-self-in_err-reply : goal.invariant_of-self-in_err-reply
 invariant_of-self-in_err-reply c =
     let h = c.self.inside in
-    whole_is h.users.items h.turns h.moment h.moment h.world c.sweep.new.self [] 0 c.self.invariant c.self.invariant.passed (omega arith) (λ world. refl)
+    whole_is h.users.items h.turns h.moment h.moment h.world c.sweep.new.world [] 0 c.self.invariant c.self.invariant.passed (omega arith) (λ world. refl)
     c.in_err-reply.ensures.refused
 
 pub returns-in_err-reply-clause-refused : goal.returns-in_err-reply-clause-refused
 returns-in_err-reply-clause-refused c =
     let h = c.self.inside in
     on_err c.from_residual.result
-    (subst (λ (x : HouseRecord). held (house h.domain h.users.items (h.turns + 1) h.moment c.sweep.new.self) ≡ passed (held x)) c.self.view_is
-    (passed_is h.domain h.users.items h.turns h.moment h.world c.sweep.new.self c.in_err-reply.ensures.refused))
+    (subst (λ (x : HouseRecord). held (house h.domain h.users.items (h.turns + 1) h.moment c.sweep.new.world) ≡ passed (held x)) c.self.view_is
+    (passed_is h.domain h.users.items h.turns h.moment h.world c.sweep.new.world c.in_err-reply.ensures.refused))
 
 pub invariant_of-self-2 : goal.invariant_of-self-2
 invariant_of-self-2 c =
@@ -26,7 +26,7 @@ invariant_of-self-2 c =
     let e = Sweep c.args._w c.args.t in
     let now = c.later-moment.result in
     let k = turn e (held (house h.domain h.users.items h.turns h.moment h.world)) in
-    whole_ends h.domain h.users.items h.turns h.moment now 0 h.world c.sweep.new.self e c.in_ok-reply.reply
+    whole_ends h.domain h.users.items h.turns h.moment now 0 h.world c.sweep.new.world e c.in_ok-reply.reply
     c.self.invariant (later_passed h.moment c.args.t now c.self.invariant.passed c.later-moment.ensures) (omega arith)
     (c.in_ok-reply.ensures.done k c.args._w c.args.t refl (sym c.later-moment.ensures))
 
@@ -36,8 +36,8 @@ returns-clause-state c =
     let e = Sweep c.args._w c.args.t in
     let now = c.later-moment.result in
     let k = turn e (held (house h.domain h.users.items h.turns h.moment h.world)) in
-    subst (λ (x : HouseRecord). held (house h.domain h.users.items (h.turns + 1) now c.sweep.new.self) ≡ (kept_step (held x) e).state) c.self.view_is
-    (state_ends h.domain h.users.items h.turns h.moment now 0 h.world c.sweep.new.self e c.in_ok-reply.reply c.later-moment.ensures
+    subst (λ (x : HouseRecord). held (house h.domain h.users.items (h.turns + 1) now c.sweep.new.world) ≡ (kept_step (held x) e).state) c.self.view_is
+    (state_ends h.domain h.users.items h.turns h.moment now 0 h.world c.sweep.new.world e c.in_ok-reply.reply c.later-moment.ensures
     (c.in_ok-reply.ensures.done k c.args._w c.args.t refl (sym c.later-moment.ensures)))
 
 pub returns-clause-reply : goal.returns-clause-reply

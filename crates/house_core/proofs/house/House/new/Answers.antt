@@ -20,4 +20,4 @@ returns-clause-history c =
 pub invariant_of-result : goal.invariant_of-result
 invariant_of-result c =
     new_whole c.in_ok-copy-2.field-0.domain c.in_ok-copies_of.field-0.items c.args.workers c.in_ok-new.field-0 c.in_ok-no_answers.field-0.items c.new-book.result
-    (search rules) (search rules) c.in_ok-new.ensures c.in_ok-no_answers.ensures (search rules) c.new-book.ensures.book
+    (search rules) (search rules) (search rules) c.in_ok-new.ensures c.in_ok-no_answers.ensures (search rules) c.new-book.ensures.book

@@ -1,0 +1,63 @@
+use Rattle.std.proofs.Common.{ℕ, List, [], refl, sym, ap, subst, ◌∙◌}
+use Rattle.jid_core.specs.Addresses.{Address}
+use Rattle.house_model.specs.declared.event.Event.TheVariants.{Act}
+use Rattle.house_model.specs.Gate.{gate}
+use Rattle.house_model.specs.Steps.{verdict}
+use Rattle.roster_laws.specs.Keeping.{AreKept}
+use Rattle.house_world.specs.declared.world.World as code
+use Rattle.house_world.specs.Keeping.{AreShortNames}
+use Rattle.house_world.specs.Worlds.{Did, seen}
+use Rattle.house_world.proofs.ActLemmas.{act_ends, scene_is, some_kept}
+use Rattle.house_core.proofs.BoundLemmas.{more_ends, on_err}
+use Rattle.house_world.proofs.DidLemmas.{did_none}
+use Rattle.house_core.proofs.EndsLemmas.{stop_ends}
+use Rattle.house_core.proofs.acting.act_at.Goals as goal
+
+pub effects_of-requires-clause-domain : goal.effects_of-requires-clause-domain
+effects_of-requires-clause-domain c =
+    let same = (c.in-Holds.ensures.passes (some_kept (seen c.args.world.now) c.args.moment) refl refl).1 in
+    ap (λ (x : code.World). x.book.domain) same ∙ (c.requires.domain ∙ ap (λ (x : Address). x.domain) (sym c.domain.view_is))
+
+pub effects_of-requires-clause-names : goal.effects_of-requires-clause-names
+effects_of-requires-clause-names c =
+    let same = (c.in-Holds.ensures.passes (some_kept (seen c.args.world.now) c.args.moment) refl refl).1 in
+    subst (λ (x : code.World). AreShortNames x.book.book.asked) (sym same) c.requires.names
+
+pub effects_of-requires-clause-rosters : goal.effects_of-requires-clause-rosters
+effects_of-requires-clause-rosters c =
+    let same = (c.in-Holds.ensures.passes (some_kept (seen c.args.world.now) c.args.moment) refl refl).1 in
+    subst (λ (d : List ℕ). AreKept d c.check.new.world.book.book) (ap (λ (x : Address). x.domain) (sym c.domain.view_is))
+    (subst (λ (x : code.World). AreKept c.args.domain.now.domain x.book.book) (sym same) c.requires.rosters)
+
+pub returns-in_err-effects-in-Holds-clause-refused : goal.returns-in_err-effects-in-Holds-clause-refused
+returns-in_err-effects-in-Holds-clause-refused c =
+    let same = (c.in-Holds.ensures.passes (some_kept (seen c.args.world.now) c.args.moment) refl refl).1 in
+    on_err c.from_residual.result
+    (subst (λ (x : code.World). Did [] 0 x c.check.new.world) same (did_none c.check.new.world c.check.ensures.tied))
+
+pub returns-in_err-prepare-in-Holds-clause-refused : goal.returns-in_err-prepare-in-Holds-clause-refused
+returns-in_err-prepare-in-Holds-clause-refused c =
+    let same = (c.in-Holds.ensures.passes (some_kept (seen c.args.world.now) c.args.moment) refl refl).1 in
+    on_err c.from_residual-in_err-prepare-in-Holds.result
+    (subst (λ (x : code.World). Did [] 0 x c.prepare.new.self) same c.prepare.ensures.same)
+
+pub carry_out-requires-clause-small : goal.carry_out-requires-clause-small
+carry_out-requires-clause-small c =
+    c.prepare.ensures.same.few 18446744073709546614 (c.check.ensures.few 18446744073709546614 c.requires.small)
+
+pub returns-in-Stop-clause-done : goal.returns-in-Stop-clause-done
+returns-in-Stop-clause-done c = λ k world now at names t.
+    let e = Act c.args.w c.args.stanza.now t in
+    more_ends (verdict k e) c.in-Stop.reply c.args.world.now c.check.new.world
+    (stop_ends k e (gate k e) c.in-Stop.reply c.args.world.now c.check.new.world (c.in-Stop.ensures.passes k world now))
+
+pub returns-in_ok-prepare-in-Holds-clause-done : goal.returns-in_ok-prepare-in-Holds-clause-done
+returns-in_ok-prepare-in-Holds-clause-done c = λ k world now at names t.
+    let e = Act c.args.w c.args.stanza.now t in
+    let s = c.in-Holds.session in
+    let passes = c.in-Holds.ensures.passes k world now in
+    act_ends k (gate k e) c.in-Holds.conn s t c.args.w c.args.stanza.now c.args.world.now c.check.new.world c.prepare.new.self c.carry_out.new.self
+    c.in_ok-effects-in-Holds.effects.items passes.0 passes.1 c.prepare.ensures.same (c.carry_out.ensures c.args.stanza.now)
+    (c.in_ok-effects-in-Holds.ensures.effects
+    ∙ scene_is k c.domain.inside.domain c.args.users.now (seen c.check.new.world) s c.args.stanza.now (world ∙ ap seen (sym passes.1))
+    (ap (λ (a : Address). a.domain) (at ∙ sym c.domain.view_is)) names)

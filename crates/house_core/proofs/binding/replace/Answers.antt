@@ -1,0 +1,28 @@
+use Rattle.std.proofs.Common.{◌+◌, ℕ, ap, sym, subst, ◌∙◌, List}
+use Rattle.sm_resume.specs.declared.decision.Cause.TheVariants.{Replaced}
+use Rattle.house_model.specs.Effects.{Effect}
+use Rattle.house_model.specs.Steps.{departs}
+use Rattle.house_core.specs.Bindings.{replaced_by, told_by}
+use Rattle.house_world.specs.Worlds.{Did, seen}
+use Rattle.house_core.proofs.BoundLemmas.{found_in}
+use Rattle.house_world.proofs.DidLemmas.{did_none}
+use Rattle.house_core.proofs.binding.replace.Goals as goal
+
+pub depart-requires-clause-told : goal.depart-requires-clause-told
+depart-requires-clause-told c =
+    let a = c.args.world.now in
+    let at = found_in a c.args.address.now c.requires.tied c.session.ensures.rises ∙ (sym c.at.ensures.number ∙ c.in-Some.is) in
+    c.requires.told ∙ ap (told_by (seen a)) at
+
+pub returns-in-Some-clause-did : goal.returns-in-Some-clause-did
+returns-in-Some-clause-did c =
+    let a = c.args.world.now in
+    let at = found_in a c.args.address.now c.requires.tied c.session.ensures.rises ∙ (sym c.at.ensures.number ∙ c.in-Some.is) in
+    subst (λ (es : List Effect). Did es 0 a c.depart.new.self) (sym (ap (replaced_by (seen a)) at))
+    (subst (λ (n : ℕ). Did (departs (seen a) c.in-Some.s (Replaced (n + 1))) 0 a c.depart.new.self) c.made-next.ensures c.depart.ensures.did)
+
+pub returns-in_default-clause-did : goal.returns-in_default-clause-did
+returns-in_default-clause-did c =
+    let a = c.args.world.now in
+    let at = found_in a c.args.address.now c.requires.tied c.session.ensures.rises ∙ (sym c.at.ensures.number ∙ c.in_default.is) in
+    subst (λ (es : List Effect). Did es 0 a a) (sym (ap (replaced_by (seen a)) at)) (did_none a c.requires.tied)

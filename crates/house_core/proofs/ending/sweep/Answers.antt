@@ -1,0 +1,15 @@
+use Rattle.std.proofs.Common.{◌≡◌, ℕ, true, sym, ap, subst, ◌∙◌}
+use Rattle.session_table.specs.Sessions.{is_due}
+use Rattle.session_table.specs.Tables.{IsFirst, first_due}
+use Rattle.house_core.proofs.SweepLemmas.{nothing_ends, swept_ends}
+use Rattle.house_core.proofs.ending.sweep.Goals as goal
+
+pub returns-in_default-clause-done : goal.returns-in_default-clause-done
+returns-in_default-clause-done c = λ k w t world now.
+    nothing_ends k w t c.due.result c.args.world.now c.requires.tied world c.in_default.is
+    (subst (λ (m : ℕ). IsFirst (λ x. is_due m x ≡ true) c.args.world.now.table c.due.result) (sym now) c.due.ensures.first)
+
+pub returns-clause-done : goal.returns-clause-done
+returns-clause-done c = λ k w t world now.
+    swept_ends k w t c.in-Some.s c.args.world.now c.sweep_away.new.world c.sweep_away.ensures.rises world
+    (ap (λ (m : ℕ). first_due m c.args.world.now.table.sessions) now ∙ sym c.in-Some.ensures.number) c.in_ok-sweep_away.ensures.did

@@ -1,0 +1,30 @@
+use Rattle.std.proofs.Common.{[], sym, ap, subst, arith, ◌∙◌}
+use Rattle.sm_resume.specs.declared.decision.Cause.TheVariants.{Lost}
+use Rattle.house_model.specs.Routing.{departure}
+use Rattle.house_model.specs.States.{World}
+use Rattle.house_model.specs.Steps.{departs}
+use Rattle.house_model.specs.Traffic.{KeptTraffic}
+use Rattle.house_world.specs.Worlds.{Did, seen}
+use Rattle.house_world.proofs.DidLemmas.{did_then}
+use Rattle.house_world.proofs.StayLemmas.{there_kept}
+use Rattle.house_world.proofs.WorldLemmas.{few_later}
+use Rattle.house_core.proofs.ending.sweep_away.Goals as goal
+
+pub depart-requires-clause-small : goal.depart-requires-clause-small
+depart-requires-clause-small c = few_later _ _ c.prepare.new.self.table (c.prepare.ensures.same.few _ c.requires.small) (omega arith)
+
+pub depart-requires-clause-there : goal.depart-requires-clause-there
+depart-requires-clause-there c =
+    there_kept c.args.world.now c.prepare.new.self c.args.s c.requires.tied
+    (ap (λ (x : World KeptTraffic). x.sessions c.args.s) c.prepare.ensures.same.world) c.requires.there
+
+pub depart-requires-clause-told : goal.depart-requires-clause-told
+depart-requires-clause-told c =
+    c.in_ok-told.ensures.effects ∙ ap (λ (x : World KeptTraffic). departure x c.args.s) (sym c.prepare.ensures.same.world)
+
+pub returns-clause-did : goal.returns-clause-did
+returns-clause-did c =
+    let a = c.args.world.now in
+    let b = c.prepare.new.self in
+    did_then [] (departs (seen a) c.args.s Lost) 0 0 a b c.depart.new.self c.prepare.ensures.same
+    (subst (λ (x : World KeptTraffic). Did (departs x c.args.s Lost) 0 b c.depart.new.self) c.prepare.ensures.same.world c.depart.ensures.did)

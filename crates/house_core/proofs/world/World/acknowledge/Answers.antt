@@ -1,4 +1,0 @@
-use Rattle.house_core.proofs.world.World.acknowledge.Goals as goal
-
-pub hear-requires-clause-small : goal.hear-requires-clause-small
-hear-requires-clause-small c = c.check.ensures.few 18446744073709551614 c.requires.small

@@ -1,0 +1,168 @@
+-- How many sessions there are that a new one of an address has to leave room for.
+use Rattle.std.proofs.Common.{◌≡◌, ◌≢◌, inl, inr, ℕ, zero, suc, ◌+◌, ◌<◌, ◌≤◌, ◌&&◌, nat_lt, nat_eq, not, cond, Bool, true, false}
+use Rattle.std.proofs.Common.{List, [], ◌∷◌, Option, Some, None, if◌then◌else◌, arith, refl, sym, ap, ◌∙◌}
+use Rattle.std.specs.Map.{lookup}
+use Rattle.std.proofs.lemmas.Bool.{ne_eqb}
+use Rattle.std.proofs.lemmas.Bool.Decides.{eqb_tells}
+use Rattle.jid_core.specs.Addresses.{Address, same_address, same_bare}
+use Rattle.session_table.specs.declared.line.Line as stage
+use Rattle.session_table.specs.Sessions.{SessionRecord}
+use Rattle.session_table.specs.Tables.{Rises, TableRecord, session_of}
+use Rattle.house_model.specs.declared.answer.Answer.{Answer}
+use Rattle.house_model.specs.Numbered.{passing}
+use Rattle.house_model.specs.States.{World, Kept}
+use Rattle.house_model.specs.Lookups.{is_there, is_at}
+use Rattle.house_model.specs.Steps.{has_place}
+use Rattle.house_model.specs.Traffic.{KeptTraffic}
+use Rattle.contact_table.specs.Books.{Book}
+use Rattle.house_world.specs.Views.{session_by, sessions_of, world_of}
+use Rattle.house_world.specs.Wholes.{IsSession, IsTied}
+use Rattle.house_world.proofs.AtLemmas.{there_is}
+use Rattle.house_world.proofs.DueLemmas.{passes}
+
+abbrev pub one_if : Bool → ℕ
+one_if b = if b then 1 else 0
+
+-- how many of a list's sessions pass a test
+abbrev pub counted : (SessionRecord → Bool) → List (ℕ × SessionRecord) → ℕ
+counted pick [] = 0
+counted pick (e ∷ more) = one_if (pick e.1) + counted pick more
+
+passing_same : (n : ℕ) (test other : ℕ → Bool) → ((s : ℕ) → s ≤ n → other s ≡ test s) → passing n other ≡ passing n test
+passing_same zero test other same = refl
+passing_same (suc n) test other same = λ i.
+    passing_same n test other (λ s low. same s (omega (arith, low))) i + one_if (same (suc n) (omega arith) i)
+
+passing_none : (n : ℕ) (test : ℕ → Bool) → ((s : ℕ) → test s ≡ false) → passing n test ≡ 0
+passing_none zero test none = refl
+passing_none (suc n) test none =
+    let before = passing_none n test none in
+    let here : one_if (test (suc n)) ≡ 0 = ap one_if (none (suc n)) in
+    omega (arith, before, here)
+
+-- one number more is told by the test
+passing_more : (n k : ℕ) (b : Bool) (test other : ℕ → Bool) → 0 < k → k ≤ n → test k ≡ false → other k ≡ b
+    → ((s : ℕ) → (s ≡ k → ⊥) → other s ≡ test s) → passing n other ≡ one_if b + passing n test
+passing_more zero k b test other above low here there same = absurd (omega (arith, above, low))
+passing_more (suc n) k b test other above low here there same = elim (eqb_tells k (suc n)) [
+  | inl p ↦
+      let is : k ≡ suc n = p.1 in
+      let before : passing n other ≡ passing n test = passing_same n test other (λ s under. same s (λ e. omega (arith, is, e, under))) in
+      let new : one_if (other (suc n)) ≡ one_if b = ap one_if (ap other (sym is) ∙ there) in
+      let old : one_if (test (suc n)) ≡ 0 = ap one_if (ap test (sym is) ∙ here) in
+      omega (arith, before, new, old)
+  | inr p ↦
+      let apart : k ≢ suc n = p.1 in
+      let before : passing n other ≡ one_if b + passing n test =
+      passing_more n k b test other above (omega (arith, low, apart)) here there same in
+      let last : one_if (other (suc n)) ≡ one_if (test (suc n)) = ap one_if (same (suc n) (λ e. apart (sym e))) in
+      omega (arith, before, last)
+]
+
+passing_most : (n : ℕ) (test : ℕ → Bool) → passing n test ≤ n
+passing_most zero test = omega arith
+passing_most (suc n) test =
+    let before = passing_most n test in
+    let here = most_one (test (suc n)) in
+    omega (arith, before, here)
+  where
+    most_one : (b : Bool) → one_if b ≤ 1
+    most_one true = omega arith
+    most_one false = omega arith
+
+pub rises_most : (last made : ℕ) (es : List (ℕ × SessionRecord)) → Rises last es made → last ≤ made
+rises_most last made [] rises = rises
+rises_most last made (e ∷ more) rises =
+    let first = rises.0 in
+    let rest = rises_most e.0 made more rises.1 in
+    omega (arith, first, rest)
+
+pub none_below : (n last made : ℕ) (es : List (ℕ × SessionRecord)) → Rises last es made → n ≤ last → lookup (nat_eq n) es ≡ None
+none_below n last made [] rises low = refl
+none_below n last made (e ∷ more) rises low =
+    let first = rises.0 in
+    ap (λ (b : Bool). cond b (Some e.1) (lookup (nat_eq n) more)) (ne_eqb n e.0 (λ is. omega (arith, first, low, is)))
+    ∙ none_below n e.0 made more rises.1 (omega (arith, first, low))
+
+pub passing_listed : (pick : SessionRecord → Bool) (last made : ℕ) (es : List (ℕ × SessionRecord)) → Rises last es made
+    → passing made (λ s. passes pick (lookup (nat_eq s) es)) ≡ counted pick es
+passing_listed pick last made [] rises = passing_none made (λ s. false) (λ s. refl)
+passing_listed pick last made (e ∷ more) rises =
+    let first = rises.0 in
+    passing_more made e.0 (pick e.1) (λ s. passes pick (lookup (nat_eq s) more)) (λ s. passes pick (lookup (nat_eq s) (e ∷ more)))
+    (omega (arith, first)) (rises_most e.0 made more rises.1)
+    (ap (passes pick) (none_below e.0 e.0 made more rises.1 (omega arith)))
+    (elim (eqb_tells e.0 e.0) [
+      | inl p ↦ ap (λ (b : Bool). passes pick (cond b (Some e.1) (lookup (nat_eq e.0) more))) p.0
+      | inr p ↦ absurd (p.1 refl)
+    ])
+    (λ s other. ap (λ (b : Bool). passes pick (cond b (Some e.1) (lookup (nat_eq s) more))) (ne_eqb s e.0 other))
+    ∙ ap (λ n. one_if (pick e.1) + n) (passing_listed pick e.0 made more rises.1)
+
+pub counted_most : (pick : SessionRecord → Bool) (t : TableRecord) → Rises 0 t.sessions t.made → counted pick t.sessions ≤ t.made
+counted_most pick t rises =
+    let most = passing_most t.made (λ s. passes pick (session_of s t)) in
+    let same = passing_listed pick 0 t.made t.sessions rises in
+    omega (arith, most, same)
+
+-- the sessions that count for one more of an address, and those of its user
+abbrev pub is_other : Address → SessionRecord → Bool
+is_other a x = not (same_address x.address a)
+
+abbrev pub is_users_other : Address → SessionRecord → Bool
+is_users_other a x = same_bare x.address a && not (same_address x.address a)
+
+other_by : (a : Address) (lines : List stage.Line) (o : Option SessionRecord) → ((x : SessionRecord) → o ≡ Some x → IsSession x)
+    → (is_there (session_by lines o) && not (is_at a (session_by lines o))) ≡ passes (is_other a) o
+other_by a lines None each = refl
+other_by a lines (Some x) each = ap (λ b. b && not (b && same_address x.address a)) (there_is x lines (each x refl))
+
+users_by : (a : Address) (lines : List stage.Line) (o : Option SessionRecord) → ((x : SessionRecord) → o ≡ Some x → IsSession x)
+    → (is_there (session_by lines o) && (same_bare (session_by lines o).rest.address a && not (is_at a (session_by lines o))))
+    ≡ passes (is_users_other a) o
+users_by a lines None each = refl
+users_by a lines (Some x) each =
+    ap (λ b. b && (same_bare x.address a && not (b && same_address x.address a))) (there_is x lines (each x refl))
+
+pub place_is : (k : Kept) (a : Address) (t : TableRecord) (answers : List (List Answer)) (book : Book) → IsTied t → Rises 0 t.sessions t.made
+    → k.world ≡ world_of t answers book
+    → has_place k a ≡ (nat_lt (counted (is_other a) t.sessions) 512 && nat_lt (counted (is_users_other a) t.sessions) 16)
+place_is k a t answers book tied rises world =
+    ap (λ (x : World KeptTraffic). nat_lt (passing x.made (λ s. is_there (x.sessions s) && not (is_at a (x.sessions s)))) 512
+    && nat_lt (passing x.made (λ s. is_there (x.sessions s) && (same_bare (x.sessions s).rest.address a && not (is_at a (x.sessions s))))) 16) world
+    ∙ (λ i. nat_lt (all i) 512 && nat_lt (users i) 16)
+  where
+    all : passing t.made (λ s. is_there (sessions_of t s) && not (is_at a (sessions_of t s))) ≡ counted (is_other a) t.sessions
+    all =
+        (λ i. passing t.made (λ s. other_by a t.lines (session_of s t) (tied.each s) i))
+        ∙ passing_listed (is_other a) 0 t.made t.sessions rises
+
+    users : passing t.made (λ s. is_there (sessions_of t s) && (same_bare (sessions_of t s).rest.address a && not (is_at a (sessions_of t s))))
+        ≡ counted (is_users_other a) t.sessions
+    users =
+        (λ i. passing t.made (λ s. users_by a t.lines (session_of s t) (tied.each s) i))
+        ∙ passing_listed (is_users_other a) 0 t.made t.sessions rises
+
+-- a count, where none is left
+counted_end : (n : ℕ) (pick : SessionRecord → Bool) (rest es : List (ℕ × SessionRecord)) → rest ≡ [] → n + counted pick rest ≡ counted pick es
+    → counted pick es ≡ n
+counted_end n pick rest es end all =
+    let none : counted pick rest ≡ 0 = ap (counted pick) end in
+    omega (arith, none, all)
+
+pub place_counted : (k : Kept) (a : Address) (t : TableRecord) (answers : List (List Answer)) (book : Book) (n m : ℕ) (rest : List (ℕ × SessionRecord))
+    → IsTied t → Rises 0 t.sessions t.made → k.world ≡ world_of t answers book → rest ≡ []
+    → n + counted (is_other a) rest ≡ counted (is_other a) t.sessions → m + counted (is_users_other a) rest ≡ counted (is_users_other a) t.sessions
+    → has_place k a ≡ (nat_lt n 512 && nat_lt m 16)
+place_counted k a t answers book n m rest tied rises world end all users =
+    place_is k a t answers book tied rises world
+    ∙ (λ i. nat_lt (counted_end n (is_other a) rest t.sessions end all i) 512 && nat_lt (counted_end m (is_users_other a) rest t.sessions end users i) 16)
+
+-- one more is counted, where one is left
+pub counted_below : (n : ℕ) (pick : SessionRecord → Bool) (t : TableRecord) (e : ℕ × SessionRecord) (rest more : List (ℕ × SessionRecord))
+    → Rises 0 t.sessions t.made → n + counted pick rest ≡ counted pick t.sessions → rest ≡ e ∷ more → pick e.1 ≡ true → n + 1 ≤ t.made
+counted_below n pick t e rest more rises all left is =
+    let here : one_if (pick e.1) ≡ 1 = ap one_if is in
+    let next : counted pick rest ≡ one_if (pick e.1) + counted pick more = ap (counted pick) left in
+    let most = counted_most pick t rises in
+    omega (arith, here, next, most, all)

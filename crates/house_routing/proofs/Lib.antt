@@ -1,0 +1,4 @@
+pub mod ListedLemmas
+pub mod RosterLemmas
+pub mod RoutingLemmas
+pub mod CountLemmas

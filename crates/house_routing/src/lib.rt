@@ -1,0 +1,14 @@
+//! What the house makes of stanzas and departures: the world is read, and effects come of it. Nothing here changes the world.
+#![tactic(auto)]
+
+mod listing;
+mod messages;
+mod presence;
+mod requests;
+mod rosters;
+mod routing;
+mod sight;
+mod users;
+
+pub use routing::{departure, effects_of};
+pub use users::place_among;

@@ -1,0 +1,155 @@
+//! Messages (RFC 6121, 8.5).
+ghost use Rattle.std.specs.Prelude.{◌≡◌, IfOk};
+ghost use Rattle.std.specs.Option.{option_copied};
+ghost use Rattle.house_model.specs.Routing.{chosen, delivered, has_account, is_invitation, message, receivers, to_no_room, to_users, user_in};
+ghost use Rattle.house_routing.specs.Listings.{message_copied};
+ghost use Rattle.house_world.specs.Wholes.{IsTied};
+ghost use Rattle.house_world.specs.Worlds.{seen};
+
+use crate::listing::{live_for, sessions_of};
+use crate::requests::one;
+use crate::users::place_among;
+use house_model::{MessageForm, Stanza};
+use house_world::World;
+use jid_core::Part;
+use stanza_model::{Condition, Effect, Here, refuse};
+use stanza_router::{Place, copy_to, deliver, keep_receivers};
+use stanza_tree::{Element, NoMemory};
+use std::alloc::Global;
+
+/// The namespace of what occupants and others say of rooms (XEP-0045, 7.8).
+const ROOM_USER_SPACE: &[u8] = b"http://jabber.org/protocol/muc#user";
+
+/// Whether a message is an invitation to a room, or a decline of one (XEP-0045, 7.8).
+fn is_invitation(message: &Element) -> bool
+    ensures { result ≡ is_invitation message.now }
+{
+    match message.child(ROOM_USER_SPACE, b"x") {
+        Some(x) => {
+            x.child(ROOM_USER_SPACE, b"invite").is_some()
+                || x.child(ROOM_USER_SPACE, b"decline").is_some()
+        }
+        None => false,
+    }
+}
+
+/// Why a message for a room is refused that isn't there.
+fn to_no_room(form: MessageForm, message: &Element) -> Condition
+    ensures { result ≡ to_no_room form message.now }
+{
+    match form {
+        MessageForm::Groupchat => Condition::ItemNotFound,
+        _ if is_invitation(message) => Condition::ItemNotFound,
+        _ => Condition::BadRequest,
+    }
+}
+
+/// A copy of a message for a session.
+fn copy_message(alloc: Global, who: &Here, stanza: &Stanza, s: u64) -> Result<Vec<Effect>, NoMemory>
+    ensures { IfOk result (λ effects. effects.items ≡ message_copied who.now stanza.now s) }
+{
+    match stanza {
+        Stanza::Message { to, element, .. } => {
+            one(alloc, copy_to(alloc, who, to.as_ref(), element, s)?)
+        }
+        _ => Ok(Vec::new(alloc)),
+    }
+}
+
+/// The user whose a place is, where `own` is the sender.
+pub(crate) fn user_in<'a>(own: &'a Part, place: &'a Place) -> Option<&'a Part>
+    ensures { option_copied result ≡ user_in own.now place.now }
+{
+    match place {
+        Place::Account => Some(own),
+        Place::User(user) | Place::UserAt(user, _) => Some(user),
+        _ => None,
+    }
+}
+
+/// Whether a place's user has an account, as one has whose session a stanza finds.
+pub(crate) fn has_account(users: &[Part], user: Option<&Part>, found: &[Here]) -> bool
+    ensures { result ≡ has_account users.now (option_copied user.entry) found.now }
+{
+    if !found.is_empty() {
+        return true;
+    }
+    match user {
+        Some(user) => place_among(users, user).is_some(),
+        None => false,
+    }
+}
+
+/// Those whom RFC 6121 chooses among a user's sessions.
+fn chosen(
+    world: &World,
+    alloc: Global,
+    form: MessageForm,
+    place: &Place,
+    user: Option<&Part>,
+) -> Result<Vec<Here>, NoMemory>
+    requires tied { IsTied world.now.table }
+    ensures { IfOk result (λ found. found.items ≡ chosen (seen world.now) form place.now (option_copied user.entry)) }
+{
+    let Some(user) = user else {
+        return Ok(Vec::new(alloc));
+    };
+    let mut sessions = sessions_of(world, alloc, user)?;
+    keep_receivers(form, place, &mut sessions);
+    Ok(sessions)
+}
+
+/// What comes of a message for users: a copy for the session at its address, or what RFC 6121 says of the user's sessions.
+fn to_users(
+    world: &World,
+    alloc: Global,
+    users: &[Part],
+    who: &Here,
+    stanza: &Stanza,
+    form: MessageForm,
+    place: &Place,
+    user: Option<&Part>,
+) -> Result<Vec<Effect>, NoMemory>
+    requires tied { IsTied world.now.table }
+    ensures { IfOk result (λ effects. effects.items
+        ≡ to_users users.now (seen world.now) who.now stanza.now form place.now (option_copied user.entry)) }
+{
+    if let Some(s) = live_for(world, place, stanza.to()) {
+        return copy_message(alloc, who, stanza, s);
+    }
+    let found = chosen(world, alloc, form, place, user)?;
+    let known = has_account(users, user, found.as_slice());
+    deliver(alloc, who, stanza, place, known, found.as_slice())
+}
+
+/// What comes of a message. There are no rooms yet, so each for a room is for one that isn't there.
+pub(crate) fn message(
+    world: &World,
+    alloc: Global,
+    users: &[Part],
+    own: &Part,
+    who: &Here,
+    stanza: &Stanza,
+    form: MessageForm,
+    element: &Element,
+    place: &Place,
+) -> Result<Vec<Effect>, NoMemory>
+    requires tied { IsTied world.now.table }
+    ensures { IfOk result (λ effects. effects.items
+        ≡ message users.now (seen world.now) own.now who.now stanza.now form element.now place.now) }
+{
+    match place {
+        Place::Room(_) => refuse(alloc, who, stanza, to_no_room(form, element)),
+        Place::RoomAt(_, _) => refuse(alloc, who, stanza, Condition::ItemNotFound),
+        _ => to_users(
+            world,
+            alloc,
+            users,
+            who,
+            stanza,
+            form,
+            place,
+            user_in(own, place),
+        ),
+    }
+}

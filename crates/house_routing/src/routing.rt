@@ -1,0 +1,165 @@
+//! What comes of a stanza, by its kind and the place that it is for.
+ghost use Rattle.std.specs.Prelude.{◌≡◌, true, IfOk};
+ghost use Rattle.std.specs.Option.{option_copied};
+ghost use Rattle.house_model.specs.Fitting.{AreSmall};
+ghost use Rattle.house_model.specs.Histories.{StanzaFits};
+ghost use Rattle.house_model.specs.Routing.{departure, departure_by, effects_at, effects_in};
+ghost use Rattle.roster_laws.specs.Keeping.{AreKept};
+ghost use Rattle.session_table.specs.Tables.{is_there};
+ghost use Rattle.house_world.specs.Keeping.{AreShortNames};
+ghost use Rattle.house_world.specs.Wholes.{IsTied};
+ghost use Rattle.house_world.specs.Worlds.{IsHeld, seen};
+
+use crate::listing::{directed_by, here, named};
+use crate::messages::message;
+use crate::presence::presence;
+use crate::requests::iq;
+use crate::sight::watchers;
+use house_model::Stanza;
+use house_world::{World, know_part, know_to};
+use jid_core::Part;
+use presence_core::unavailable;
+use stanza_model::{Effect, Here, refuse};
+use stanza_router::{Place, place};
+use stanza_tree::NoMemory;
+use std::alloc::Global;
+
+/// What comes of a stanza of `who`, whose local part is `own`, at a place.
+fn effects_at(
+    world: &World,
+    alloc: Global,
+    domain: &Part,
+    users: &[Part],
+    own: &Part,
+    who: &Here,
+    stanza: &Stanza,
+    place: &Place,
+) -> Result<Vec<Effect>, NoMemory>
+    requires tied { IsTied world.now.table }
+    requires domain { world.now.book.domain ≡ domain.now }
+    ensures { IfOk result (λ effects. effects.items
+        ≡ effects_at (record { domain = domain.now; users = users.now; world = seen world.now }) own.now who.now stanza.now place.now) }
+{
+    match stanza {
+        Stanza::Message { form, element, .. } => {
+            message(world, alloc, users, own, who, stanza, *form, element, place)
+        }
+        Stanza::Presence { to, form, element } => {
+            presence(
+                world,
+                alloc,
+                domain,
+                users,
+                own,
+                who,
+                stanza,
+                to.as_ref(),
+                *form,
+                element,
+                place,
+            )
+        }
+        Stanza::Iq { to, element, .. } => {
+            iq(
+                world,
+                alloc,
+                domain,
+                own,
+                who,
+                stanza,
+                to.as_ref(),
+                element,
+                place,
+            )
+        }
+        Stanza::Faulty { condition, .. } => refuse(alloc, who, stanza, *condition),
+    }
+}
+
+fn effects_in(
+    world: &World,
+    alloc: Global,
+    domain: &Part,
+    users: &[Part],
+    s: u64,
+    stanza: &Stanza,
+) -> Result<Vec<Effect>, NoMemory>
+    requires tied { IsTied world.now.table }
+    requires held { IsHeld s world.now.table }
+    requires domain { world.now.book.domain ≡ domain.now }
+    ensures { IfOk result (λ effects. effects.items ≡ effects_in (record { domain = domain.now; users = users.now; world = seen world.now }) s stanza.now) }
+{
+    let Some(who) = here(world, alloc, s)? else {
+        return Ok(Vec::new(alloc));
+    };
+    let Some(own) = &who.address.local else {
+        return Ok(Vec::new(alloc));
+    };
+    let place = place(alloc, stanza.to(), own, domain)?;
+    effects_at(world, alloc, domain, users, own, &who, stanza, &place)
+}
+
+/// The effects of a stanza of a session. What they queue is short. Costs the size of the stanza and of the effects, and a look at each session.
+pub fn effects_of(
+    world: &World,
+    alloc: Global,
+    domain: &Part,
+    users: &[Part],
+    s: u64,
+    stanza: &Stanza,
+) -> Result<Vec<Effect>, NoMemory>
+    requires tied { IsTied world.now.table }
+    requires held { IsHeld s world.now.table }
+    requires domain { world.now.book.domain ≡ domain.now }
+    requires names { AreShortNames world.now.book.book.asked }
+    requires rosters { AreKept domain.now world.now.book.book }
+    requires fits { StanzaFits stanza.now }
+    ensures effects { IfOk result (λ effects. effects.items ≡ effects_in
+        (record { domain = domain.now; users = users.now; world = seen world.now }) s stanza.now) }
+    ensures short { IfOk result (λ effects. AreSmall effects.items) }
+{
+    know_part(domain);
+    know_to(stanza);
+    let effects = effects_in(world, alloc, domain, users, s, stanza)?;
+    Ok(effects)
+}
+
+/// What others are told of a session that departs.
+fn departure_of(
+    world: &World,
+    alloc: Global,
+    own: Option<&Part>,
+    who: &Here,
+) -> Result<Vec<Effect>, NoMemory>
+    requires tied { IsTied world.now.table }
+    ensures { IfOk result (λ effects. effects.items ≡ departure_by (option_copied own.entry) (seen world.now) who.now) }
+{
+    let Some(own) = own else {
+        return Ok(Vec::new(alloc));
+    };
+    let watchers = watchers(world, alloc, own, who)?;
+    let named = named(world, alloc, directed_by(world, who))?;
+    unavailable(alloc, who, None, watchers.as_slice(), named.as_slice())
+}
+
+fn departure_in(world: &World, alloc: Global, s: u64) -> Result<Vec<Effect>, NoMemory>
+    requires tied { IsTied world.now.table }
+    requires there { is_there s world.now.table ≡ true }
+    ensures { IfOk result (λ effects. effects.items ≡ departure (seen world.now) s) }
+{
+    match here(world, alloc, s)? {
+        Some(who) => departure_of(world, alloc, who.address.local.as_ref(), &who),
+        None => Ok(Vec::new(alloc)),
+    }
+}
+
+/// What others are told of a session that departs. It is short. Costs a look at each session, and the size of what is told.
+pub fn departure(world: &World, alloc: Global, s: u64) -> Result<Vec<Effect>, NoMemory>
+    requires tied { IsTied world.now.table }
+    requires there { is_there s world.now.table ≡ true }
+    ensures effects { IfOk result (λ effects. effects.items ≡ departure (seen world.now) s) }
+    ensures short { IfOk result (λ effects. AreSmall effects.items) }
+{
+    let effects = departure_in(world, alloc, s)?;
+    Ok(effects)
+}

@@ -1,0 +1,53 @@
+use Rattle.std.proofs.Common.{arith, ◌∷◌, [], List, map, sym, subst, ◌∙◌}
+use Rattle.stanza_model.specs.declared.effect.Effect as stanza
+use Rattle.session_table.specs.Tables.{session_of}
+use Rattle.house_model.specs.Effects.{On}
+use Rattle.house_model.specs.Routing.{departure}
+use Rattle.house_model.specs.Sessions.{End, Part}
+use Rattle.house_model.specs.Steps.{effect_of}
+use Rattle.house_world.specs.Readiness.{needed}
+use Rattle.house_world.specs.Worlds.{Did, seen}
+use Rattle.house_world.proofs.DepartLemmas.{some_of}
+use Rattle.house_world.proofs.DidLemmas.{did_then}
+use Rattle.house_world.proofs.StayLemmas.{ended_over, stays_then}
+use Rattle.house_world.proofs.WorldLemmas.{few_later}
+use Rattle.house_world.proofs.world.World.depart.Goals as goal
+
+pub apply_all-requires-clause-answered : goal.apply_all-requires-clause-answered
+apply_all-requires-clause-answered c =
+    let did = c.end.ensures.did in
+    did.answered ∙ (c.requires.answered ∙ sym did.lines)
+
+pub apply_all-requires-clause-small : goal.apply_all-requires-clause-small
+apply_all-requires-clause-small c = few_later _ _ c.end.new.self.table (c.end.ensures.did.few _ c.requires.small) (omega arith)
+
+pub apply_all-requires-clause-ready : goal.apply_all-requires-clause-ready
+apply_all-requires-clause-ready c = λ s. c.end.ensures.queues (needed s c.args.told.items) s (c.requires.ready s)
+
+pub remove-requires-clause-over : goal.remove-requires-clause-over
+remove-requires-clause-over c =
+    let who = some_of (session_of c.args.s c.args.self.now.table) c.requires.there in
+    c.apply_all.ensures.stays.over c.args.s
+    (ended_over c.args.self.now c.end.new.self c.args.s who.0 c.args.cause c.requires.tied who.1 c.end.ensures.did)
+
+pub returns-clause-did : goal.returns-clause-did
+returns-clause-did c =
+    let a = c.args.self.now in
+    let s = c.args.s in
+    let es : List stanza.Effect = departure (seen a) s in
+    let middle : Did (map effect_of es) 0 c.end.new.self c.apply_all.new.self =
+    subst (λ (xs : List stanza.Effect). Did (map effect_of xs) 0 c.end.new.self c.apply_all.new.self) c.requires.told c.apply_all.ensures.did in
+    did_then (On s (End c.args.cause) ∷ map effect_of es) (On s Part ∷ []) 0 0 a c.apply_all.new.self c.remove.new.self
+    (did_then (On s (End c.args.cause) ∷ []) (map effect_of es) 0 0 a c.end.new.self c.apply_all.new.self c.end.ensures.did middle)
+    c.remove.ensures.did
+
+pub returns-clause-others : goal.returns-clause-others
+returns-clause-others c = λ w d u at.
+    let kept = (stays_then c.args.self.now c.end.new.self c.apply_all.new.self c.end.ensures.stays c.apply_all.ensures.stays).logged w d u at in
+    let last = c.remove.ensures.others w d u kept.0 in
+    (last.0, last.1 ∙ kept.1)
+
+pub returns-clause-room : goal.returns-clause-room
+returns-clause-room c =
+    let same = (stays_then c.args.self.now c.end.new.self c.apply_all.new.self c.end.ensures.stays c.apply_all.ensures.stays).spare in
+    omega (arith, same, c.remove.ensures.room)

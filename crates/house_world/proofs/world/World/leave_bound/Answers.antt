@@ -1,0 +1,22 @@
+use Rattle.std.proofs.Common.{ap, ◌∙◌}
+use Rattle.session_table.specs.Tables.{changed, holds}
+use Rattle.session_table.proofs.ListLemmas.{rises_changed}
+use Rattle.house_world.specs.Worlds.{released}
+use Rattle.house_world.proofs.EndLemmas.{leave_did, leave_free}
+use Rattle.house_world.proofs.LeavingLemmas.{free_holds}
+use Rattle.house_world.proofs.world.World.leave_bound.Goals as goal
+
+pub clear-requires-clause-free : goal.clear-requires-clause-free
+clear-requires-clause-free c =
+    let t = c.args.self.now.table in
+    let w = c.args.w in
+    let s = c.args.s in
+    let m = c.args.moment in
+    ap (holds w) c.release.ensures.table
+    ∙ free_holds w (changed s (released m) t) (rises_changed s 0 t.made (released m) t.sessions c.session.ensures.rises)
+    (leave_free c.args.self.now w s m c.requires.tied c.requires.line c.requires.answered c.requires.held)
+
+pub returns : goal.returns
+returns c =
+    leave_did c.args.self.now c.args.w c.args.s c.args.moment c.requires.tied c.requires.line c.requires.answered c.requires.held
+    c.clear.new.self c.release.new.self.table c.clear-2.new.self c.release.ensures.table c.clear.ensures c.clear-2.ensures c.release.new.self c.release.ensures.answers c.release.ensures.book

@@ -1,0 +1,51 @@
+-- Whether there is room for what effects queue.
+use Rattle.std.specs.Prelude.{ℕ, ◌+◌, ◌≤◌, ◌==◌, List, [], ◌∷◌, count_by, is_some, if◌then◌else◌}
+use Rattle.stanza_model.specs.declared.effect.Effect.{Effect}
+use Rattle.stanza_model.specs.declared.effect.Effect.TheVariants.{Queue, Set}
+use Rattle.contact_table.specs.Tables as book
+use Rattle.session_table.specs.Tables.{TableRecord}
+use Rattle.house_world.specs.Marks.{named_by}
+use Rattle.house_world.specs.Wholes.{HasSpare}
+
+abbrev pub needed_by : ℕ → Effect → ℕ
+needed_by s (Queue r to rest origin) = if s == r then 1 else 0
+needed_by s (Set change) = 0
+
+-- how many stanzas effects queue for session s
+abbrev pub needed : ℕ → List Effect → ℕ
+needed s [] = 0
+needed s (e ∷ more) = needed_by s e + needed s more
+
+-- the session of each stanza that they queue
+abbrev pub queued_for : List Effect → List ℕ
+queued_for [] = []
+queued_for (Queue s to rest origin ∷ more) = s ∷ queued_for more
+queued_for (Set change ∷ more) = queued_for more
+
+-- how often a number is in a list
+abbrev pub times : ℕ → List ℕ → ℕ
+times s numbers = count_by (λ r. s == r) numbers
+
+-- there is room for all that they queue
+abbrev pub AreReady : List Effect → TableRecord → Type 0
+AreReady effects t = (s : ℕ) → HasSpare (needed s effects) s t
+
+-- how many changes of a user are noted
+
+abbrev pub notes_by : (user : List ℕ) → Effect → ℕ
+notes_by user (Queue s to rest origin) = 0
+notes_by user (Set change) = book.needed user change
+
+abbrev pub notes : (user : List ℕ) → List Effect → ℕ
+notes user [] = 0
+notes user (e ∷ more) = notes_by user e + notes user more
+
+-- how many changes are noted, whoever's
+abbrev pub changes_in : List Effect → ℕ
+changes_in [] = 0
+changes_in (Queue s to rest origin ∷ more) = changes_in more
+changes_in (Set change ∷ more) = (if is_some (named_by change) then 0 else 1) + changes_in more
+
+-- there is room for all of them
+abbrev pub AreNotable : List Effect → book.BookRecord → Type 0
+AreNotable effects k = (user : List ℕ) → notes user effects ≤ book.spare user k

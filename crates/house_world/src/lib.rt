@@ -1,0 +1,20 @@
+//! The world of the house: lines, sessions and their queues, the answers that wait, and what is kept of users; and how each effect changes it.
+#![tactic(auto)]
+
+mod answers;
+mod applying;
+mod deeds;
+mod free;
+mod leaving;
+mod lengths;
+mod marking;
+mod parting;
+mod reserving;
+mod stirring;
+mod world;
+
+pub use answers::{Answers, MOST_ANSWERS, push_request};
+pub use deeds::{given, inward};
+pub use lengths::{know_part, know_to};
+pub use stirring::Stirred;
+pub use world::World;

@@ -1,0 +1,151 @@
+//! What is kept of what a session's client told of itself, and was told of its roster (RFC 6121, 2.1.6, 4.2 and 4.6).
+ghost use Rattle.std.specs.Prelude.{◌≡◌, ◌<◌, ◌+◌, ◌^◌, ◌≤◌, ℕ, List, [], ◌∷◌, pos, true, Some, None};
+ghost use Rattle.stanza_model.specs.declared.effect.Effect.{Effect};
+ghost use Rattle.contact_table.specs.Tables.{needed, spare};
+ghost use Rattle.house_world.specs.Keeping.{IsShortChange};
+ghost use Rattle.house_model.specs.Fitting.{IsSmall};
+ghost use Rattle.house_model.specs.Steps.{set};
+ghost use Rattle.house_world.specs.Marks.{named_by, set_by};
+ghost use Rattle.house_world.specs.Wholes.{HasSpare, IsTied};
+ghost use Rattle.house_world.specs.Worlds.{Did, Stays};
+
+use crate::lengths::know_part;
+use crate::world::World;
+use contact_table::user_of;
+use jid_core::Jid;
+use session_table::Session;
+use stanza_model::Change;
+use stanza_tree::{Several, Text};
+
+/// Its client is available, with this presence and this priority.
+fn show(session: &mut Session, stanza: Text, priority: i16)
+    ensures { session.new ≡ record session.old { presence = Some stanza; priority = priority } }
+{
+    session.presence = Some(stanza);
+    session.priority = priority;
+}
+
+/// Its client is unavailable.
+fn hide(session: &mut Session)
+    ensures { session.new ≡ record session.old { presence = None; priority = pos 0 } }
+{
+    session.presence = None;
+    session.priority = 0;
+}
+
+/// Its client sent presence to these addresses alone.
+fn direct(session: &mut Session, addresses: Several<Jid>)
+    ensures { session.new ≡ record session.old { directed = addresses } }
+{
+    session.directed = addresses;
+}
+
+/// Its client asked for its roster.
+fn want_roster(session: &mut Session)
+    ensures { session.new ≡ record session.old { wants_roster = true } }
+{
+    session.wants_roster = true;
+}
+
+/// So many pushes of its roster were queued for it.
+fn count_pushes(session: &mut Session, pushes: u64)
+    ensures { session.new ≡ record session.old { pushes = pushes } }
+{
+    session.pushes = pushes;
+}
+
+/// The number of the session that a change is of.
+pub(crate) fn named_by(change: &Change) -> Option<u64>
+    ensures { result ≡ named_by change.now }
+{
+    match change {
+        Change::WantsRoster { session }
+        | Change::Pushed { session, .. }
+        | Change::Available { session, .. }
+        | Change::Unavailable { session }
+        | Change::Directed { session, .. } => Some(*session),
+        _ => None,
+    }
+}
+
+/// A change is made of its session.
+fn mark(session: &mut Session, change: Change)
+    ensures { session.new ≡ set_by change session.old }
+{
+    match change {
+        Change::WantsRoster { .. } => want_roster(session),
+        Change::Pushed { pushes, .. } => count_pushes(session, pushes),
+        Change::Available {
+            stanza,
+            priority,
+            ..
+        } => show(session, stanza, priority),
+        Change::Unavailable { .. } => hide(session),
+        Change::Directed { addresses, .. } => direct(session, addresses),
+        _ => {}
+    }
+}
+
+fn know_count(_pushes: u64)
+    ensures { _pushes < 2 ^ 64 }
+{}
+
+// The names in a change are short, and so is a count.
+fn know_change(change: &Change)
+    ensures { IsShortChange change.now }
+{
+    match change {
+        Change::Asked { a, .. } => know_part(user_of(a)),
+        Change::Pushed { pushes, .. } => know_count(*pushes),
+        _ => {}
+    }
+}
+
+impl World {
+    /// A change is made of its session, where that is there.
+    fn set_session(&mut self, s: u64, change: Change)
+        requires tied { IsTied self.old.table }
+        requires short { IsSmall (Effect.Set change) }
+        requires named { named_by change ≡ Some s }
+        ensures did { Did (set change ∷ []) 0 self.old self.new }
+        ensures stays { Stays self.old self.new }
+        ensures book { self.new.book ≡ self.old.book }
+        ensures room { (n s : ℕ) → HasSpare n s self.old.table → HasSpare n s self.new.table }
+    {
+        know_change(&change);
+        match self.table.session_mut(s) {
+            Some(session) => mark(session, change),
+            None => {}
+        }
+    }
+
+    /// A change of contacts, or of who sees whom, is noted. There is room for it.
+    fn note(&mut self, change: Change)
+        requires tied { IsTied self.old.table }
+        requires unnamed { named_by change ≡ None }
+        requires places { (user : List ℕ) → needed user change ≤ spare user self.old.book }
+        ensures did { Did (set change ∷ []) 0 self.old self.new }
+        ensures stays { Stays self.old self.new }
+        ensures table { self.new.table ≡ self.old.table }
+        ensures places { (user : List ℕ) → spare user self.old.book ≤ spare user self.new.book + needed user change }
+    {
+        know_change(&change);
+        self.book.apply(change);
+    }
+
+    /// A change is made of a session, or noted.
+    pub(crate) fn set(&mut self, change: Change)
+        requires tied { IsTied self.old.table }
+        requires short { IsSmall (Effect.Set change) }
+        requires places { (user : List ℕ) → needed user change ≤ spare user self.old.book }
+        ensures did { Did (set change ∷ []) 0 self.old self.new }
+        ensures stays { Stays self.old self.new }
+        ensures room { (n s : ℕ) → HasSpare n s self.old.table → HasSpare n s self.new.table }
+        ensures places { (user : List ℕ) → spare user self.old.book ≤ spare user self.new.book + needed user change }
+    {
+        match named_by(&change) {
+            Some(s) => self.set_session(s, change),
+            None => self.note(change),
+        }
+    }
+}
