@@ -79,18 +79,22 @@ got now (Some x) accounts i some at = sym (slice_get_read accounts (length accou
 got now None accounts i some at = sym (slice_get_past accounts i (ltb-false i (length accounts) (sym some)))
 
 -- one name more for one account more: it was not there
-pub names-joined : {K : Type 0} (f : K → List ℕ) (k : K) (ks : List K) (a : Account) (accounts : List Account) → map f ks ≡ map (λ a. a.name) accounts → f k ≡ a.name
+pub names-joined : {K : Type 0} (f : K → List ℕ) (k : K) (ks : List K) (a : Account) (accounts : List Account) → map f ks ≡ map (λ a. a.name) accounts
+    → f k ≡ a.name
     → map f (ks ++ k ∷ []) ≡ map (λ a. a.name) (accounts ++ a ∷ [])
 names-joined f k ks a accounts h is =
     map-append f ks (k ∷ []) ∙ ap (λ ns. ns ++ f k ∷ []) h ∙ ap (λ n. map (λ a. a.name) accounts ++ n ∷ []) is
     ∙ sym (map-append (λ a. a.name) accounts (a ∷ []))
 
-pub name-added : {K : Type 0} (f : K → List ℕ) (k : K) (ks new : List K) (name : List ℕ) (accounts : List Account) → map f ks ≡ map (λ a. a.name) accounts → f k ≡ name
+pub name-added : {K : Type 0} (f : K → List ℕ) (k : K) (ks new : List K) (name : List ℕ) (accounts : List Account) → map f ks ≡ map (λ a. a.name) accounts
+    → f k ≡ name
     → has_name (map entry_of accounts) name ≡ false → new ≡ cond (list_any (λ x. bytes_eq (f k) (f x)) ks) ks (ks ++ k ∷ []) → new ≡ ks ++ k ∷ []
 name-added f k ks new name accounts h is fresh made =
-    made ∙ cond-false (list_any (λ x. bytes_eq (f k) (f x)) ks) ks (ks ++ k ∷ []) (ap (λ n. list_any (λ x. bytes_eq n (f x)) ks) is ∙ names-have f name ks accounts h ∙ fresh)
+    made ∙ cond-false (list_any (λ x. bytes_eq (f k) (f x)) ks) ks (ks ++ k ∷ []) (ap (λ n. list_any (λ x. bytes_eq n (f x)) ks) is
+    ∙ names-have f name ks accounts h ∙ fresh)
 
-pub all-local : (accounts : List Account) (a : Account) → list_all is_local (names_of accounts) ≡ true → is_local a.name ≡ true → list_all is_local (names_of (accounts ++ a ∷ [])) ≡ true
+pub all-local : (accounts : List Account) (a : Account) → list_all is_local (names_of accounts) ≡ true → is_local a.name ≡ true
+    → list_all is_local (names_of (accounts ++ a ∷ [])) ≡ true
 all-local accounts a h is =
     ap (list_all is_local) (map-append (λ x. x.name) accounts (a ∷ [])) ∙ list_all-append is_local (names_of accounts) (a.name ∷ [])
     ∙ ap (λ b. b && (is_local a.name && true)) h ∙ ap (λ b. b && true) is
@@ -99,7 +103,8 @@ name-among : (name : List ℕ) (accounts : List Account) → list_any (bytes_eq 
 name-among name [] = refl
 name-among name (a ∷ more) = ap (λ b. bytes_eq name a.name || b) (name-among name more)
 
-pub all-differ : (accounts : List Account) (a : Account) → are_distinct (names_of accounts) ≡ true → has_name (map entry_of accounts) a.name ≡ false → are_distinct (names_of (accounts ++ a ∷ [])) ≡ true
+pub all-differ : (accounts : List Account) (a : Account) → are_distinct (names_of accounts) ≡ true → has_name (map entry_of accounts) a.name ≡ false
+    → are_distinct (names_of (accounts ++ a ∷ [])) ≡ true
 all-differ accounts a h fresh =
     ap are_distinct (map-append (λ x. x.name) accounts (a ∷ []))
     ∙ distinct-more a.name (names_of accounts) h (name-among a.name accounts ∙ fresh)
@@ -108,7 +113,8 @@ pub one-more : (accounts : List Account) (a : Account) (new : List Account) → 
 one-more accounts a new is few = let l = ap length is ∙ length-append accounts (a ∷ []) in omega (arith, l, few)
 
 -- the account of a name has that name
-pub named-own : {B : Type 0} (now : B → Account) (r : Option B) (name : List ℕ) (accounts : List Account) → option_map now r ≡ named name accounts → IfSome r (λ x. (now x).name ≡ name)
+pub named-own : {B : Type 0} (now : B → Account) (r : Option B) (name : List ℕ) (accounts : List Account) → option_map now r ≡ named name accounts
+    → IfSome r (λ x. (now x).name ≡ name)
 named-own now None name accounts h = tt
 named-own now (Some x) name accounts h = own accounts (sym h)
   where
@@ -116,6 +122,7 @@ named-own now (Some x) name accounts h = own accounts (sym h)
     own [] g = absurd (cc)
     own (a ∷ more) g = here (bytes_eq name a.name) refl g (own more)
       where
-        here : (b : Bool) → bytes_eq name a.name ≡ b → cond b (Some a) (named name more) ≡ Some (now x) → (named name more ≡ Some (now x) → (now x).name ≡ name) → (now x).name ≡ name
+        here : (b : Bool) → bytes_eq name a.name ≡ b → cond b (Some a) (named name more) ≡ Some (now x) → (named name more ≡ Some (now x) → (now x).name ≡ name)
+            → (now x).name ≡ name
         here true e g rest = let same = some-same a (now x) g in ap (λ y. y.name) (sym same) ∙ sym ((bytes_eq-Decides name a.name).0 e)
         here false e g rest = rest g

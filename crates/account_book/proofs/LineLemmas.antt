@@ -2,7 +2,8 @@
 use Rattle.std.proofs.Common.{◌≡◌, ℕ, List, ◌++◌, codes, ap, arith, ◌∙◌}
 use Rattle.std.proofs.lemmas.Grind.{common_steps}
 
-joined : (n r s a b c d : List ℕ) → (((((n ++ codes " " ++ r) ++ codes " " ++ s) ++ codes " " ++ a ++ codes " " ++ b) ++ codes " " ++ c ++ codes " " ++ d) ++ codes "\n")
+joined : (n r s a b c d : List ℕ)
+    → (((((n ++ codes " " ++ r) ++ codes " " ++ s) ++ codes " " ++ a ++ codes " " ++ b) ++ codes " " ++ c ++ codes " " ++ d) ++ codes "\n")
     ≡ n ++ codes " " ++ r ++ codes " " ++ s ++ codes " " ++ a ++ codes " " ++ b ++ codes " " ++ c ++ codes " " ++ d ++ codes "\n"
 joined n r s a b c d = grind (arith, common_steps)
 

@@ -45,7 +45,8 @@ first-open (b ∷ []) l h = byte (b == 10) h
     byte false h = refl
 first-open (b ∷ d ∷ more) l h = byte (b == 10) h (first-open (d ∷ more) (omega arith))
   where
-    byte : (c : Bool) → is_some (cond c (Some (d ∷ more)) (after 10 (d ∷ more))) ≡ false → (is_some (after 10 (d ∷ more)) ≡ false → lines_of (d ∷ more) ≡ (d ∷ more) ∷ [])
+    byte : (c : Bool) → is_some (cond c (Some (d ∷ more)) (after 10 (d ∷ more))) ≡ false
+        → (is_some (after 10 (d ∷ more)) ≡ false → lines_of (d ∷ more) ≡ (d ∷ more) ∷ [])
         → cond c ((b ∷ []) ∷ lines_of (d ∷ more)) (begun b (lines_of (d ∷ more))) ≡ (b ∷ d ∷ more) ∷ []
     byte true h is = absurd (cc)
     byte false h is = ap (begun b) (is h)

@@ -61,7 +61,8 @@ texts-found text f h =
     let b = before 32 four.0 in
     let six = cut-found 32 five.0 (seventh n r s a b) f five.2 in
     let c = before 32 five.0 in
-    let same = none-else (is_some (after 32 six.0)) (record { name = n; rounds = r; salt = s; stored1 = a; server1 = b; stored256 = c; server256 = six.0 }) f six.2 in
+    let same = none-else (is_some (after 32 six.0)) (record { name = n; rounds = r; salt = s; stored1 = a; server1 = b; stored256 = c; server256 = six.0 }) f
+    six.2 in
     one.1 ∙ ap (λ t. n ++ 32 ∷ t) (two.1 ∙ ap (λ t. r ++ 32 ∷ t) (three.1 ∙ ap (λ t. s ++ 32 ∷ t) (four.1 ∙ ap (λ t. a ++ 32 ∷ t)
     (five.1 ∙ ap (λ t. b ++ 32 ∷ t) six.1))))
     ∙ ap (λ (t : Texts). spaced t.name t.rounds t.salt t.stored1 t.server1 t.stored256 t.server256) same
@@ -96,7 +97,8 @@ reads-found (Some n) (Some r) (Some s) (Some a) (Some b) (Some c) (Some d) e h =
       server256_is = ap (λ (x : Entry). Some x.server256) same;
     }
 
-need-found : {X Y : Type 0} (k : LineKind) (o : Option X) (more : X → Result Y LineKind) (y : Y) → need k o more ≡ Ok y → (x : X) × (o ≡ Some x) × (more x ≡ Ok y)
+need-found : {X Y : Type 0} (k : LineKind) (o : Option X) (more : X → Result Y LineKind) (y : Y) → need k o more ≡ Ok y
+    → (x : X) × (o ≡ Some x) × (more x ≡ Ok y)
 need-found k None more y h = absurd (cc)
 need-found k (Some x) more y h = (x, refl, h)
 
@@ -146,7 +148,8 @@ bytes-after xs ys c h i = bytes-back xs (c ∷ ys) h (suc i)
 
 entry-spelt : (e : Entry) (n r s a b c d : List ℕ) → IsBytes (spaced n r s a b c d)
     → reads (name_in n) (rounds_in r) (salt_in s) (key_in 20 a) (key_in 20 b) (key_in 32 c) (key_in 32 d) ≡ Ok e
-    → spaced n r s a b c d ≡ spaced e.name (decimal e.rounds) (base64_of e.salt) (base64_of e.stored1) (base64_of e.server1) (base64_of e.stored256) (base64_of e.server256)
+    → spaced n r s a b c d ≡ spaced e.name (decimal e.rounds) (base64_of e.salt) (base64_of e.stored1) (base64_of e.server1) (base64_of e.stored256)
+    (base64_of e.server256)
 entry-spelt e n r s a b c d are h =
     let is = reads-found (name_in n) (rounds_in r) (salt_in s) (key_in 20 a) (key_in 20 b) (key_in 32 c) (key_in 32 d) e h in
     let are1 = bytes-after n (r ++ 32 ∷ (s ++ 32 ∷ (a ++ 32 ∷ (b ++ 32 ∷ (c ++ 32 ∷ d))))) 32 are in
@@ -157,11 +160,16 @@ entry-spelt e n r s a b c d are h =
     let are6 = bytes-after c d 32 are5 in
     ap (λ x. spaced x r s a b c d) (name-spelt n e.name is.name_is)
     ∙ ap (λ x. spaced e.name x s a b c d) (rounds-spelt r e.rounds is.rounds_is)
-    ∙ ap (λ x. spaced e.name (decimal e.rounds) x a b c d) (sized-spelt 8 64 s e.salt (bytes-front s (32 ∷ (a ++ 32 ∷ (b ++ 32 ∷ (c ++ 32 ∷ d)))) are2) is.salt_is)
-    ∙ ap (λ x. spaced e.name (decimal e.rounds) (base64_of e.salt) x b c d) (sized-spelt 20 20 a e.stored1 (bytes-front a (32 ∷ (b ++ 32 ∷ (c ++ 32 ∷ d))) are3) is.stored1_is)
-    ∙ ap (λ x. spaced e.name (decimal e.rounds) (base64_of e.salt) (base64_of e.stored1) x c d) (sized-spelt 20 20 b e.server1 (bytes-front b (32 ∷ (c ++ 32 ∷ d)) are4) is.server1_is)
-    ∙ ap (λ x. spaced e.name (decimal e.rounds) (base64_of e.salt) (base64_of e.stored1) (base64_of e.server1) x d) (sized-spelt 32 32 c e.stored256 (bytes-front c (32 ∷ d) are5) is.stored256_is)
-    ∙ ap (λ x. spaced e.name (decimal e.rounds) (base64_of e.salt) (base64_of e.stored1) (base64_of e.server1) (base64_of e.stored256) x) (sized-spelt 32 32 d e.server256 are6 is.server256_is)
+    ∙ ap (λ x. spaced e.name (decimal e.rounds) x a b c d)
+    (sized-spelt 8 64 s e.salt (bytes-front s (32 ∷ (a ++ 32 ∷ (b ++ 32 ∷ (c ++ 32 ∷ d)))) are2) is.salt_is)
+    ∙ ap (λ x. spaced e.name (decimal e.rounds) (base64_of e.salt) x b c d)
+    (sized-spelt 20 20 a e.stored1 (bytes-front a (32 ∷ (b ++ 32 ∷ (c ++ 32 ∷ d))) are3) is.stored1_is)
+    ∙ ap (λ x. spaced e.name (decimal e.rounds) (base64_of e.salt) (base64_of e.stored1) x c d)
+    (sized-spelt 20 20 b e.server1 (bytes-front b (32 ∷ (c ++ 32 ∷ d)) are4) is.server1_is)
+    ∙ ap (λ x. spaced e.name (decimal e.rounds) (base64_of e.salt) (base64_of e.stored1) (base64_of e.server1) x d)
+    (sized-spelt 32 32 c e.stored256 (bytes-front c (32 ∷ d) are5) is.stored256_is)
+    ∙ ap (λ x. spaced e.name (decimal e.rounds) (base64_of e.salt) (base64_of e.stored1) (base64_of e.server1) (base64_of e.stored256) x)
+    (sized-spelt 32 32 d e.server256 are6 is.server256_is)
 
 -- a line, which has its LF at its end alone, is that of the account that it is read as
 pub line-spelt : (text : List ℕ) (e : Entry) → IsBytes text → after 10 text ≡ None → line_of (text ++ 10 ∷ []) ≡ Ok e → text ++ 10 ∷ [] ≡ line_text e

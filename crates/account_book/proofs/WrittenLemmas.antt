@@ -96,7 +96,8 @@ cut-at c xs rest more h =
 abbrev pub spaced : List ℕ → List ℕ → List ℕ → List ℕ → List ℕ → List ℕ → List ℕ → List ℕ
 spaced n r s a b c d = n ++ 32 ∷ (r ++ 32 ∷ (s ++ 32 ∷ (a ++ 32 ∷ (b ++ 32 ∷ (c ++ 32 ∷ d)))))
 
-texts-written : (n r s a b c d : List ℕ) → lacks 32 n ≡ true → lacks 32 r ≡ true → lacks 32 s ≡ true → lacks 32 a ≡ true → lacks 32 b ≡ true → lacks 32 c ≡ true → lacks 32 d ≡ true
+texts-written : (n r s a b c d : List ℕ) → lacks 32 n ≡ true → lacks 32 r ≡ true → lacks 32 s ≡ true → lacks 32 a ≡ true → lacks 32 b ≡ true → lacks 32 c ≡ true
+    → lacks 32 d ≡ true
     → texts_in (spaced n r s a b c d) ≡ Some (record { name = n; rounds = r; salt = s; stored1 = a; server1 = b; stored256 = c; server256 = d })
 texts-written n r s a b c d hn hr hs ha hb hc hd =
     cut-at 32 n (r ++ 32 ∷ (s ++ 32 ∷ (a ++ 32 ∷ (b ++ 32 ∷ (c ++ 32 ∷ d))))) second hn
@@ -105,9 +106,11 @@ texts-written n r s a b c d hn hr hs ha hb hc hd =
     ∙ cut-at 32 a (b ++ 32 ∷ (c ++ 32 ∷ d)) (fifth n r s) ha
     ∙ cut-at 32 b (c ++ 32 ∷ d) (sixth n r s a) hb
     ∙ cut-at 32 c d (seventh n r s a b) hc
-    ∙ ap (λ o. if is_some o then None else Some (record { name = n; rounds = r; salt = s; stored1 = a; server1 = b; stored256 = c; server256 = d })) (after-none 32 d hd)
+    ∙ ap (λ o. if is_some o then None else Some (record { name = n; rounds = r; salt = s; stored1 = a; server1 = b; stored256 = c; server256 = d }))
+    (after-none 32 d hd)
 
-lacks-ends : (n r s a b c d : List ℕ) → lacks 10 n ≡ true → lacks 10 r ≡ true → lacks 10 s ≡ true → lacks 10 a ≡ true → lacks 10 b ≡ true → lacks 10 c ≡ true → lacks 10 d ≡ true
+lacks-ends : (n r s a b c d : List ℕ) → lacks 10 n ≡ true → lacks 10 r ≡ true → lacks 10 s ≡ true → lacks 10 a ≡ true → lacks 10 b ≡ true → lacks 10 c ≡ true
+    → lacks 10 d ≡ true
     → lacks 10 (spaced n r s a b c d) ≡ true
 lacks-ends n r s a b c d hn hr hs ha hb hc hd =
     lacks-append 10 n (32 ∷ (r ++ 32 ∷ (s ++ 32 ∷ (a ++ 32 ∷ (b ++ 32 ∷ (c ++ 32 ∷ d)))))) hn
@@ -120,19 +123,23 @@ lacks-ends n r s a b c d hn hr hs ha hb hc hd =
 -- the account by what each field is read as
 abbrev pub reads : Option (List ℕ) → Option ℕ → Option (List ℕ) → Option (List ℕ) → Option (List ℕ) → Option (List ℕ) → Option (List ℕ) → Result Entry LineKind
 reads name rounds salt stored1 server1 stored256 server256 =
-    need kind.Name name (λ name. need kind.Rounds rounds (λ rounds. need kind.Salt salt (λ salt. need kind.Key stored1 (λ stored1. need kind.Key server1 (λ server1.
+    need kind.Name name (λ name. need kind.Rounds rounds
+    (λ rounds. need kind.Salt salt (λ salt. need kind.Key stored1 (λ stored1. need kind.Key server1 (λ server1.
     need kind.Key stored256 (λ stored256. need kind.Key server256 (λ server256.
     Ok (record { name = name; rounds = rounds; salt = salt; stored1 = stored1; server1 = server1; stored256 = stored256; server256 = server256 }))))))))
 
-all-read : (e : Entry) (n : Option (List ℕ)) (r : Option ℕ) (s a b c d : Option (List ℕ)) → n ≡ Some e.name → r ≡ Some e.rounds → s ≡ Some e.salt → a ≡ Some e.stored1
+all-read : (e : Entry) (n : Option (List ℕ)) (r : Option ℕ) (s a b c d : Option (List ℕ)) → n ≡ Some e.name → r ≡ Some e.rounds → s ≡ Some e.salt
+    → a ≡ Some e.stored1
     → b ≡ Some e.server1 → c ≡ Some e.stored256 → d ≡ Some e.server256 → reads n r s a b c d ≡ Ok e
 all-read e n r s a b c d hn hr hs ha hb hc hd =
     ap (λ o. reads o r s a b c d) hn ∙ ap (λ o. reads (Some e.name) o s a b c d) hr ∙ ap (λ o. reads (Some e.name) (Some e.rounds) o a b c d) hs
-    ∙ ap (λ o. reads (Some e.name) (Some e.rounds) (Some e.salt) o b c d) ha ∙ ap (λ o. reads (Some e.name) (Some e.rounds) (Some e.salt) (Some e.stored1) o c d) hb
+    ∙ ap (λ o. reads (Some e.name) (Some e.rounds) (Some e.salt) o b c d) ha
+    ∙ ap (λ o. reads (Some e.name) (Some e.rounds) (Some e.salt) (Some e.stored1) o c d) hb
     ∙ ap (λ o. reads (Some e.name) (Some e.rounds) (Some e.salt) (Some e.stored1) (Some e.server1) o d) hc
     ∙ ap (λ o. reads (Some e.name) (Some e.rounds) (Some e.salt) (Some e.stored1) (Some e.server1) (Some e.stored256) o) hd
 
-pub spread : (n r s a b c d : List ℕ) → n ++ codes " " ++ r ++ codes " " ++ s ++ codes " " ++ a ++ codes " " ++ b ++ codes " " ++ c ++ codes " " ++ d ++ codes "\n"
+pub spread : (n r s a b c d : List ℕ)
+    → n ++ codes " " ++ r ++ codes " " ++ s ++ codes " " ++ a ++ codes " " ++ b ++ codes " " ++ c ++ codes " " ++ d ++ codes "\n"
     ≡ spaced n r s a b c d ++ 10 ∷ []
 spread n r s a b c d = simp append_assoc
 
@@ -156,9 +163,11 @@ line-written e is =
     (base64-lacks-end e.server256 is.server256.are_bytes))
     (texts-written e.name (decimal e.rounds) (base64_of e.salt) (base64_of e.stored1) (base64_of e.server1) (base64_of e.stored256) (base64_of e.server256)
     (local-lacks-space e.name is.local_part) (decimal-lacks 32 e.rounds (omega arith) low high) (base64-lacks-space e.salt is.salt.are_bytes)
-    (base64-lacks-space e.stored1 is.stored1.are_bytes) (base64-lacks-space e.server1 is.server1.are_bytes) (base64-lacks-space e.stored256 is.stored256.are_bytes)
+    (base64-lacks-space e.stored1 is.stored1.are_bytes) (base64-lacks-space e.server1 is.server1.are_bytes)
+    (base64-lacks-space e.stored256 is.stored256.are_bytes)
     (base64-lacks-space e.server256 is.server256.are_bytes))
     (all-read e (name_in e.name) (rounds_in (decimal e.rounds)) (salt_in (base64_of e.salt)) (key_in 20 (base64_of e.stored1)) (key_in 20 (base64_of e.server1))
     (key_in 32 (base64_of e.stored256)) (key_in 32 (base64_of e.server256))
-    (name-read e.name is.local_part) (rounds-read e.rounds is.least_rounds is.most_rounds) (sized-read 8 64 e.salt is.salt) (sized-read 20 20 e.stored1 is.stored1)
+    (name-read e.name is.local_part) (rounds-read e.rounds is.least_rounds is.most_rounds) (sized-read 8 64 e.salt is.salt)
+    (sized-read 20 20 e.stored1 is.stored1)
     (sized-read 20 20 e.server1 is.server1) (sized-read 32 32 e.stored256 is.stored256) (sized-read 32 32 e.server256 is.server256))

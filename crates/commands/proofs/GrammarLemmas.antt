@@ -93,7 +93,8 @@ third-wins first second third more later e f g =
 pub replay-first : (word : List ℕ) (more : List (List ℕ)) → is_value word ≡ true → fault_of (bare (codes "replay")) (word ∷ more) ≡ UnknownArgument ∷ []
 unfolding walk_fault
 replay-first word more p =
-    first-wins (turn_fault (built (bare (codes "replay"))).top [] (at 1 nothing_held) word) _ _ (turn-fault (built (bare (codes "replay"))).top 1 word nothing_held p)
+    first-wins (turn_fault (built (bare (codes "replay"))).top [] (at 1 nothing_held) word) _ _
+    (turn-fault (built (bare (codes "replay"))).top 1 word nothing_held p)
 
 -- `account` takes two
 abbrev grammar : App
@@ -154,7 +155,8 @@ second-fault a s p q =
 pub account-two : (a s : List ℕ) → is_value a ≡ true → is_value s ≡ true → fault_of account_grammar (a ∷ s ∷ []) ≡ []
 account-two a s p q =
     two-form a s
-    ∙ ap (λ w. or_else (or_else (turn_fault grammar.top [] (at 1 nothing_held) a) (or_else (turn_fault grammar.top [] (walked rules [] (at 1 nothing_held) a) s) [])) (end-fault w))
+    ∙ ap (λ w. or_else (or_else (turn_fault grammar.top [] (at 1 nothing_held) a)
+    (or_else (turn_fault grammar.top [] (walked rules [] (at 1 nothing_held) a) s) [])) (end-fault w))
     (walk-two a s p q)
     ∙ ap₂ (λ j k. or_else (or_else j (or_else k [])) (end-fault (after-two a s))) (turn-fault grammar.top 1 a nothing_held p) (second-fault a s p q)
     ∙ two-end a s
@@ -168,7 +170,8 @@ pub account-three : (a s x : List ℕ) (more : List (List ℕ)) → is_value a �
 unfolding walk_fault
 account-three a s x more p q r =
     third-wins (turn_fault grammar.top [] (at 1 nothing_held) a) (turn_fault grammar.top [] (walked rules [] (at 1 nothing_held) a) s)
-    (turn_fault grammar.top [] (walked rules [] (walked rules [] (at 1 nothing_held) a) s) x) _ _ (turn-fault grammar.top 1 a nothing_held p) (second-fault a s p q) (third-fault a s x p q r)
+    (turn_fault grammar.top [] (walked rules [] (walked rules [] (at 1 nothing_held) a) s) x) _ _ (turn-fault grammar.top 1 a nothing_held p)
+    (second-fault a s p q) (third-fault a s x p q r)
 
 -- and gives both
 pub account-name : (a s : List ℕ) → is_value a ≡ true → is_value s ≡ true → first_of (codes "NAME") (matches_of account_grammar (a ∷ s ∷ [])) ≡ Some a

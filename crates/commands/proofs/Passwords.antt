@@ -85,7 +85,8 @@ begins_more old mid now front b begins gives = λ all told.
     (next.0, (next.1.0, next.1.1 ∙ sym (append_assoc front (b ∷ []) next.0)))
 
 -- a byte that fits
-pub printable_more : (front : List ℕ) (b : ℕ) → list_all is_printable front ≡ true → (nat_lt (length front) 256 && is_printable b) ≡ true → list_all is_printable (front ++ b ∷ []) ≡ true
+pub printable_more : (front : List ℕ) (b : ℕ) → list_all is_printable front ≡ true → (nat_lt (length front) 256 && is_printable b) ≡ true
+    → list_all is_printable (front ++ b ∷ []) ≡ true
 printable_more front b h fits =
     let two = two-true (nat_lt (length front) 256) (is_printable b) fits in
     list_all-append is_printable front (b ∷ []) ∙ true-two (list_all is_printable front) (is_printable b && true) h (true-two (is_printable b) true two.1 refl)
@@ -94,7 +95,8 @@ pub few_more : (front : List ℕ) (b : ℕ) → (nat_lt (length front) 256 && is
 few_more front b fits = ltb-true (length front) 256 (two-true (nat_lt (length front) 256) (is_printable b) fits).0
 
 -- a line that goes on with a byte other than LF has a password that does
-goes-on : (front : List ℕ) (b : ℕ) (rest all password : List ℕ) → list_all is_printable front ≡ true → (b == 10) ≡ false → all ≡ front ++ b ∷ rest → IsPasswordLine password all
+goes-on : (front : List ℕ) (b : ℕ) (rest all password : List ℕ) → list_all is_printable front ≡ true → (b == 10) ≡ false → all ≡ front ++ b ∷ rest
+    → IsPasswordLine password all
     → password ≡ front ++ b ∷ before 10 rest
 goes-on front b rest all password h other same l =
     sym (password-before password all l) ∙ ap (before 10) same ∙ before-front front (b ∷ rest) (no-feeds front h)
@@ -105,21 +107,25 @@ pub fits-going : (front : List ℕ) (b : ℕ) (rest all password : List ℕ) →
 fits-going front b rest all password h other same l =
     let is = goes-on front b rest all password h other same l in
     let every = sym (list_all-append is_printable front (b ∷ before 10 rest)) ∙ ap (list_all is_printable) (sym is) ∙ l.valid.printable in
-    let one = two-true (is_printable b) (list_all is_printable (before 10 rest)) (two-true (list_all is_printable front) (list_all is_printable (b ∷ before 10 rest)) every).1 in
-    true-two (nat_lt (length front) 256) (is_printable b) (few-below (length front) (omega (arith, ap length is, length-append front (b ∷ before 10 rest), l.valid.most_is))) one.0
+    let one = two-true (is_printable b) (list_all is_printable (before 10 rest))
+    (two-true (list_all is_printable front) (list_all is_printable (b ∷ before 10 rest)) every).1 in
+    true-two (nat_lt (length front) 256) (is_printable b)
+    (few-below (length front) (omega (arith, ap length is, length-append front (b ∷ before 10 rest), l.valid.most_is))) one.0
   where
     few-below : (n : ℕ) → n < 256 → nat_lt n 256 ≡ true
     few-below n h = grind arith
 
 -- a byte that doesn't fit
-pub no_line : (old mid now : Option (List ℕ)) (front : List ℕ) (b : ℕ) → list_all is_printable front ≡ true → Begins old mid front → Begins mid now (b ∷ []) → (b == 10) ≡ false
+pub no_line : (old mid now : Option (List ℕ)) (front : List ℕ) (b : ℕ) → list_all is_printable front ≡ true → Begins old mid front → Begins mid now (b ∷ [])
+    → (b == 10) ≡ false
     → (nat_lt (length front) 256 && is_printable b) ≡ false → IsNoLine old
 no_line old mid now front b h begins gives other unfit = λ all told password l.
     let next = all-given old mid now front b all told begins gives in
     true≢false (sym (fits-going front b next.0 all password h other next.1.1 l) ∙ unfit)
 
 -- a byte after LF
-pub no_line_after : (old mid feed now : Option (List ℕ)) (front : List ℕ) (c : ℕ) → list_all is_printable front ≡ true → Begins old mid front → Begins mid feed (10 ∷ [])
+pub no_line_after : (old mid feed now : Option (List ℕ)) (front : List ℕ) (c : ℕ) → list_all is_printable front ≡ true → Begins old mid front
+    → Begins mid feed (10 ∷ [])
     → Begins feed now (c ∷ []) → IsNoLine old
 no_line_after old mid feed now front c h begins gives more = λ all told password l.
     let next = all-given old mid feed front 10 all told begins gives in
@@ -150,7 +156,8 @@ no_line_empty old mid now front none begins gives = λ all told password l.
     let end = all-ended old mid now front all told begins gives in
     no-empty all password (ap (before 10) (end.0 ∙ none)) l
 
-pub no_line_feed : (old mid feed now : Option (List ℕ)) (front : List ℕ) → front ≡ [] → Begins old mid front → Begins mid feed (10 ∷ []) → Ends feed now → IsNoLine old
+pub no_line_feed : (old mid feed now : Option (List ℕ)) (front : List ℕ) → front ≡ [] → Begins old mid front → Begins mid feed (10 ∷ []) → Ends feed now
+    → IsNoLine old
 no_line_feed old mid feed now front none begins gives end = λ all told password l.
     let next = all-given old mid feed front 10 all told begins gives in
     no-empty all password (ap (before 10) (next.1.1 ∙ ap (λ xs. xs ++ 10 ∷ next.0) none)) l
@@ -164,7 +171,8 @@ read_end old mid now front valid begins gives = λ all told.
     let end = all-ended old mid now front all told begins gives in
     (record { valid = valid; line = inl end.0 }, end.1)
 
-pub read_feed : (old mid feed now : Option (List ℕ)) (front : List ℕ) → IsPassword front → Begins old mid front → Begins mid feed (10 ∷ []) → Ends feed now → IsRead front old now
+pub read_feed : (old mid feed now : Option (List ℕ)) (front : List ℕ) → IsPassword front → Begins old mid front → Begins mid feed (10 ∷ []) → Ends feed now
+    → IsRead front old now
 read_feed old mid feed now front valid begins gives end = λ all told.
     let next = all-given old mid feed front 10 all told begins gives in
     let last = end next.0 next.1.0 in
@@ -192,9 +200,12 @@ begins_end a b ends = λ all told. let end = ends all told in ([], (end.1, end.0
 pub kept_end : (old mid now : Option (List ℕ)) (front kept : List ℕ) → kept ≡ front → 1 ≤ length kept → list_all is_printable front ≡ true → length front ≤ 256
     → Begins old mid front → Ends mid now → IsRead kept old now
 kept_end old mid now front kept same least h most begins ends =
-    subst (λ (p : List ℕ). IsRead p old now) (sym same) (read_end old mid now front (password_of front h (subst (λ (p : List ℕ). 1 ≤ length p) same least) most) begins ends)
+    subst (λ (p : List ℕ). IsRead p old now) (sym same)
+    (read_end old mid now front (password_of front h (subst (λ (p : List ℕ). 1 ≤ length p) same least) most) begins ends)
 
-pub kept_feed : (old mid feed now : Option (List ℕ)) (front kept : List ℕ) → kept ≡ front → 1 ≤ length kept → list_all is_printable front ≡ true → length front ≤ 256
+pub kept_feed : (old mid feed now : Option (List ℕ)) (front kept : List ℕ) → kept ≡ front → 1 ≤ length kept → list_all is_printable front ≡ true
+    → length front ≤ 256
     → Begins old mid front → Begins mid feed (10 ∷ []) → Ends feed now → IsRead kept old now
 kept_feed old mid feed now front kept same least h most begins gives ends =
-    subst (λ (p : List ℕ). IsRead p old now) (sym same) (read_feed old mid feed now front (password_of front h (subst (λ (p : List ℕ). 1 ≤ length p) same least) most) begins gives ends)
+    subst (λ (p : List ℕ). IsRead p old now) (sym same)
+    (read_feed old mid feed now front (password_of front h (subst (λ (p : List ℕ). 1 ≤ length p) same least) most) begins gives ends)

@@ -16,7 +16,8 @@ use Rattle.commands.specs.Servings.{Concluded}
 concluded : (w : Wanted) (left left_now : Option (List ℕ)) (ports now_ports : Tally) (took took_now : Option (List ℕ)) (s : Status)
     → (s ≡ status.Done → (list : List ℕ) × (line : List ℕ) × ReadsList left left_now list × Served w.domain w.workers w.connections list ports now_ports line
     × ((taken : List ℕ) → took ≡ Some taken → took_now ≡ Some (taken ++ line)))
-    → (s ≡ status.WriteFault → (list : List ℕ) × (line : List ℕ) × ReadsList left left_now list × Served w.domain w.workers w.connections list ports now_ports line
+    → (s ≡ status.WriteFault → (list : List ℕ) × (line : List ℕ) × ReadsList left left_now list
+    × Served w.domain w.workers w.connections list ports now_ports line
     × ((taken : List ℕ) → took ≡ Some taken → Front taken line took_now))
     → (s ≢ status.Done → s ≢ status.WriteFault → took_now ≡ took)
     → (HasListened s → GivenBack w.workers ports now_ports)
@@ -46,7 +47,8 @@ pub as_asked : (task : Option Task) (v w : Wanted) (left left_now : Option (List
     → task ≡ Some (Serve v)
     → (s ≡ status.Done → (list : List ℕ) × (line : List ℕ) × ReadsList left left_now list × Served v.domain v.workers v.connections list ports now_ports line
     × ((taken : List ℕ) → took ≡ Some taken → took_now ≡ Some (taken ++ line)))
-    → (s ≡ status.WriteFault → (list : List ℕ) × (line : List ℕ) × ReadsList left left_now list × Served v.domain v.workers v.connections list ports now_ports line
+    → (s ≡ status.WriteFault → (list : List ℕ) × (line : List ℕ) × ReadsList left left_now list
+    × Served v.domain v.workers v.connections list ports now_ports line
     × ((taken : List ℕ) → took ≡ Some taken → Front taken line took_now))
     → (s ≢ status.Done → s ≢ status.WriteFault → took_now ≡ took)
     → (HasListened s → GivenBack v.workers ports now_ports)

@@ -23,7 +23,8 @@ pub replay_some : (words : List (List ℕ)) → list_all is_value words ≡ true
 replay_some [] all none = refl
 replay_some (w ∷ more) all none = absurd (one-fault (sym (replay-first w more (two-true (is_value w) (list_all is_value more) all).0) ∙ none))
 
-pub replay_refused : (M : Type 0) (words : List (List ℕ)) (s : Status) → Parses {M = M} (fault_of (bare (codes "replay")) words) (Err s) → IsRefusal (replay_task words) s
+pub replay_refused : (M : Type 0) (words : List (List ℕ)) (s : Status) → Parses {M = M} (fault_of (bare (codes "replay")) words) (Err s)
+    → IsRefusal (replay_task words) s
 replay_refused M [] status.Usage parsed = absurd (parsed replay_none)
 replay_refused M (w ∷ more) status.Usage parsed = refl
 replay_refused M words status.NoMemory parsed = tt
@@ -71,16 +72,19 @@ no_pair (a ∷ s ∷ x ∷ more) all fault = refl
 value-is : (v w : List ℕ) (o : Option (List ℕ)) → o ≡ Some v → o ≡ Some w → v ≡ w
 value-is v w o e f = ap (λ p. unwrap_or p []) (sym e ∙ f)
 
-pub name_there : (words : List (List ℕ)) (rows : List Row) → list_all is_value words ≡ true → fault_of account_grammar words ≡ [] → rows ≡ matches_of account_grammar words
+pub name_there : (words : List (List ℕ)) (rows : List Row) → list_all is_value words ≡ true → fault_of account_grammar words ≡ []
+    → rows ≡ matches_of account_grammar words
     → is_some (first_of (codes "NAME") rows) ≡ true
 name_there words rows all none same = ap (λ r. is_some (first_of (codes "NAME") r)) same ∙ ap is_some (are_pair words all none).name_is
 
-pub salt_there : (words : List (List ℕ)) (rows : List Row) → list_all is_value words ≡ true → fault_of account_grammar words ≡ [] → rows ≡ matches_of account_grammar words
+pub salt_there : (words : List (List ℕ)) (rows : List Row) → list_all is_value words ≡ true → fault_of account_grammar words ≡ []
+    → rows ≡ matches_of account_grammar words
     → is_some (first_of (codes "SALT") rows) ≡ true
 salt_there words rows all none same = ap (λ r. is_some (first_of (codes "SALT") r)) same ∙ ap is_some (are_pair words all none).salt_is
 
 pub pair_read : (words : List (List ℕ)) (rows : List Row) (name salt : List ℕ) → list_all is_value words ≡ true → fault_of account_grammar words ≡ []
-    → rows ≡ matches_of account_grammar words → first_of (codes "NAME") rows ≡ Some name → first_of (codes "SALT") rows ≡ Some salt → pair_in words ≡ Some (name, salt)
+    → rows ≡ matches_of account_grammar words → first_of (codes "NAME") rows ≡ Some name → first_of (codes "SALT") rows ≡ Some salt
+    → pair_in words ≡ Some (name, salt)
 pair_read words rows name salt all none same is are =
     let pair = are_pair words all none in
     ap pair_in pair.words_are
@@ -99,7 +103,8 @@ pair_refused M words status.WriteFault all parsed = absurd parsed
 pair_refused M words status.ListenFault all parsed = absurd parsed
 
 -- the task of two positional words
-pub account_two : (words : List (List ℕ)) (name salt : List ℕ) → list_all is_value words ≡ true → pair_in words ≡ Some (name, salt) → account_task words ≡ make_of name salt
+pub account_two : (words : List (List ℕ)) (name salt : List ℕ) → list_all is_value words ≡ true → pair_in words ≡ Some (name, salt)
+    → account_task words ≡ make_of name salt
 account_two words name salt all pair =
     ap account_task (words-pair words name salt pair) ∙ both name salt (sym (ap (list_all is_value) (words-pair words name salt pair)) ∙ all)
   where
@@ -117,7 +122,8 @@ account_two words name salt all pair =
     words-pair : (words : List (List ℕ)) (name salt : List ℕ) → pair_in words ≡ Some (name, salt) → words ≡ name ∷ salt ∷ []
     words-pair [] name salt pair = absurd (none-some pair)
     words-pair (a ∷ []) name salt pair = absurd (none-some pair)
-    words-pair (a ∷ s ∷ []) name salt pair = ap₂ (λ v w. v ∷ w ∷ []) (ap (λ (o : Option (List ℕ × List ℕ)). first-of o) pair) (ap (λ (o : Option (List ℕ × List ℕ)). second-of o) pair)
+    words-pair (a ∷ s ∷ []) name salt pair =
+        ap₂ (λ v w. v ∷ w ∷ []) (ap (λ (o : Option (List ℕ × List ℕ)). first-of o) pair) (ap (λ (o : Option (List ℕ × List ℕ)). second-of o) pair)
     words-pair (a ∷ s ∷ x ∷ more) name salt pair = absurd (none-some pair)
 
     both : (name salt : List ℕ) → list_all is_value (name ∷ salt ∷ []) ≡ true → account_task (name ∷ salt ∷ []) ≡ make_of name salt

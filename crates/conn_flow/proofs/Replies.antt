@@ -16,11 +16,13 @@ handled_stands : (s : Talk) (more : Bool) (reading : Reading) → is_ready readi
 handled_stands s true reading h = (h, tt)
 handled_stands s false reading h = (h, tt)
 
-entered_stands : (s : Talk) (pulls more : Bool) (reading : Reading) → is_ready reading ≡ true → Stands s (if pulls then PullingOnce else handled_phase more) reading
+entered_stands : (s : Talk) (pulls more : Bool) (reading : Reading) → is_ready reading ≡ true
+    → Stands s (if pulls then PullingOnce else handled_phase more) reading
 entered_stands s true more reading h = (h, tt)
 entered_stands s false more reading h = handled_stands s more reading h
 
-logged_stands : (s : Talk) (user : Option _) (reading : Reading) → IsThere user → is_ready reading ≡ true → Stands (logged_by s user) (logged_by s user).phase reading
+logged_stands : (s : Talk) (user : Option _) (reading : Reading) → IsThere user → is_ready reading ≡ true
+    → Stands (logged_by s user) (logged_by s user).phase reading
 logged_stands s (Some user) reading there h = (h, tt)
 logged_stands s None reading there h = absurd there
 

@@ -16,20 +16,21 @@ pub visited : (o : Site) (x : Ended) (blank tape : Option (List Mark)) (tapes ta
     → Untold Mark blank → Went o (told blank turns moments drawn) (told tape turns' moments' drawn') x → tapes1 ≡ tapes → TakesBack tapes1 tape tapes2
     → links1 ≡ raised links → links2 ≡ links1 → marked' ≡ marked_at x marked → Caused x (counts_of f e d) (counts_of f' e' d')
     → (y : Ended) × Visited o (shift tapes turns moments drawn links d marked) y (shift tapes2 turns' moments' drawn' links2 d' marked')
-visited o x blank tape tapes tapes1 tapes2 turns turns' moments moments' drawn drawn' links links1 links2 f f' e e' d d' marked marked' unmarked went same back counted kept mark cause = (
-  x,
-  record {
-    blank = blank;
-    tape = tape;
-    unmarked = unmarked;
-    went = went;
-    back = subst (λ (t : Option (List (List Mark))). TakesBack t tape tapes2) same back;
-    counted = kept ∙ counted;
-    dice_kept = cause.dice;
-    dice_failed = λ (is : x ≡ ended.DiceFault). subst (λ (y : Ended). Rises y (counts_of f e d) (counts_of f' e' d')) is cause.rose;
-    mark = mark;
-  },
-)
+visited o x blank tape tapes tapes1 tapes2 turns turns' moments moments' drawn drawn' links links1 links2 f f' e e' d d' marked marked' unmarked went same back
+    counted kept mark cause = (
+      x,
+      record {
+        blank = blank;
+        tape = tape;
+        unmarked = unmarked;
+        went = went;
+        back = subst (λ (t : Option (List (List Mark))). TakesBack t tape tapes2) same back;
+        counted = kept ∙ counted;
+        dice_kept = cause.dice;
+        dice_failed = λ (is : x ≡ ended.DiceFault). subst (λ (y : Ended). Rises y (counts_of f e d) (counts_of f' e' d')) is cause.rose;
+        mark = mark;
+      },
+    )
 
 -- a link came, so the quota was not reached
 pub within_more : (quota links quota' links' : ℕ) → quota' ≡ quota → links' ≡ raised links → reached quota links ≡ false → IsWithin quota' links'

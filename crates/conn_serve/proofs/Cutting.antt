@@ -81,7 +81,8 @@ opens_one (event.Sweep w t) h = absurd (let e : false ≡ true = h in cc)
 
 openings_none : (ts more : List Turn) → NoneOpens ts → openings (ts ++ more) ≡ openings more
 openings_none [] more none = refl
-openings_none (t ∷ ts) more (not_this, none) = ap (λ (n : ℕ). n + openings (ts ++ more)) (opens_none t.event not_this) ∙ adds_none (openings (ts ++ more)) ∙ openings_none ts more none
+openings_none (t ∷ ts) more (not_this, none) = ap (λ (n : ℕ). n + openings (ts ++ more)) (opens_none t.event not_this) ∙ adds_none (openings (ts ++ more))
+    ∙ openings_none ts more none
 
 openings_first : (first : Turn) (rest more : List Turn) → is_opening first.event ≡ true → NoneOpens rest → openings (first ∷ (rest ++ more)) ≡ 1 + openings more
 openings_first first rest more opens none =
@@ -217,7 +218,8 @@ paired_all o a x mid more b visit gained cuts s next before now is_before is_now
     in
     (first.0, first.1, subst (λ (l : List (List Turn)). Paired o first.0 l (x ∷ more)) (sym cuts) first.2)
 
-pieced_more : (o : Site) (a : Shift) (x : Ended) (mid : Shift) (more : List Ended) (b : Shift) (visit : Visited o a x mid) → IsPiece (turns visit.went.follows.moves)
+pieced_more : (o : Site) (a : Shift) (x : Ended) (mid : Shift) (more : List Ended) (b : Shift) (visit : Visited o a x mid)
+    → IsPiece (turns visit.went.follows.moves)
     → Serves o mid more b → Pieced o mid more b → Pieced o a (x ∷ more) b
 pieced_more o a x mid more b visit is s p =
     let piece : List Turn = turns visit.went.follows.moves in
@@ -241,7 +243,8 @@ pieced o a [] b s h = pieced_none o a b s
 pieced o a (x ∷ more) b (mid, visit, rest) h =
     let unmarked : mid.marked ≡ false = unmarked_by o mid more b mid.marked rest h refl in
     pieced_more o a x mid more b visit
-    (is_piece o visit.went.follows.opened visit.went.follows.moves visit.went.follows.last x (not_spent o a x mid visit unmarked) visit.went.follows.through visit.went.follows.left)
+    (is_piece o visit.went.follows.opened visit.went.follows.moves visit.went.follows.last x (not_spent o a x mid visit unmarked) visit.went.follows.through
+    visit.went.follows.left)
     rest (pieced o mid more b rest h)
 
 attends : (o : Site) (a : Shift) (ends : List Ended) (b : Shift) → Serves o a ends b → Attends o a b

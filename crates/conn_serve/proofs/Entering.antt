@@ -44,7 +44,8 @@ pub submitted :
     → turns' ≡ turns ++ made e r text ∷ [] → tape1 ≡ tape → f1 ≡ f → e1 ≡ e0
     → ((v : Duty) → v.owed ≡ text → Spoke o (tale tape1 turns' told0 drawn f1 e1 d) v (tale tape2 turns' told2 drawn f2 e2 d) result)
     → Turned o (tale tape turns told0 drawn f e0 d) (duty o p) (tale tape2 turns' told2 drawn f2 e2 d) flow' ahead result
-submitted o p e r text flow flow' ahead result tape tape1 tape2 turns turns' told0 told2 drawn f f1 f2 e0 e1 e2 d h owes ahead_is w was is gained t1 g1 k1 spoke =
+submitted o p e r text flow flow' ahead result tape tape1 tape2 turns turns' told0 told2 drawn f f1 f2 e0 e1 e2 d h owes ahead_is w was is gained t1 g1 k1
+    spoke =
     let q : Place = enters_at p r text in
     let law : GoesOn o (duty o p) (Enters (made e r text)) (duty o q) × IsServed o q = L.enters o p e r text h owes w in
     let says : Spoke o (tale tape turns' told0 drawn f e0 d) (duty o q) (tale tape2 turns' told2 drawn f2 e2 d) result =

@@ -60,7 +60,8 @@ pub named_by : (o : Site) (t : ℕ) (v : Duty) (dice : List ℕ) (tape : Option 
     → Grew o (tale tape turns moments drawn f e d) v (tale tape turns moments drawn' f e d') (duty o (start o dice t))
 named_by o t v dice tape turns moments drawn drawn' f e d d' is long tells kept =
     subst (λ (x : Duty). Grew o (tale tape turns moments drawn f e d) x (tale tape turns moments drawn' f e d') (duty o (start o dice t))) (sym is)
-    (one o (tale tape turns moments drawn f e d) (tale tape turns moments drawn' f e d') (record (opening o t) { due = Id ∷ [] }) (duty o (start o dice t)) (Draws dice)
+    (one o (tale tape turns moments drawn f e d) (tale tape turns moments drawn' f e d') (record (opening o t) { due = Id ∷ [] }) (duty o (start o dice t))
+    (Draws dice)
     (refl, (long, refl)) (tells_nothing Mark tape) (sym (append-nil _)) (tells_nothing ℕ moments) tells
     (calm (Draws dice ∷ []) _ _ refl refl refl (same f) (same e) kept))
 
@@ -234,7 +235,8 @@ made_by : (o : Site) (t : ℕ) (moves : List Move) (last : Duty) (x : Ended) →
 made_by o t moves last x through left =
     elim (caused o (opening o t) moves last x through (subst (λ (due : List Due). IsDue x due) (sym left) (inl refl))) [ inl none ↦ absurd none | inr c ↦ c ]
 
-has_made : (is : Move → Bool) (o : Site) (t : ℕ) (moves : List Move) (x : Ended) (c : CausedFrom o (opening o t) moves x) → is c.move ≡ true → has is moves ≡ true
+has_made : (is : Move → Bool) (o : Site) (t : ℕ) (moves : List Move) (x : Ended) (c : CausedFrom o (opening o t) moves x) → is c.move ≡ true
+    → has is moves ≡ true
 has_made is o t moves x c h = ap (has is) c.split ∙ among is c.before c.move c.after h
 
 rises : (o : Site) (t : ℕ) (a b : Tale) (x : Ended) → Gone o a (opening o t) b x → Rises x a.counts b.counts
@@ -297,7 +299,8 @@ gone_unturned o a v x t fault line old new tape moments drawn f e d h served =
     subst (λ (y : List Turn). Gone o a v (tale tape y moments drawn f e d) ended.Spent) (sym (no_turn line x t fault old new served))
     (gone_without o a (tale tape (turns_of line old) moments drawn f e d) v x t h)
 
-open_turn : (line : ℕ) (fault : DeskFault) (old new : List Turn) → Served line (event.OpenLine line) [] (Err fault) old new → turns_of line new ≡ turns_of line old
+open_turn : (line : ℕ) (fault : DeskFault) (old new : List Turn) → Served line (event.OpenLine line) [] (Err fault) old new
+    → turns_of line new ≡ turns_of line old
 open_turn line desk.NoMemory old new h = absurd h.1
 open_turn line desk.Spent old new h = ap (turns_of line) h.1
 

@@ -74,7 +74,8 @@ more_heard o p t flow' ahead' Goes a h owes at some now heard =
         sent = owes;
         served = law.1;
       };
-      grew = subst (λ (v : Duty). Grew o a v a (duty o (hears_at p p.flow.talk.moment p.ahead))) law.0 (grew_nothing o a (duty o (hears_at p p.flow.talk.moment p.ahead)));
+      grew = subst (λ (v : Duty). Grew o a v a (duty o (hears_at p p.flow.talk.moment p.ahead))) law.0
+          (grew_nothing o a (duty o (hears_at p p.flow.talk.moment p.ahead)));
     }
 more_heard o p t flow' ahead' (Finishes x u) a h owes at some now heard =
     no_memory o a (duty o p) a x t u heard.0 heard.1
@@ -152,7 +153,8 @@ pub hears_more : (o : Site) (p : Place) (flow : State) (ahead : List ℕ) (t : �
     → Turned o a (duty o p) a flow' ahead' result
 hears_more o p flow ahead t flow' ahead' result a at =
     at_place
-    (λ (s : State) (x : List ℕ). s.talk.phase ≡ Resting → x ≢ [] → t ≡ s.talk.moment → HearsOn s x t flow' ahead' result → Turned o a (duty o p) a flow' ahead' result)
+    (λ (s : State) (x : List ℕ). s.talk.phase ≡ Resting → x ≢ [] → t ≡ s.talk.moment → HearsOn s x t flow' ahead' result
+    → Turned o a (duty o p) a flow' ahead' result)
     o p flow ahead at (λ rest some now heard. more_heard o p t flow' ahead' result a at.served at.sent rest some now heard)
 
 pub hears_bytes : (o : Site) (p : Place) (flow : State) (ahead bytes : List ℕ) (t : ℕ) (flow' : State) (ahead' : List ℕ) (result : Next)

@@ -75,7 +75,8 @@ pub record Split (o : Site) (v : Duty) (before : List Move) (m : Move) (after : 
   pub goes : GoesOn o from m to
   pub more : GoesThrough o to after w
 
-pub split : (o : Site) (v : Duty) (before : List Move) (m : Move) (after : List Move) (w : Duty) → GoesThrough o v (before ++ m ∷ after) w → Split o v before m after w
+pub split : (o : Site) (v : Duty) (before : List Move) (m : Move) (after : List Move) (w : Duty) → GoesThrough o v (before ++ m ∷ after) w
+    → Split o v before m after w
 split o v [] m after w (mid, goes, more) = record { from = v; to = mid; came = refl; goes = goes; more = more }
 split o v (n ∷ before) m after w (mid, goes, more) =
     let s : Split o mid before m after w = split o mid before m after w more in
@@ -94,7 +95,8 @@ spent_makes o v w (Enters turn) h = absurd h
 spent_makes o v w (Draws dice) h = absurd h
 
 -- no connection is to leave its line for want of a turn
-spent_left : (o : Site) (v : Duty) (moves : List Move) (w : Duty) (c : CausedFrom o v moves ended.Spent) → GoesThrough o v moves w → w.due ≡ Left ended.Spent ∷ []
+spent_left : (o : Site) (v : Duty) (moves : List Move) (w : Duty) (c : CausedFrom o v moves ended.Spent) → GoesThrough o v moves w
+    → w.due ≡ Left ended.Spent ∷ []
 spent_left o v moves w c through =
     let s : Split o v c.before (Stops ended.Spent) c.after w =
     split o v c.before (Stops ended.Spent) c.after w
@@ -124,7 +126,8 @@ marks_on Goes marked on = refl
 marks_on (Finishes x t) marked on = refl
 marks_on Exhausts marked on = absurd (on refl)
 
-pub refused_marks : (fault : DeskFault) (line : ℕ) (x : Ended) (t : ℕ) (old new : List Turn) (marked : Bool) → Served line (last_of line x t) [] (Err fault) old new
+pub refused_marks : (fault : DeskFault) (line : ℕ) (x : Ended) (t : ℕ) (old new : List Turn) (marked : Bool)
+    → Served line (last_of line x t) [] (Err fault) old new
     → marked_by (Err fault) marked ≡ true
 refused_marks desk.NoMemory line x t old new marked h = absurd (no_short line x t h.1)
 refused_marks desk.Spent line x t old new marked h = refl
@@ -163,7 +166,8 @@ marks o t a b NoTurn x old mid new h is (spent, same) = subst (λ (y : Ended). n
 marks o t a b (Over y u) x old mid new h is (inl (xy, same)) =
     subst (λ (z : Ended). new ≡ marked_at z old) (sym xy)
     (same ∙ is
-    ∙ sym (keeps y old (λ (e : y ≡ ended.Spent). never_spent o t u a b (subst (λ (z : Ended). Finished o a (record (opening o t) { due = Id ∷ [] }) b z u) e h))))
+    ∙ sym (keeps y old (λ (e : y ≡ ended.Spent). never_spent o t u a b
+    (subst (λ (z : Ended). Finished o a (record (opening o t) { due = Id ∷ [] }) b z u) e h))))
 marks o t a b (Over y u) x old mid new h is (inr (spent, set)) = subst (λ (z : Ended). new ≡ marked_at z old) (sym spent) set
 
 -- A whole connection, with what made its end.

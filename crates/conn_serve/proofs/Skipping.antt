@@ -30,7 +30,8 @@ least false n most h = omega (arith, h)
 
 taken_least : (l : Limits) (r : Reading) (bytes : List ℕ) → taken_reading l r bytes ≤ length bytes
 taken_least l r [] = omega arith
-taken_least l r (b ∷ bytes) = least (is_done (reading_next l r b)) (taken_reading l (reading_next l r b) bytes) (length bytes) (taken_least l (reading_next l r b) bytes)
+taken_least l r (b ∷ bytes) = least (is_done (reading_next l r b)) (taken_reading l (reading_next l r b) bytes) (length bytes)
+    (taken_least l (reading_next l r b) bytes)
 
 taken_most : (l : Limits) (r : Reading) (bytes : List ℕ) → taken l r bytes ≤ length bytes
 taken_most l (stopped f k) bytes = omega arith

@@ -93,5 +93,6 @@ left_over xs i h e = omega (arith, length-drop i xs, ap length e)
 pub some_taken : (xs : List ℕ) (n : ℕ) → 0 < n → n ≤ length xs → take n xs ≢ []
 some_taken xs n some fits e = grind (arith, common_steps, ap length e)
 
-pub none_left : (o : Site) (a b : Tale) (v w : Duty) (rest : List ℕ) → rest ≡ [] → Grew o a v b (record w { owed = rest }) → Grew o a v b (record w { owed = [] })
+pub none_left : (o : Site) (a b : Tale) (v w : Duty) (rest : List ℕ) → rest ≡ [] → Grew o a v b (record w { owed = rest })
+    → Grew o a v b (record w { owed = [] })
 none_left o a b v w rest is grew = subst (λ (x : List ℕ). Grew o a v b (record w { owed = x })) is grew

@@ -58,7 +58,8 @@ one : (hall : Hall) (accounts : Book) (h : List Turn) (n : ℕ) (a b : Seat) →
     × Attends (site_of n (opening_state hall).head.domain.domain accounts) (at_line a.told [] false) (at_line b.told (turns_of n h) marked)
 one hall accounts h n a b t number (none, unmarked) starts own most =
     let domain : List ℕ = (opening_state hall).head.domain.domain in
-    let at : Attends (site_of n domain accounts) (at_line a.told (turns_of n (seen a.pass)) (refused a.pass)) (at_line b.told (turns_of n (seen b.pass)) (refused b.pass)) =
+    let at : Attends (site_of n domain accounts) (at_line a.told (turns_of n (seen a.pass)) (refused a.pass))
+    (at_line b.told (turns_of n (seen b.pass)) (refused b.pass)) =
     subst (λ (m : ℕ). Attends (site_of m domain accounts) (at_line a.told (turns_of m (seen a.pass)) (refused a.pass))
     (at_line b.told (turns_of m (seen b.pass)) (refused b.pass))) number t.attends
     in
@@ -128,7 +129,8 @@ all_came hall accounts (a ∷ olds) (b ∷ news) (first, rest) = All-cons (CameF
 one_more : (m n : ℕ) → m ≡ n → suc m ≡ suc n
 one_more m n h = ap suc h
 
-all_ended : (hall : Hall) (accounts : Book) (olds news : List Seat) → AllTended hall accounts olds news → AllEnded (told_of olds) (told_of news) (failed_of news)
+all_ended : (hall : Hall) (accounts : Book) (olds news : List Seat) → AllTended hall accounts olds news
+    → AllEnded (told_of olds) (told_of news) (failed_of news)
 all_ended hall accounts [] [] tended = tt
 all_ended hall accounts [] (b ∷ news) tended = absurd tended
 all_ended hall accounts (a ∷ olds) [] tended = absurd tended
@@ -181,7 +183,8 @@ module _ {W P : Type 0} (pass : W → HallPass) (post : W → P) (tell : P → T
       All-cons (λ w. CameFrom hall (pass w)) w ws (All-head (CameFrom hall) (pass w) (map pass ws) all)
       (all_at hall ws (map pass ws) refl (All-tail (CameFrom hall) (pass w) (map pass ws) all))
 
-  pub came_after : (hall : Hall) (accounts : Book) (olds news : List W) (left : List HallPass) → AllTended hall accounts (seats olds) (seats news) → left ≡ map pass news
+  pub came_after : (hall : Hall) (accounts : Book) (olds news : List W) (left : List HallPass) → AllTended hall accounts (seats olds) (seats news)
+      → left ≡ map pass news
       → All (CameFrom hall) left
   came_after hall accounts olds news left tended same =
       subst (All (CameFrom hall)) (seats_pass news ∙ sym same) (all_came hall accounts (seats olds) (seats news) tended)
@@ -193,7 +196,8 @@ module _ {W P : Type 0} (pass : W → HallPass) (post : W → P) (tell : P → T
       → AllTended hall accounts (seats olds) (seats news) → map pass olds ≡ passes → map post olds ≡ posts → left ≡ map pass news → back ≡ map post news
       → map number_of passes ≡ counted 0 (length posts) → length passes ≡ length posts → All Fresh passes → worked ≡ worked_by (list_any failed news)
       → Closed hall left k → Staffed (opening_state hall) accounts (map tell posts) (map tell back) worked k
-  staffed hall accounts olds news passes left posts back worked k tended same_passes same_posts left_is back_is numbers pairs fresh worked_is (h, stands, closes, most) =
+  staffed hall accounts olds news passes left posts back worked k tended same_passes same_posts left_is back_is numbers pairs fresh worked_is
+      (h, stands, closes, most) =
       let first : passes_of (seats olds) ≡ passes = seats_pass olds ∙ same_passes in
       let last : left ≡ passes_of (seats news) = left_is ∙ sym (seats_pass news) in
       let count : length posts ≡ length (seats olds) = sym pairs ∙ sym (ap length first) ∙ passes_length (seats olds) in

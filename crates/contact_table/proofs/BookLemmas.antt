@@ -25,7 +25,14 @@ kept_contact : (domain : List ℕ) (k : Book) (rs : List Record) (x : Record) �
 kept_contact domain k rs x = by (local_user domain x.address)
   where
     by : (o : Option (List ℕ)) → ◌≡◌ {A = Contact}
-        (record { address = x.address; name = x.name; groups = x.groups; subscription = subscription_to (record k { records = rs }) x.user o; asked = is_asked (record k { records = rs }) x.user o })
+        (record {
+          address = x.address;
+          name = x.name;
+          groups = x.groups;
+          subscription = subscription_to (record k { records = rs }) x.user o;
+          asked =
+              is_asked (record k { records = rs }) x.user o;
+        })
         (record { address = x.address; name = x.name; groups = x.groups; subscription = subscription_to k x.user o; asked = is_asked k x.user o })
     by None = refl
     by (Some other) = refl
@@ -125,7 +132,8 @@ pub contacts_with : (domain : List ℕ) (k : Book) (x : Record) (u : List ℕ)
     → contacts_of domain (record k { records = with_contact x k.records }) u
     ≡ cond (bytes_eq x.user u) (with_listed (contact_of domain k x) (contacts_of domain k u)) (contacts_of domain k u)
 contacts_with domain k x u =
-    map_same (contact_of domain (record k { records = with_contact x k.records })) (contact_of domain k) (filter (λ y. bytes_eq y.user u) (with_contact x k.records))
+    map_same (contact_of domain (record k { records = with_contact x k.records })) (contact_of domain k)
+    (filter (λ y. bytes_eq y.user u) (with_contact x k.records))
     (kept_contact domain k (with_contact x k.records))
     ∙ told_with (contact_of domain k) (λ y. refl) u x k.records
 
@@ -259,7 +267,8 @@ address_kept false q on flag c = refl
 
 pub contacts_sees : (domain a b u : List ℕ) (k : Book) (on : Bool)
     → contacts_of domain (record k { sees = with_pair (pair a b) on k.sees }) u
-    ≡ cond (bytes_eq b u) (map (marked domain a Seen on) (cond (bytes_eq a u) (map (marked domain b Sees on) (contacts_of domain k u)) (contacts_of domain k u)))
+    ≡ cond (bytes_eq b u) (map (marked domain a Seen on)
+    (cond (bytes_eq a u) (map (marked domain b Sees on) (contacts_of domain k u)) (contacts_of domain k u)))
     (cond (bytes_eq a u) (map (marked domain b Sees on) (contacts_of domain k u)) (contacts_of domain k u))
 contacts_sees domain a b u k on =
     let own = filter (λ x. bytes_eq x.user u) k.records in
@@ -300,7 +309,8 @@ pub sheet_with : (domain : List ℕ) (k : Book) (x : Record) (u : List ℕ)
 sheet_with domain k x u =
     ap (λ (cs : List Contact). record (sheet_of domain k u) { contacts = cs }) (contacts_with domain k x u) ∙ by (bytes_eq x.user u)
   where
-    by : (b : Bool) → ◌≡◌ {A = Sheet} (record (sheet_of domain k u) { contacts = cond b (with_listed (contact_of domain k x) (contacts_of domain k u)) (contacts_of domain k u) })
+    by : (b : Bool) → ◌≡◌ {A = Sheet}
+        (record (sheet_of domain k u) { contacts = cond b (with_listed (contact_of domain k x) (contacts_of domain k u)) (contacts_of domain k u) })
         (cond b (putting (contact_of domain k x) (sheet_of domain k u)) (sheet_of domain k u))
     by true = refl
     by false = refl
@@ -311,7 +321,9 @@ pub sheet_without : (domain : List ℕ) (k : Book) (user : List ℕ) (address : 
 sheet_without domain k user address u =
     ap (λ (cs : List Contact). record (sheet_of domain k u) { contacts = cs }) (contacts_without domain k user address u) ∙ by (bytes_eq user u)
   where
-    by : (b : Bool) → ◌≡◌ {A = Sheet} (record (sheet_of domain k u) { contacts = cond b (filter (λ c. not (same_address c.address address)) (contacts_of domain k u)) (contacts_of domain k u) })
+    by : (b : Bool) → ◌≡◌ {A = Sheet}
+        (record (sheet_of domain k u)
+        { contacts = cond b (filter (λ c. not (same_address c.address address)) (contacts_of domain k u)) (contacts_of domain k u) })
         (cond b (taking_out address (sheet_of domain k u)) (sheet_of domain k u))
     by true = refl
     by false = refl
@@ -328,7 +340,9 @@ sheet_sees domain a b u k on =
     let old = sheet_of domain k u in
     ap (λ (cs : List Contact). record (sheet_of domain new u) { contacts = cs }) (contacts_sees domain a b u k on)
     ∙ ap (λ (us : List (List ℕ)). record (sheet_of domain new u) { contacts = made (bytes_eq a u) (bytes_eq b u); who_sees = us }) (firsts_with a b u on k.sees)
-    ∙ ap (λ (us : List (List ℕ)). record old { contacts = made (bytes_eq a u) (bytes_eq b u); who_sees = cond (bytes_eq b u) (with_user a on old.who_sees) old.who_sees; whom_sees = us }) (seconds_with a b u on k.sees)
+    ∙ ap (λ (us : List (List ℕ)). record old
+    { contacts = made (bytes_eq a u) (bytes_eq b u); who_sees = cond (bytes_eq b u) (with_user a on old.who_sees) old.who_sees; whom_sees = us })
+    (seconds_with a b u on k.sees)
     ∙ by (bytes_eq a u) (bytes_eq b u)
   where
     made : Bool → Bool → List Contact

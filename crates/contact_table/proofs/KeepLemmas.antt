@@ -55,7 +55,14 @@ asked_is domain user k es (Some other) kept =
 -- the changes
 
 pub keeps_contact : (domain : List ℕ) (k : Book) (x : Record) (c : Contact) (uses : ℕ) (old new : Entries) → Keeps domain k old
-    → c ≡ record { address = x.address; name = x.name; groups = x.groups; subscription = subscription_in (sheet_in (folder_at x.user old)) (local_user domain x.address); asked = asked_in old x.user (local_user domain x.address) }
+    → c ≡ record {
+      address = x.address;
+      name = x.name;
+      groups = x.groups;
+      subscription =
+          subscription_in (sheet_in (folder_at x.user old)) (local_user domain x.address);
+      asked = asked_in old x.user (local_user domain x.address);
+    }
     → Edits x.user (putting c) uses 0 old new → Keeps domain (record k { records = with_contact x k.records }) new
 keeps_contact domain k x c uses old new before made edit =
     kept_by domain x.user k (record k { records = with_contact x k.records }) (putting c) uses 0 old new before edit

@@ -52,7 +52,8 @@ module _ {Q V : Type 0} (key : Q → List ℕ) (value : Q → V) where
         ∙ by (test (value q)) (bytes_eq (key q) u) refl
       where
         by : (x z : Bool) → test (value q) ≡ x
-            → ((x && z) || list_any test (listed u qs)) ≡ list_any test (map value (cond z (q ∷ filter (λ q. bytes_eq (key q) u) qs) (filter (λ q. bytes_eq (key q) u) qs)))
+            → ((x && z) || list_any test (listed u qs))
+            ≡ list_any test (map value (cond z (q ∷ filter (λ q. bytes_eq (key q) u) qs) (filter (λ q. bytes_eq (key q) u) qs)))
         by true true tests = sym (ap (λ b. b || list_any test (listed u qs)) tests)
         by false true tests = sym (ap (λ b. b || list_any test (listed u qs)) tests)
         by true false tests = refl
@@ -68,7 +69,8 @@ module _ {Q V : Type 0} (key : Q → List ℕ) (value : Q → V) where
         ∙ by (t q) (test (value q)) (bytes_eq (key q) u) (is q ∙ ap (λ b. test (value q) && b) key_is) refl (removed_own own qs)
       where
         by : (s x z : Bool) → s ≡ (x && z) → test (value q) ≡ x → listed u (filter (λ q. not (t q)) qs) ≡ filter (λ v. not (test v)) (listed u qs)
-            → map value (cond (not s) (cond z (q ∷ filter (λ q. bytes_eq (key q) u) (filter (λ q. not (t q)) qs)) (filter (λ q. bytes_eq (key q) u) (filter (λ q. not (t q)) qs)))
+            → map value (cond (not s)
+            (cond z (q ∷ filter (λ q. bytes_eq (key q) u) (filter (λ q. not (t q)) qs)) (filter (λ q. bytes_eq (key q) u) (filter (λ q. not (t q)) qs)))
             (filter (λ q. bytes_eq (key q) u) (filter (λ q. not (t q)) qs)))
             ≡ filter (λ v. not (test v)) (map value (cond z (q ∷ filter (λ q. bytes_eq (key q) u) qs) (filter (λ q. bytes_eq (key q) u) qs)))
         by true x false made tests rest = rest
@@ -89,7 +91,8 @@ module _ {Q V : Type 0} (key : Q → List ℕ) (value : Q → V) where
         ∙ by (t q) (bytes_eq (key q) u) (test (value q)) (bytes_eq k (key q)) (is q) (λ same. alike k (key q) u same ∙ other) (removed_else other qs)
       where
         by : (s z x y : Bool) → s ≡ (x && y) → (y ≡ true → z ≡ false) → listed u (filter (λ q. not (t q)) qs) ≡ listed u qs
-            → map value (cond (not s) (cond z (q ∷ filter (λ q. bytes_eq (key q) u) (filter (λ q. not (t q)) qs)) (filter (λ q. bytes_eq (key q) u) (filter (λ q. not (t q)) qs)))
+            → map value (cond (not s)
+            (cond z (q ∷ filter (λ q. bytes_eq (key q) u) (filter (λ q. not (t q)) qs)) (filter (λ q. bytes_eq (key q) u) (filter (λ q. not (t q)) qs)))
             (filter (λ q. bytes_eq (key q) u) (filter (λ q. not (t q)) qs)))
             ≡ map value (cond z (q ∷ filter (λ q. bytes_eq (key q) u) qs) (filter (λ q. bytes_eq (key q) u) qs))
         by false true x y made apart rest = ap (λ vs. value q ∷ vs) rest

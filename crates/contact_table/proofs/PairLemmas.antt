@@ -92,7 +92,8 @@ module _ (key value : Pair → List ℕ) (p : Pair) (is : (q : Pair) → is_pair
     where
       by : (t s : Bool) → list_any (is_pair p) ps ≡ t → bytes_eq (key p) u ≡ s
           → listed key value u (cond t ps (ps ++ p ∷ []))
-          ≡ cond s (cond (list_any (bytes_eq (value p)) (listed key value u ps)) (listed key value u ps) (listed key value u ps ++ value p ∷ [])) (listed key value u ps)
+          ≡ cond s (cond (list_any (bytes_eq (value p)) (listed key value u ps)) (listed key value u ps) (listed key value u ps ++ value p ∷ []))
+          (listed key value u ps)
       by true true there own =
           let us = listed key value u ps in
           sym (ap (λ x. cond x us (us ++ value p ∷ [])) (sym (any_listed key value (key p) (bytes_eq (value p)) (is_pair p) is u own ps) ∙ there))

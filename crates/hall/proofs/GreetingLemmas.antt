@@ -43,7 +43,8 @@ type-proper = ((116, codes "ype", refl, refl, each continues_name (codes "ype") 
 
 greeting-proper : (to : List ℕ) → IsXmlText to → IsProper (greeting to)
 greeting-proper to xml =
-    every_made-Element (λ m. Unit {0}) IsProperPart (record { name = (greeting to).name; attrs = (greeting to).attrs; children = [] }) (record { name = (greeting to).name; attrs = (greeting to).attrs; children = [] }) refl
+    every_made-Element (λ m. Unit {0}) IsProperPart (record { name = (greeting to).name; attrs = (greeting to).attrs; children = [] })
+    (record { name = (greeting to).name; attrs = (greeting to).attrs; children = [] }) refl
     (name-proper, (to-proper to xml, (type-proper, tt)), distinct to, tt)
 
 pub home-text : IsXmlText (codes "bob@example.org/home")

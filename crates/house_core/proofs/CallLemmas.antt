@@ -22,7 +22,8 @@ use Rattle.house_model.specs.declared.reply.Reply.{Reply}
 use Rattle.house_world.proofs.WorldLemmas.{few_later}
 
 abbrev pub house : Address → List (List ℕ) → (turns moment : ℕ) → code.World → HouseRecord
-house domain users turns moment a = record { domain = domain; users = users; turns = turns; moment = moment; table = a.table; answers = a.answers.items; book = a.book }
+house domain users turns moment a =
+    record { domain = domain; users = users; turns = turns; moment = moment; table = a.table; answers = a.answers.items; book = a.book }
 
 -- the step of an event whose effects are these
 pub state_is : (domain : Address) (users : List (List ℕ)) (turns moment moment' : ℕ) (a b : code.World) (e : Event) (es : List Effect) (more : ℕ)

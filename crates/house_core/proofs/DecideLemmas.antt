@@ -48,7 +48,8 @@ module _ (w c s h : ℕ) (id : ResumeId) (t : KeptTraffic) (small : t.count < 2 
   taken : (o : Option ℕ) → takes (kept_resume t o) w c s h id t ≡ verdict_by (resumed_at t.count (t.count + t.given) h o) w c s h id t
   taken None =
       let is : t.count ≡ count_of t.count = omega (arith, small) in
-      ap (λ (k : ℕ). does (reply.Over (cause.TooHigh h k (count_of (t.count + t.given)))) (At w (Close c (cause.TooHigh h k (count_of (t.count + t.given)))) ∷ [])) is
+      ap (λ (k : ℕ). does (reply.Over (cause.TooHigh h k (count_of (t.count + t.given))))
+      (At w (Close c (cause.TooHigh h k (count_of (t.count + t.given)))) ∷ [])) is
   taken (Some n) = refl
 
   held_verdict : (v d : ℕ) (digits yours : Bool)
@@ -98,7 +99,8 @@ answered_with user domain w c h id ls x (Some other) narrow counts =
     let yours = same_bare x.address (users_address user domain) in
     ap (λ (b : Bool). resumes_by (b && (digits && yours)) (hold_by x.state x.holder ls) w c id.session h id (traffic_of x)) (counts refl)
     ∙ (life_verdict w c id.session h id (traffic_of x) (narrow refl).kept x.state x.holder ls digits yours
-    ∙ ap (λ (q : ℕ). verdict_by (decide_by digits yours (is_over x.state) (resumed_at x.queue.kept q h (number x.queue.kept q h))) w c id.session h id (traffic_of x))
+    ∙ ap (λ (q : ℕ). verdict_by (decide_by digits yours (is_over x.state) (resumed_at x.queue.kept q h (number x.queue.kept q h))) w c id.session h id
+    (traffic_of x))
     (sym (same_window x (narrow refl))))
 
 answered_by : (user domain : List ℕ) (w c h : ℕ) (id : ResumeId) (ls : List stage.Line) (o : Option SessionRecord)

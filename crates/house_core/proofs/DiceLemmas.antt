@@ -19,7 +19,8 @@ all-printable : (bytes : List ℕ) → ((i : ℕ) → get_or bytes i 0 < 256) �
 all-printable [] fits = refl
 all-printable (b ∷ bytes) fits =
     let small : b < 256 = fits 0 in
-    two-more is_resource_byte (hex_digit (b / 16)) (hex_digit (b % 16)) (hex bytes) (digit-printable (b / 16) (omega arith)) (digit-printable (b % 16) (omega arith))
+    two-more is_resource_byte (hex_digit (b / 16)) (hex_digit (b % 16)) (hex bytes) (digit-printable (b / 16) (omega arith))
+    (digit-printable (b % 16) (omega arith))
     (all-printable bytes (λ i. fits (suc i)))
 
 length-hex : (bytes : List ℕ) → length (hex bytes) ≡ 2 * length bytes

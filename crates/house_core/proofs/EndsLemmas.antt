@@ -61,6 +61,7 @@ enable_ends k p w c s wants dice a b d world pass same did =
     })
 
 -- a call that is its event's verdict, carried out
-pub ends_by : (k : Kept) (e : Event) (p q : model.Pass) (m : ℕ) (r : Reply) (a b d : code.World) → p ≡ q → b ≡ a → Ends (body k e q) m r b d → Ends (body k e p) m r a d
+pub ends_by : (k : Kept) (e : Event) (p q : model.Pass) (m : ℕ) (r : Reply) (a b d : code.World) → p ≡ q → b ≡ a → Ends (body k e q) m r b d
+    → Ends (body k e p) m r a d
 ends_by k e p q m r a b d pass same ends =
     subst (λ (o : model.Pass). Ends (body k e o) m r a d) (sym pass) (subst (λ (z : code.World). Ends (body k e q) m r z d) same ends)

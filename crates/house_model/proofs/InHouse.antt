@@ -178,7 +178,8 @@ covered world o s x same is = record {
   shows = λ e priority small. stays_in_house world s s (Act x) tt is;
   hides = stays_in_house world s s (Act x) tt is;
   directs = λ addresses. stays_in_house world s s (Act x) tt is;
-  pairs = λ own place user mine at named. tells o.world (FitsAfter world s x) Any Any Any each (party o.domain o.world own) (party o.domain o.world user) (seen own) (seen user);
+  pairs = λ own place user mine at named. tells o.world (FitsAfter world s x) Any Any Any each (party o.domain o.world own) (party o.domain o.world user)
+      (seen own) (seen user);
   lists = λ own. (stays_in_house world s s (Act x) tt is, ((stays_in_house world s s (Act x) tt is, refl), tt));
   changes = λ own mine.
       append_all (FitsAfter world s x) (parted o own (user_removed o own x)) _ (parts own (user_removed o own x))

@@ -104,7 +104,8 @@ party_seen domain world user I A T short items kept = record {
   presences = presences_kept world T kept (available_of world user);
 }
 
-module _ (world : World KeptTraffic) (P : Effect → Type 0) (I : Element → Type 0) (A : Address → Type 0) (T : List ℕ → Type 0) (each : Reaches world P I A T) where
+module _ (world : World KeptTraffic) (P : Effect → Type 0) (I : Element → Type 0) (A : Address → Type 0) (T : List ℕ
+    → Type 0) (each : Reaches world P I A T) where
   one_all : (h : Here) → IsAt world h → (x : Element) → I x → (b : Bool) → AllByRecursion P (pushes_if b h x)
   one_all h at x is true = (each.item h at x is, (each.count h at (h.pushes + 1), tt))
   one_all h at x is false = tt

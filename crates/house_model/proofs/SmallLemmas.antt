@@ -242,7 +242,8 @@ stanza_small o s st fits short to =
       result = said-small (here o.world s) _ (empty-reply-le st to id) own;
       found = λ place. said-small (here o.world s) _ (discovery-le place st to id) own;
       copy = λ e h is found. copy-small (here o.world s) h (to_in st) e (element-small st e fits is) own to;
-      presence = λ e h small is. shown-small (address_text h.address) (presence_text (here o.world s) e) (here-short o.world h short.addresses is) (omega (arith, small));
+      presence = λ e h small is. shown-small (address_text h.address) (presence_text (here o.world s) e) (here-short o.world h short.addresses is)
+          (omega (arith, small));
       show = λ h is.
           shown-small (address_text (here o.world s).address) _ own
           (kept-small (o.world.sessions h.session).rest.manner.presence (short.presences h.session));

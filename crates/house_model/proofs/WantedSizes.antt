@@ -113,7 +113,8 @@ removed-le a short =
     omega (
       arith,
       short,
-      under-le roster_space roster_space (codes "item") (plain_attr (codes "jid") (address_text a) ∷ plain_attr (codes "subscription") (codes "remove") ∷ []) [],
+      under-le roster_space roster_space (codes "item") (plain_attr (codes "jid") (address_text a) ∷ plain_attr (codes "subscription") (codes "remove") ∷ [])
+          [],
       plain-attributes (codes "jid") (address_text a) (plain_attr (codes "subscription") (codes "remove") ∷ []),
       plain-attributes (codes "subscription") (codes "remove") [],
       ap length (plain-declared (codes "jid") (address_text a) (plain_attr (codes "subscription") (codes "remove") ∷ [])),

@@ -182,7 +182,8 @@ module _ (a : code.World) (w s moment : ℕ) (tied : IsTied a.table) (low : w < 
       → Did (On s (left_by ((seen a).sessions s).rest.resume_id moment) ∷ At w Leave ∷ []) 0 a (record r { table = b; answers = with_item r.answers w now })
   leave_did b c now was is empty r same kept =
       let all : b ≡ with_line w Empty (changed s (released moment) a.table) = is ∙ ap (with_line w Empty) was in
-      subst (λ z. Did (On s (left_by ((seen a).sessions s).rest.resume_id moment) ∷ At w Leave ∷ []) 0 a (record r { table = b; answers = with_item r.answers w now; book = z })) (sym kept)
+      subst (λ z. Did (On s (left_by ((seen a).sessions s).rest.resume_id moment) ∷ At w Leave ∷ []) 0 a
+      (record r { table = b; answers = with_item r.answers w now; book = z })) (sym kept)
       (left_did Empty (record r { table = b; answers = with_item r.answers w now; book = a.book }) (At w Leave) 0 (λ d n e. (cc)) (λ d n e. (cc))
       (ap (λ (t : TableRecord). t.lines) all) (ap (λ (t : TableRecord). t.sessions) all) (ap (λ (t : TableRecord). t.made) all)
       (subst (λ (t : TableRecord). t.opened ≤ a.table.opened + 0) (sym all) (omega arith))
@@ -191,11 +192,13 @@ module _ (a : code.World) (w s moment : ℕ) (tied : IsTied a.table) (low : w < 
 
   pub close_did : (b c : TableRecord) (now : List Answer) (cause : Cause) → c ≡ changed s (released moment) a.table → b ≡ line_ended w cause c → now ≡ []
       → (r : code.World) → r.answers ≡ a.answers → r.book ≡ a.book
-      → Did (On s (left_by ((seen a).sessions s).rest.resume_id moment) ∷ At w (Close (conn_of (line_of w a.table)) cause) ∷ []) 0 a (record r { table = b; answers = with_item r.answers w now })
+      → Did (On s (left_by ((seen a).sessions s).rest.resume_id moment) ∷ At w (Close (conn_of (line_of w a.table)) cause) ∷ []) 0 a
+      (record r { table = b; answers = with_item r.answers w now })
   close_did b c now cause was is empty r same kept =
       let l : stage.Line = Over (conn_of (line_of w a.table)) cause in
       let all : b ≡ with_line w l (changed s (released moment) a.table) = is ∙ ap (line_ended w cause) was in
-      subst (λ z. Did (On s (left_by ((seen a).sessions s).rest.resume_id moment) ∷ At w (Close (conn_of (line_of w a.table)) cause) ∷ []) 0 a (record r { table = b; answers = with_item r.answers w now; book = z })) (sym kept)
+      subst (λ z. Did (On s (left_by ((seen a).sessions s).rest.resume_id moment) ∷ At w (Close (conn_of (line_of w a.table)) cause) ∷ []) 0 a
+      (record r { table = b; answers = with_item r.answers w now; book = z })) (sym kept)
       (left_did l (record r { table = b; answers = with_item r.answers w now; book = a.book }) (At w (Close (conn_of (line_of w a.table)) cause)) 0
       (λ d n e. (cc)) (λ d n e. (cc))
       (ap (λ (t : TableRecord). t.lines) all) (ap (λ (t : TableRecord). t.sessions) all) (ap (λ (t : TableRecord). t.made) all)
@@ -208,8 +211,10 @@ module _ (a : code.World) (w s moment : ℕ) (tied : IsTied a.table) (low : w < 
       → Did (On s (left_by ((seen a).sessions s).rest.resume_id moment) ∷ Open w ∷ []) 1 a (record r { table = b; answers = with_item r.answers w now })
   open_did b c n now was is number empty r same kept =
       let all : b ≡ with_conn w (a.table.opened + 1) (changed s (released moment) a.table) = is ∙ (λ i. with_conn w (number i) (was i)) in
-      subst (λ z. Did (On s (left_by ((seen a).sessions s).rest.resume_id moment) ∷ Open w ∷ []) 1 a (record r { table = b; answers = with_item r.answers w now; book = z })) (sym kept)
-      (left_did (Fresh (a.table.opened + 1)) (record r { table = b; answers = with_item r.answers w now; book = a.book }) (Open w) 1 (λ d n e. (cc)) (λ d n e. (cc))
+      subst (λ z. Did (On s (left_by ((seen a).sessions s).rest.resume_id moment) ∷ Open w ∷ []) 1 a
+      (record r { table = b; answers = with_item r.answers w now; book = z })) (sym kept)
+      (left_did (Fresh (a.table.opened + 1)) (record r { table = b; answers = with_item r.answers w now; book = a.book }) (Open w) 1 (λ d n e. (cc))
+      (λ d n e. (cc))
       (ap (λ (t : TableRecord). t.lines) all) (ap (λ (t : TableRecord). t.sessions) all) (ap (λ (t : TableRecord). t.made) all)
       (subst (λ (t : TableRecord). t.opened ≤ a.table.opened + 1) (sym all) (omega arith))
       (ap (λ (xs : List (List Answer)). length (set xs w now)) (ap (λ v. v.items) same) ∙ length-set a.answers.items w now) book_same

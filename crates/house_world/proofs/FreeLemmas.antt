@@ -49,7 +49,8 @@ module _ (a : code.World) (w : ℕ) (tied : IsTied a.table) (low : w < length a.
   free_did : (l : stage.Line) (b : TableRecord) (now : List Answer) (e : Effect) (more opened : ℕ) → IsUnbound l → ((d u : ℕ) → l ≡ Logged d u → ⊥)
       → opened ≤ a.table.opened + more
       → b ≡ with_line w l (record a.table { opened = opened }) → now ≡ []
-      → record (record (seen a) { lines = put w (record { stage = l; answers = [] }) (lines_of a.table a.answers.items) }) { opened = opened } ≡ apply brief (seen a) e
+      → record (record (seen a) { lines = put w (record { stage = l; answers = [] }) (lines_of a.table a.answers.items) }) { opened = opened }
+      ≡ apply brief (seen a) e
       → Did (e ∷ []) more a (record a { table = b; answers = with_item a.answers w now })
   free_did l b now e more opened unbound unlogged number is empty effect =
       subst (λ (t : TableRecord). Did (e ∷ []) more a (record a { table = t; answers = with_item a.answers w now })) (sym is)

@@ -175,7 +175,8 @@ module _ (a : code.World) (w s h : ℕ) (tied : IsTied a.table) (held : IsHeldBy
   refused_ends b cause counts none is did =
       let c' : z.counts ≡ true = sym (ap (λ (y : Session KeptTraffic). y.counts) is_mine) ∙ counts in
       let full : mine ≡ session true m (traffic_of z) (rest_of z) = is_mine ∙ ap (λ (t : Bool). session t m (traffic_of z) (rest_of z)) c' in
-      let low : kept_ack (traffic_of z) (kept_handled (traffic_of z) h) ≡ None = sym (ap (λ (y : Session KeptTraffic). brief.ack y.traffic h) full) ∙ none_here none in
+      let low : kept_ack (traffic_of z) (kept_handled (traffic_of z) h) ≡ None = sym (ap (λ (y : Session KeptTraffic). brief.ack y.traffic h) full)
+      ∙ none_here none in
       let why : cause ≡ brief.too_high (traffic_of z) h = is ∙ ap (λ (y : Session KeptTraffic). brief.too_high y.traffic h) full in
       let same : session_step brief mine (End cause) ≡ session_step brief mine (Ack h) =
       (λ i. session_step brief (full i) (End (why i)))

@@ -94,7 +94,9 @@ module _ (a : code.World) (w s : ℕ) (x : SessionRecord) (f : SessionRecord →
   off_did l b es more unbound unlogged ready sent acted lines sessions made opened answers kept world = record {
     world = world;
     tied = (let old = tied_off w s f l t x tied low at holder left ready unbound in record {
-      bound = λ v d n at'. subst (λ (es : List (ℕ × SessionRecord)). IsSomeAnd (session_of n (record t { sessions = es })) (λ z. (z.state ≡ life.Live) × (z.holder ≡ Some v))) (sym sessions)
+      bound = λ v d n at'. subst
+          (λ (es : List (ℕ × SessionRecord)). IsSomeAnd (session_of n (record t { sessions = es })) (λ z. (z.state ≡ life.Live) × (z.holder ≡ Some v)))
+          (sym sessions)
           (old.bound v d n (ap (λ (xs : List stage.Line). get_or xs v Empty) (sym lines) ∙ at'));
       holds = λ n v y at' holder'.
           let was = old.holds n v y (ap (λ (es : List (ℕ × SessionRecord)). session_of n (record t { sessions = es })) (sym sessions) ∙ at') holder' in

@@ -64,7 +64,8 @@ stage_at : (ls : List stage.Line) (answers : List (List Answer)) (w x : ℕ) (l 
     → ◌≡◌ {A = Line} (record { stage = get_or (set ls w l) x Empty; answers = get_or answers x [] })
     (put w (record { stage = l; answers = get_or answers w [] }) (λ (y : ℕ). record { stage = get_or ls y Empty; answers = get_or answers y [] }) x)
 stage_at ls answers w x l low =
-    elim (put_is {A = Line} w (record { stage = l; answers = get_or answers w [] }) (λ (y : ℕ). record { stage = get_or ls y Empty; answers = get_or answers y [] }) x) [
+    elim (put_is {A = Line} w (record { stage = l; answers = get_or answers w [] })
+    (λ (y : ℕ). record { stage = get_or ls y Empty; answers = get_or answers y [] }) x) [
       | inl p ↦
           (λ i. record {
             stage = (ap (λ k. get_or (set ls w l) k Empty) p.0 ∙ get_or-set_same ls w l Empty low) i;
@@ -83,7 +84,8 @@ said_at : (ls : List stage.Line) (answers : List (List Answer)) (w x : ℕ) (a :
     → ◌≡◌ {A = Line} (record { stage = get_or ls x Empty; answers = get_or (set answers w a) x [] })
     (put w (record { stage = get_or ls w Empty; answers = a }) (λ (y : ℕ). record { stage = get_or ls y Empty; answers = get_or answers y [] }) x)
 said_at ls answers w x a low =
-    elim (put_is {A = Line} w (record { stage = get_or ls w Empty; answers = a }) (λ (y : ℕ). record { stage = get_or ls y Empty; answers = get_or answers y [] }) x) [
+    elim (put_is {A = Line} w (record { stage = get_or ls w Empty; answers = a })
+    (λ (y : ℕ). record { stage = get_or ls y Empty; answers = get_or answers y [] }) x) [
       | inl p ↦
           (λ i. record {
             stage = get_or ls (p.0 i) Empty;

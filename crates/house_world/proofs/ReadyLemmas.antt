@@ -63,7 +63,8 @@ asking_short domain own [] small short = tt
 asking_short domain own (p ∷ ps) small short = by (bytes_eq p.b own) (asking_short domain own ps small short.1)
   where
     by : (b : Bool) → AllByRecursion IsShortAddress (map (bare_of domain) (firsts_of own ps))
-        → AllByRecursion IsShortAddress (map (bare_of domain) (map (λ q. q.a) (if b then p ∷ filter (λ q. bytes_eq q.b own) ps else filter (λ q. bytes_eq q.b own) ps)))
+        → AllByRecursion IsShortAddress
+        (map (bare_of domain) (map (λ q. q.a) (if b then p ∷ filter (λ q. bytes_eq q.b own) ps else filter (λ q. bytes_eq q.b own) ps)))
     by true rest = (bare_short domain p.a small short.0, rest)
     by false rest = rest
 

@@ -252,7 +252,8 @@ module _ (a : code.World) (w s h n : ℕ) (x : SessionRecord) (tied : IsTied a.t
   resume_step : kept_resume k (kept_handled k h) ≡ Some (traffic_of z)
   resume_step = resume_kept k n (kept_handled k h) handled
 
-  after_is : (ms : List stage.Line) → get_or ms w Empty ≡ Bound c s → session_by ms (Some z) ≡ session x.counts (Held w c) (traffic_of z) (record r { deadline = None })
+  after_is : (ms : List stage.Line) → get_or ms w Empty ≡ Bound c s
+      → session_by ms (Some z) ≡ session x.counts (Held w c) (traffic_of z) (record r { deadline = None })
   after_is ms is = seen_with z ms (Held w c) (held_is x.state (Some w) ms w live refl ∙ ap (λ (l : stage.Line). Held w (conn_of l)) is)
 
   z_numbers : (turns : ℕ) → IsFew turns t → (z.given_up + z.queue.given ≤ turns) × (z.acted ≤ turns)
@@ -330,7 +331,8 @@ module _ (a : code.World) (w s h n : ℕ) (x : SessionRecord) (tied : IsTied a.t
     pub moved_holds : (b : TableRecord) → b ≡ t2 → Rises 0 t.sessions t.made → tables.holds v b ≡ false
     moved_holds b is rises =
         ap (tables.holds v) is
-        ∙ free_holds v t2 (rises_changed s 0 t.made (held_by w) (changed s (rewound_to n) t).sessions (rises_changed s 0 t.made (rewound_to n) t.sessions rises)) v_free
+        ∙ free_holds v t2 (rises_changed s 0 t.made (held_by w) (changed s (rewound_to n) t).sessions
+        (rises_changed s 0 t.made (rewound_to n) t.sessions rises)) v_free
 
     pub moved_low : (b : TableRecord) → b ≡ t2 → v < length b.lines
     moved_low b is =
@@ -341,7 +343,8 @@ module _ (a : code.World) (w s h n : ℕ) (x : SessionRecord) (tied : IsTied a.t
     moved_did : (b e : TableRecord) (now : List Answer) (conn : ℕ) → e ≡ t2 → conn ≡ c → b ≡ line_ended v (Moved conn) e → now ≡ []
         → Did (On s (Resume w c h) ∷ []) 0 a (record a { table = b; answers = with_item a.answers v now })
     moved_did b e now conn was' conn' is empty =
-        let all : b ≡ t3 = is ∙ ((λ i. line_ended v (Moved (conn' i)) (was' i)) ∙ (λ i. record t2 { lines = set t2.lines v (Over (conn_of (v_same i)) (Moved c)) })) in
+        let all : b ≡ t3 = is ∙ ((λ i. line_ended v (Moved (conn' i)) (was' i))
+        ∙ (λ i. record t2 { lines = set t2.lines v (Over (conn_of (v_same i)) (Moved c)) })) in
         subst (λ (u : TableRecord). Did (On s (Resume w c h) ∷ []) 0 a (record a { table = u; answers = with_item a.answers v now })) (sym all) (
         let f : code.World = record a { table = t3; answers = with_item a.answers v now } in
         let low2 : v < length t2.lines = moved_low t2 refl in
@@ -357,7 +360,8 @@ module _ (a : code.World) (w s h n : ℕ) (x : SessionRecord) (tied : IsTied a.t
         let before : sessions_of t s ≡ session x.counts (Held v d) k r =
         ap (session_by t.lines) at ∙ seen_with x t.lines (Held v d) (held_is x.state x.holder t.lines v live holds) in
         let step : session_step brief (sessions_of t s) (Resume w c h) ≡ session x.counts (Held w c) (traffic_of z) (record r { deadline = None }) =
-        ap (λ (p : Session KeptTraffic). session_step brief p (Resume w c h)) before ∙ sym (resume_held x.counts v d w c h k (traffic_of z) r counts resume_step) in
+        ap (λ (p : Session KeptTraffic). session_step brief p (Resume w c h)) before
+        ∙ sym (resume_held x.counts v d w c h k (traffic_of z) r counts resume_step) in
         let settles : settled s (Held v d) (Held w c) ls ≡ put w (bound_line c s (ls w)) (put v (over_line d (Moved c)) ls) =
         ap (λ (p : Bool). moved_if (p && (d == c)) s v d w c ls) (ne_eqb v w v_apart) in
         record {
@@ -393,7 +397,8 @@ module _ (a : code.World) (w s h n : ℕ) (x : SessionRecord) (tied : IsTied a.t
         (moved_did b e now conn was' conn' is empty))))
 
 pub live_now : (s : ℕ) (t : TableRecord) (x : SessionRecord) → session_of s t ≡ Some x → IsLive s t → x.state ≡ life.Live
-live_now s t x at live = (let is : IsSomeAnd (Some x) (λ y. y.state ≡ life.Live) = subst (λ (o : Option SessionRecord). IsSomeAnd o (λ y. y.state ≡ life.Live)) at live in is)
+live_now s t x at live = (let is : IsSomeAnd (Some x) (λ y. y.state ≡ life.Live) =
+    subst (λ (o : Option SessionRecord). IsSomeAnd o (λ y. y.state ≡ life.Live)) at live in is)
 
 live_by : (o : Option SessionRecord) (n : ℕ) → IsSomeAnd o (λ y. y.state ≡ life.Live) → IsSomeAnd (option_map (rewound_to n) o) (λ y. y.state ≡ life.Live)
 live_by None n live = live

@@ -80,7 +80,8 @@ label-bytes : (part : List ℕ) → is_label part ≡ true → list_all is_label
 label-bytes part h = grind (arith, nat_tests)
 
 -- one more byte in front of the labels
-split-step : (dot : Bool) (x : ℕ) (parts : List (List ℕ)) → 0 < length parts → list_all (λ part. list_all is_label_byte part) (cond dot ([] ∷ parts) (onto_first x parts)) ≡ true
+split-step : (dot : Bool) (x : ℕ) (parts : List (List ℕ)) → 0 < length parts
+    → list_all (λ part. list_all is_label_byte part) (cond dot ([] ∷ parts) (onto_first x parts)) ≡ true
     → ((dot || is_label_byte x) ≡ true) × (list_all (λ part. list_all is_label_byte part) parts ≡ true)
 split-step true x parts some all = (refl, all)
 split-step false x [] some all = absurd (omega arith)
@@ -89,7 +90,8 @@ split-step false x (part ∷ parts) some all =
     let k = and_parts (is_label_byte x) _ h.0 in
     (k.0, and_from (list_all is_label_byte part) _ k.1 h.1)
 
-labels-bytes : (bs : List ℕ) → list_all (λ part. list_all is_label_byte part) (slice_split (λ b. b == 46) bs) ≡ true → list_all (λ b. (b == 46) || is_label_byte b) bs ≡ true
+labels-bytes : (bs : List ℕ) → list_all (λ part. list_all is_label_byte part) (slice_split (λ b. b == 46) bs) ≡ true
+    → list_all (λ b. (b == 46) || is_label_byte b) bs ≡ true
 labels-bytes [] all = refl
 labels-bytes (b ∷ bs) all =
     let h = split-step (b == 46) b (slice_split (λ x. x == 46) bs) (omega (arith, length-slice_split (λ x. x == 46) bs)) all in
@@ -102,10 +104,13 @@ name-low : (b : ℕ) → ((b == 46) || is_label_byte b) ≡ true → b < 128
 name-low b h = grind (arith, nat_tests)
 
 pub IsAscii-labels : (bs : List ℕ) → are_labels bs ≡ true → IsAscii bs
-IsAscii-labels bs h = IsAscii-from_all bs (λ k d lt. name-low (get_or bs k d) (AllPass-from_list_all (λ b. (b == 46) || is_label_byte b) bs (name-bytes bs h) k d lt))
+IsAscii-labels bs h = IsAscii-from_all bs
+    (λ k d lt. name-low (get_or bs k d) (AllPass-from_list_all (λ b. (b == 46) || is_label_byte b) bs (name-bytes bs h) k d lt))
 
 -- lowered labels are labels of the lowered name
-onto-lowered : (dot : Bool) (b : ℕ) (parts : List (List ℕ)) → cond dot ([] ∷ map str_to_ascii_lowercase parts) (onto_first (to_ascii_lowercase b) (map str_to_ascii_lowercase parts)) ≡ map str_to_ascii_lowercase (cond dot ([] ∷ parts) (onto_first b parts))
+onto-lowered : (dot : Bool) (b : ℕ) (parts : List (List ℕ))
+    → cond dot ([] ∷ map str_to_ascii_lowercase parts) (onto_first (to_ascii_lowercase b) (map str_to_ascii_lowercase parts))
+    ≡ map str_to_ascii_lowercase (cond dot ([] ∷ parts) (onto_first b parts))
 onto-lowered true b parts = refl
 onto-lowered false b [] = refl
 onto-lowered false b (part ∷ parts) = refl
@@ -116,11 +121,13 @@ dot-lowered b = grind (arith, nat_tests)
 labels-lowered : (bs : List ℕ) → labels_of (str_to_ascii_lowercase bs) ≡ map str_to_ascii_lowercase (labels_of bs)
 labels-lowered [] = refl
 labels-lowered (b ∷ bs) =
-    ap (λ dot. cond dot ([] ∷ labels_of (str_to_ascii_lowercase bs)) (onto_first (to_ascii_lowercase b) (labels_of (str_to_ascii_lowercase bs)))) (dot-lowered b)
+    ap (λ dot. cond dot ([] ∷ labels_of (str_to_ascii_lowercase bs)) (onto_first (to_ascii_lowercase b) (labels_of (str_to_ascii_lowercase bs))))
+    (dot-lowered b)
     ∙ ap (λ parts. cond (b == 46) ([] ∷ parts) (onto_first (to_ascii_lowercase b) parts)) (labels-lowered bs)
     ∙ onto-lowered (b == 46) b (labels_of bs)
 
-all-lowered : (test : List ℕ → Bool) → ((part : List ℕ) → is_label part ≡ true → test (str_to_ascii_lowercase part) ≡ true) → (bs : List ℕ) → are_labels bs ≡ true → list_all test (labels_of (str_to_ascii_lowercase bs)) ≡ true
+all-lowered : (test : List ℕ → Bool) → ((part : List ℕ) → is_label part ≡ true → test (str_to_ascii_lowercase part) ≡ true) → (bs : List ℕ)
+    → are_labels bs ≡ true → list_all test (labels_of (str_to_ascii_lowercase bs)) ≡ true
 all-lowered test step bs h =
     ap (list_all test) (labels-lowered bs) ∙ list_all-map test str_to_ascii_lowercase (labels_of bs)
     ∙ weaker is_label (λ part. test (str_to_ascii_lowercase part)) step (labels_of bs) h

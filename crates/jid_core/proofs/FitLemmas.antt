@@ -25,7 +25,8 @@ module _ (p : ℕ → Bool) where
   passing [] h = refl
   passing (c ∷ cs) h = here (passing cs) (p c) h
     where
-      here : (fit_len p cs ≡ length (encode_utf8_all cs) → list_all (λ x. not (p x)) cs ≡ true) → (b : Bool) → cond b 0 (len_utf8 c + fit_len p cs) ≡ length (encode_utf8_all (c ∷ cs)) → (not b && list_all (λ x. not (p x)) cs) ≡ true
+      here : (fit_len p cs ≡ length (encode_utf8_all cs) → list_all (λ x. not (p x)) cs ≡ true) → (b : Bool)
+          → cond b 0 (len_utf8 c + fit_len p cs) ≡ length (encode_utf8_all (c ∷ cs)) → (not b && list_all (λ x. not (p x)) cs) ≡ true
       here rest true h = absurd (omega (arith, length-append (encode_utf8 c) (encode_utf8_all cs), length-encode c, (len_utf8_bounds c).0))
       here rest false h = rest (omega (arith, length-append (encode_utf8 c) (encode_utf8_all cs), length-encode c))
 
@@ -33,7 +34,8 @@ module _ (p : ℕ → Bool) where
   fit_len-passing [] h = refl
   fit_len-passing (c ∷ cs) h = here (fit_len-passing cs) (p c) h
     where
-      here : (list_all (λ x. not (p x)) cs ≡ true → fit_len p cs ≡ length (encode_utf8_all cs)) → (b : Bool) → (not b && list_all (λ x. not (p x)) cs) ≡ true → cond b 0 (len_utf8 c + fit_len p cs) ≡ length (encode_utf8_all (c ∷ cs))
+      here : (list_all (λ x. not (p x)) cs ≡ true → fit_len p cs ≡ length (encode_utf8_all cs)) → (b : Bool) → (not b && list_all (λ x. not (p x)) cs) ≡ true
+          → cond b 0 (len_utf8 c + fit_len p cs) ≡ length (encode_utf8_all (c ∷ cs))
       here rest true h = absurd (let z : false ≡ true = h in cc)
       here rest false h = omega (arith, rest h, length-append (encode_utf8 c) (encode_utf8_all cs), length-encode c)
 
@@ -41,7 +43,8 @@ front-up_to : (bs : List ℕ) (n : ℕ) → is_utf8 (take (valid_len_up_to bs n)
 front-up_to bs zero = is_utf8-from_IsUtf8 [] IsUtf8-nil
 front-up_to bs (suc n) = here (front-up_to bs n) (is_utf8 (take (suc n) bs)) refl
   where
-    here : is_utf8 (take (valid_len_up_to bs n) bs) ≡ true → (b : Bool) → is_utf8 (take (suc n) bs) ≡ b → is_utf8 (take (cond b (suc n) (valid_len_up_to bs n)) bs) ≡ true
+    here : is_utf8 (take (valid_len_up_to bs n) bs) ≡ true → (b : Bool) → is_utf8 (take (suc n) bs) ≡ b
+        → is_utf8 (take (cond b (suc n) (valid_len_up_to bs n)) bs) ≡ true
     here rest true e = e
     here rest false e = rest
 
@@ -71,7 +74,8 @@ is_fit-from_none which bs h =
     let len : utf8_valid_len bs ≡ length bs = omega (arith, utf8_valid_len_le bs, length-front bs) in
     let same = whole-front bs len in
     and_from _ _ (is_utf8-from_IsUtf8 bs (subst IsUtf8 same (IsUtf8-front bs)))
-    (subst (λ xs. list_all (λ c. not (is_refused which c)) (chars xs) ≡ true) same (passing (is_refused which) (front_chars bs) (omega (arith, length-front bs))))
+    (subst (λ xs. list_all (λ c. not (is_refused which c)) (chars xs) ≡ true) same
+    (passing (is_refused which) (front_chars bs) (omega (arith, length-front bs))))
 
 pub IsUtf8-is_fit : (which : Which) (bs : List ℕ) → is_fit which bs ≡ true → IsUtf8 bs
 IsUtf8-is_fit which bs h = IsUtf8-from_is_utf8 bs (and_parts (is_utf8 bs) _ h).0

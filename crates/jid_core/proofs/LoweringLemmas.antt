@@ -22,7 +22,8 @@ all-kept (b ∷ bs) high = ap₂ ◌∷◌ (high-kept b (All-head (λ x. 128 ≤
 high-bytes : (c : ℕ) → 128 ≤ c → All (λ b. 128 ≤ b) (encode_utf8 c)
 high-bytes c high k d lt =
     elim (cases_lt (get_or (encode_utf8 c) k 0) 128) [
-      | inl low ↦ absurd (let same : c ≡ get_or (encode_utf8 c) k 0 = inside_one c [] (encode_utf8 c) k (sym (append-nil (encode_utf8 c))) lt low in omega arith)
+      | inl low ↦ absurd (let same : c ≡ get_or (encode_utf8 c) k 0 =
+          inside_one c [] (encode_utf8 c) k (sym (append-nil (encode_utf8 c))) lt low in omega arith)
       | inr above ↦ omega (arith, above, get_or_default (encode_utf8 c) k 0 d lt)
     ]
 

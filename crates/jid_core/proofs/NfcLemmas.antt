@@ -28,7 +28,8 @@ is_plain_char c = (is_in_range 0x20 0x7E c || is_in_range 0xA0 0xD7FF c) || is_i
 
 all_mapped : (c : ℕ) → is_empty (if_canonical (decomposition c)) ≡ false → (is_plain_char c && list_all is_plain_char (if_canonical (decomposition c))) ≡ true
 unfolding tables points_ok decomposition_stepped
-all_mapped = Stepped-at_points decomposition decomposition_stepped (λ e. is_empty (if_canonical e)) (λ c e. is_plain_char c && list_all is_plain_char (if_canonical e)) refl
+all_mapped = Stepped-at_points decomposition decomposition_stepped (λ e. is_empty (if_canonical e))
+    (λ c e. is_plain_char c && list_all is_plain_char (if_canonical e)) refl
 
 or_itself-plain : (c : ℕ) (xs : List ℕ) → is_plain_char c ≡ true → list_all is_plain_char xs ≡ true → list_all is_plain_char (or_itself c xs) ≡ true
 or_itself-plain c [] h all = and_from _ _ h refl
@@ -45,7 +46,8 @@ mapping-plain c =
     empty-plain [] none = refl
     empty-plain (x ∷ xs) none = absurd (let z : false ≡ true = none in cc)
 
-flat-plain : (f : ℕ → List ℕ) → ((x : ℕ) → is_plain_char x ≡ true → list_all is_plain_char (f x) ≡ true) → (xs : List ℕ) → list_all is_plain_char xs ≡ true → list_all is_plain_char (flat_map f xs) ≡ true
+flat-plain : (f : ℕ → List ℕ) → ((x : ℕ) → is_plain_char x ≡ true → list_all is_plain_char (f x) ≡ true) → (xs : List ℕ) → list_all is_plain_char xs ≡ true
+    → list_all is_plain_char (flat_map f xs) ≡ true
 flat-plain f step [] all = refl
 flat-plain f step (x ∷ xs) all =
     let h = and_parts (is_plain_char x) (list_all is_plain_char xs) all in list_all-append is_plain_char (f x) _ (step x h.0) (flat-plain f step xs h.1)
@@ -54,7 +56,8 @@ expand-plain : (depth c : ℕ) → list_all is_plain_char (expand canonical_mapp
 unfolding expand
 expand-plain zero c = mapping-plain c
 expand-plain (suc depth) c =
-    flat-plain (λ x. or_itself x (expand canonical_mapping depth x)) (λ x h. or_itself-plain x (expand canonical_mapping depth x) h (expand-plain depth x)) (canonical_mapping c) (mapping-plain c)
+    flat-plain (λ x. or_itself x (expand canonical_mapping depth x)) (λ x h. or_itself-plain x (expand canonical_mapping depth x) h (expand-plain depth x))
+    (canonical_mapping c) (mapping-plain c)
 
 table-plain : (c : ℕ) → list_all is_plain_char (canonical_decomposition c) ≡ true
 unfolding canonical_decomposition
@@ -79,7 +82,8 @@ unfolding decompose
 decompose-plain c h =
     elim (cases_Bool (is_syllable c)) [
       | inl syllable ↦ ap (list_all is_plain_char) (decompose-syllable Nfc c syllable) ∙ syllable-plain c syllable
-      | inr other ↦ ap (list_all is_plain_char) (cond-false (is_syllable c) (decompose_hangul c) (or_itself c (canonical_decomposition c)) other) ∙ or_itself-plain c (canonical_decomposition c) h (table-plain c)
+      | inr other ↦ ap (list_all is_plain_char) (cond-false (is_syllable c) (decompose_hangul c) (or_itself c (canonical_decomposition c)) other)
+          ∙ or_itself-plain c (canonical_decomposition c) h (table-plain c)
     ]
 
 some-pair : (a b : ℕ) (xs : List ℕ) → xs ≡ a ∷ b ∷ [] → is_empty xs ≡ false

@@ -72,7 +72,8 @@ or-parts None b h = (refl, h)
 or-parts (Some x) b h = absurd (cc)
 
 nfc-none : (bs : List ℕ) → IsUtf8 bs → unless_nfc bs ≡ None → is_nfc (chars bs) ≡ true
-nfc-none bs text h = here (is_nfc (chars bs)) refl (sym (ap (λ u. cond {A = Option ℕ} (u && not (is_nfc (chars bs))) (Some 0) None) (is_utf8-from_IsUtf8 bs text)) ∙ h)
+nfc-none bs text h = here (is_nfc (chars bs)) refl
+    (sym (ap (λ u. cond {A = Option ℕ} (u && not (is_nfc (chars bs))) (Some 0) None) (is_utf8-from_IsUtf8 bs text)) ∙ h)
   where
     here : (b : Bool) → is_nfc (chars bs) ≡ b → cond {A = Option ℕ} (not b) (Some 0) None ≡ None → is_nfc (chars bs) ≡ true
     here true e k = e
@@ -139,7 +140,8 @@ is_local-local_of (b ∷ more) p h =
       normal = nfc-none lower (IsUtf8-lowered (b ∷ more) (IsUtf8-is_fit Local (b ∷ more) fit)) none.0;
     }))
 
-local-steps : (bs : List ℕ) → 0 < length bs → refused_at Local bs ≡ None → is_nfc (chars (str_to_ascii_lowercase bs)) ≡ true → local_of bs ≡ unless_long Local (str_to_ascii_lowercase bs)
+local-steps : (bs : List ℕ) → 0 < length bs → refused_at Local bs ≡ None → is_nfc (chars (str_to_ascii_lowercase bs)) ≡ true
+    → local_of bs ≡ unless_long Local (str_to_ascii_lowercase bs)
 local-steps [] some none normal = absurd (omega arith)
 local-steps (b ∷ more) some none normal =
     let lower = str_to_ascii_lowercase (b ∷ more) in
@@ -219,9 +221,11 @@ normal-part bs some fit short =
     let scalars = scalars-plain (nfc (chars bs)) plain in
     let same : chars (in_nfc bs) ≡ nfc (chars bs) = chars-encodes (nfc (chars bs)) scalars in
     record {
-      size = size-here (in_nfc bs) (omega (arith, length-le-encodes (nfc (chars bs)), some-chars (chars bs) (some-from (chars bs) bs (encodes-chars bs text) some))) short;
+      size = size-here (in_nfc bs)
+          (omega (arith, length-le-encodes (nfc (chars bs)), some-chars (chars bs) (some-from (chars bs) bs (encodes-chars bs text) some))) short;
       fit = and_from (is_utf8 (in_nfc bs)) _ (is_utf8-from_IsUtf8 (in_nfc bs) (nfc (chars bs), (scalars, refl)))
-          (ap (list_all (λ c. not (is_refused Resource c))) same ∙ weaker is_plain_char (λ c. not (is_refused Resource c)) unrefused-plain (nfc (chars bs)) plain);
+          (ap (list_all (λ c. not (is_refused Resource c))) same
+          ∙ weaker is_plain_char (λ c. not (is_refused Resource c)) unrefused-plain (nfc (chars bs)) plain);
       normal = ap is_nfc same ∙ is_in_form_from Nfc (nfc (chars bs)) (nfc_idem (chars bs));
     }
 
@@ -266,7 +270,13 @@ is_resource-from_local bs h =
     let l = IsLocal-is_local bs h in
     let parts = and_parts (is_utf8 bs) _ l.fit in
     is_resource-IsResource bs
-    (record { size = l.size; fit = and_from (is_utf8 bs) _ parts.0 (weaker (λ c. not (is_refused Local c)) (λ c. not (is_refused Resource c)) local-char (chars bs) parts.1); normal = l.normal })
+    (record {
+      size = l.size;
+      fit =
+          and_from (is_utf8 bs) _ parts.0 (weaker (λ c. not (is_refused Local c)) (λ c. not (is_refused Resource c)) local-char (chars bs) parts.1);
+      normal =
+          l.normal;
+    })
 
 -- ---- domains
 
@@ -332,7 +342,8 @@ tail_of (x ∷ xs) = xs
 abbrev sized : List ℕ → Bool
 sized label = is_in_range 1 63 (length label)
 
-tail-fails : (dot : Bool) (b : ℕ) (parts : List (List ℕ)) → list_all sized (tail_of parts) ≡ false → list_all sized (tail_of (cond dot ([] ∷ parts) (onto_first b parts))) ≡ false
+tail-fails : (dot : Bool) (b : ℕ) (parts : List (List ℕ)) → list_all sized (tail_of parts) ≡ false
+    → list_all sized (tail_of (cond dot ([] ∷ parts) (onto_first b parts))) ≡ false
 unfolding tail_of
 tail-fails true b [] h = h
 tail-fails true b (part ∷ parts) h = and_right (sized part) _ h
@@ -356,7 +367,8 @@ keeps-last (b ∷ bs) h =
     let at : length (b ∷ bs) - 1 ≡ length bs = omega arith in
     here (slice_index (b ∷ bs) (length (b ∷ bs) - 1) == 46) (ap (λ i. slice_index (b ∷ bs) i == 46) (sym at)) refl
   where
-    here : (e : Bool) → (slice_index (b ∷ bs) (length bs) == 46) ≡ (slice_index (b ∷ bs) (length (b ∷ bs) - 1) == 46) → (slice_index (b ∷ bs) (length (b ∷ bs) - 1) == 46) ≡ e → without_final_dot (b ∷ bs) ≡ (b ∷ bs)
+    here : (e : Bool) → (slice_index (b ∷ bs) (length bs) == 46) ≡ (slice_index (b ∷ bs) (length (b ∷ bs) - 1) == 46)
+        → (slice_index (b ∷ bs) (length (b ∷ bs) - 1) == 46) ≡ e → without_final_dot (b ∷ bs) ≡ (b ∷ bs)
     here true at e = absurd (let z : true ≡ false = sym (tail-passes (labels_of (b ∷ bs)) h) ∙ last-fails b bs (eqb-true _ 46 (at ∙ e)) in cc)
     here false at e = ap (λ c. cond c (take (length (b ∷ bs) - 1) (b ∷ bs)) (b ∷ bs)) e
 
@@ -364,7 +376,8 @@ pub domain_of-some : (bs : List ℕ) → 0 < length bs → domain_of bs ≡ unle
 domain_of-some [] some = absurd (omega arith)
 domain_of-some (b ∷ more) some = refl
 
-domain-steps : (bs name : List ℕ) → 0 < length bs → ascii_form (without_final_dot bs) ≡ Some name → has_labels name ≡ true → domain_of bs ≡ unless_long Domain name
+domain-steps : (bs name : List ℕ) → 0 < length bs → ascii_form (without_final_dot bs) ≡ Some name → has_labels name ≡ true
+    → domain_of bs ≡ unless_long Domain name
 domain-steps bs name some form labels =
     domain_of-some bs some ∙ ap (λ o. unless_none (option_and_then (if_passes has_labels) o)) form ∙ ap unless_none (cond-true _ _ _ labels)
 
@@ -374,15 +387,18 @@ domain_stays p h =
     let size = size-parts p d.size in
     domain-steps p p size.0 (ap ascii_form (keeps-last p d.labels) ∙ d.same) d.labels ∙ unless_long-short Domain p size.1
 
-domain-ascii : (bs : List ℕ) → 0 < length bs → are_labels (without_final_dot bs) ≡ true → domain_of bs ≡ unless_long Domain (str_to_ascii_lowercase (without_final_dot bs))
+domain-ascii : (bs : List ℕ) → 0 < length bs → are_labels (without_final_dot bs) ≡ true
+    → domain_of bs ≡ unless_long Domain (str_to_ascii_lowercase (without_final_dot bs))
 domain-ascii bs some labels =
     let given = without_final_dot bs in
     domain-steps bs (str_to_ascii_lowercase given) some (ascii_form-ascii given labels) (has_labels-ascii given labels)
 
-pub domain_of_short : (bs : List ℕ) → 0 < length bs → are_labels (without_final_dot bs) ≡ true → length (without_final_dot bs) < 1024 → domain_of bs ≡ Ok (str_to_ascii_lowercase (without_final_dot bs))
+pub domain_of_short : (bs : List ℕ) → 0 < length bs → are_labels (without_final_dot bs) ≡ true → length (without_final_dot bs) < 1024
+    → domain_of bs ≡ Ok (str_to_ascii_lowercase (without_final_dot bs))
 domain_of_short bs some labels short = domain-ascii bs some labels ∙ unless_long-short Domain _ (omega (arith, length-lowered (without_final_dot bs)))
 
-pub domain_of_long : (bs : List ℕ) → 0 < length bs → are_labels (without_final_dot bs) ≡ true → 1023 < length (without_final_dot bs) → domain_of bs ≡ Err (Long Domain)
+pub domain_of_long : (bs : List ℕ) → 0 < length bs → are_labels (without_final_dot bs) ≡ true → 1023 < length (without_final_dot bs)
+    → domain_of bs ≡ Err (Long Domain)
 domain_of_long bs some labels long = domain-ascii bs some labels ∙ unless_long-long Domain _ (omega (arith, length-lowered (without_final_dot bs)))
 
 -- a small letter, a digit, a hyphen or a dot
@@ -417,7 +433,8 @@ none-pass p (c ∷ cs) h = let parts = and_parts (not (p c)) _ h in (not-true (p
 -- a fit part has no byte of ASCII that is refused
 pub fit_lacks : (which : Which) (c : ℕ) (bs : List ℕ) → c < 128 → is_refused which c ≡ true → is_fit which bs ≡ true → list_all (λ b. not (b == c)) bs ≡ true
 fit_lacks which c bs low bad fit =
-    let text : NoCharPasses (is_refused which) bs = (chars bs, encodes-chars bs (IsUtf8-is_fit which bs fit), none-pass (is_refused which) (chars bs) (and_parts (is_utf8 bs) _ fit).1) in
+    let text : NoCharPasses (is_refused which) bs =
+    (chars bs, encodes-chars bs (IsUtf8-is_fit which bs fit), none-pass (is_refused which) (chars bs) (and_parts (is_utf8 bs) _ fit).1) in
     list_all-from_AllPass (λ b. not (b == c)) bs (λ k d lt. not_from_false _ (ne_eqb (get_or bs k d) c (λ same.
     let zero-too : get_or bs k 0 ≡ c = get_or_default bs k 0 d lt ∙ same in
     let z : true ≡ false = sym bad ∙ ap (is_refused which) (sym zero-too) ∙ NoCharPasses-byte (is_refused which) bs k text lt (omega arith) in

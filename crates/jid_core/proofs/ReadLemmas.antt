@@ -49,11 +49,13 @@ local-no_slash : (part : Option (List ℕ)) → passes is_local part ≡ true �
 local-no_slash None h = refl
 local-no_slash (Some part) h = list_all-append (λ b. not (b == 47)) part (64 ∷ []) ∙ and_from (lacks 47 part) _ (local_lacks 47 part (omega arith) refl h) refl
 
-cut-resource : (front : List ℕ) (part : Option (List ℕ)) → lacks 47 front ≡ true → (before 47 (front ++ resource_text part) ≡ front) × (after 47 (front ++ resource_text part) ≡ part)
+cut-resource : (front : List ℕ) (part : Option (List ℕ)) → lacks 47 front ≡ true
+    → (before 47 (front ++ resource_text part) ≡ front) × (after 47 (front ++ resource_text part) ≡ part)
 cut-resource front None h = (ap (before 47) (append-nil front) ∙ before-none 47 front h, ap (after 47) (append-nil front) ∙ after-none 47 front h)
 cut-resource front (Some part) h = (before-here 47 front part h, after-here 47 front part h)
 
-cut-local : (part : Option (List ℕ)) (domain : List ℕ) → passes is_local part ≡ true → lacks 64 domain ≡ true → (local_in (local_text part ++ domain) ≡ part) × (domain_in (local_text part ++ domain) ≡ domain)
+cut-local : (part : Option (List ℕ)) (domain : List ℕ) → passes is_local part ≡ true → lacks 64 domain ≡ true
+    → (local_in (local_text part ++ domain) ≡ part) × (domain_in (local_text part ++ domain) ≡ domain)
 cut-local None domain h none =
     let later : after 64 domain ≡ None = after-none 64 domain none in
     (ap (option_map (λ _. before 64 domain)) later, ap (λ o. unwrap_or o domain) later)
@@ -64,7 +66,8 @@ cut-local (Some part) domain h none =
     let front : before 64 ((part ++ 64 ∷ []) ++ domain) ≡ part = ap (before 64) rest ∙ before-here 64 part domain clear in
     (ap (option_map (λ _. before 64 ((part ++ 64 ∷ []) ++ domain))) later ∙ ap Some front, ap (λ o. unwrap_or o ((part ++ 64 ∷ []) ++ domain)) later)
 
-part-stays : (test : List ℕ → Bool) (prepare : List ℕ → Result (List ℕ) JidFault) → ((p : List ℕ) → test p ≡ true → prepare p ≡ Ok p) → (part : Option (List ℕ)) → passes test part ≡ true → part_of prepare part ≡ Ok part
+part-stays : (test : List ℕ → Bool) (prepare : List ℕ → Result (List ℕ) JidFault) → ((p : List ℕ) → test p ≡ true → prepare p ≡ Ok p) → (part : Option (List ℕ))
+    → passes test part ≡ true → part_of prepare part ≡ Ok part
 part-stays test prepare stays None h = refl
 part-stays test prepare stays (Some part) h = ap some_of (stays part h)
 

@@ -72,7 +72,8 @@ gathers_one : (b : Bool) (v : PortsState) (tapes : Option (List (List Mark))) �
 gathers_one true v tapes = gathers_told v.tapes tapes
 gathers_one false v tapes = tt
 
-gathers_both : (old middle now : Tapes) (one more : List (Option (List (List Mark)))) → Gathers old one middle → Gathers middle more now → Gathers old (one ++ more) now
+gathers_both : (old middle now : Tapes) (one more : List (Option (List (List Mark)))) → Gathers old one middle → Gathers middle more now
+    → Gathers old (one ++ more) now
 gathers_both old middle None one more p q = tt
 gathers_both old None (Some now) one more p q = absurd q
 gathers_both None (Some middle) (Some now) one more p q = absurd p

@@ -88,7 +88,8 @@ some-words : (words : List ℕ) → 0 < length words → bytes_eq words [] ≡ f
 some-words [] h = absurd (omega arith)
 some-words (b ∷ bs) h = refl
 
-notice-read : (address words : List ℕ) (to : Address) → address_of address ≡ Ok to → stanza_of (notice address words) ≡ Some (Message (Some to) Headline (notice address words))
+notice-read : (address words : List ℕ) (to : Address) → address_of address ≡ Ok to
+    → stanza_of (notice address words) ≡ Some (Message (Some to) Headline (notice address words))
 notice-read address words to h = rw h refl
 
 pub notice_fits : (address words : List ℕ) (to : Address) → is_token address ≡ true → is_xml words ≡ true → 0 < length words → address_of address ≡ Ok to

@@ -35,14 +35,16 @@ handed-went (stopped f k) bs = refl
 handed-went (reads f b n k) [] = refl
 handed-went (reads f b n k) (c ∷ cs) = refl
 
-stands-more : (before bytes : List ℕ) → handed (went limits first_reading (before ++ bytes)) ≡ handed (went limits (handed (went limits first_reading before)) bytes)
+stands-more : (before bytes : List ℕ)
+    → handed (went limits first_reading (before ++ bytes)) ≡ handed (went limits (handed (went limits first_reading before)) bytes)
 stands-more before bytes = ap handed (went-more limits first_reading before bytes) ∙ sym (handed-went (went limits first_reading before) bytes)
 
 stands-next : (fed : Streams) (d : Deed) → standing (streams_next fed d) ≡ framers_next (standing fed) d
 stands-next fed (Turned x) = refl
 stands-next fed (Fed w bytes) = λ i v. by v (v == w) i
   where
-    by : (v : ℕ) (t : Bool) → handed (went limits first_reading (if t then fed w ++ bytes else fed v)) ≡ (if t then handed (went limits (standing fed w) bytes) else standing fed v)
+    by : (v : ℕ) (t : Bool) → handed (went limits first_reading (if t then fed w ++ bytes else fed v))
+        ≡ (if t then handed (went limits (standing fed w) bytes) else standing fed v)
     by v true = stands-more (fed w) bytes
     by v false = refl
 stands-next fed (Renewed w) = λ i v. by v (v == w) i

@@ -48,8 +48,10 @@ top-of l None f b n k m e small h = ap (is_large_item l) (sym h) ∙ small refl
 top-next : (l : Limits) (s : Reading) (byte : ℕ) (e : Element) → waiting (reading_next l s byte) ≡ Some (item.Top e) → is_large l e ≡ false
 top-next l (stopped f k) byte e h = absurd (cc)
 top-next l (reads f b n k) byte e h =
-    top-of l (byte_judged l f b n byte) (frame_next (rules_of l) f byte) (build_all b (told_at f byte)) (extent_after (frame_next (rules_of l) f byte) n) (told_number (k + 1)) (told_number (k + 1)) e
-    (last-none (fault_if (is_past l f (frame_next (rules_of l) f byte) n) fault.TooLong) (fault_told (rules_of l) f byte) (told_judged b (told_at f byte)) (is_large_item l (build_all b (told_at f byte)).item)) h
+    top-of l (byte_judged l f b n byte) (frame_next (rules_of l) f byte) (build_all b (told_at f byte)) (extent_after (frame_next (rules_of l) f byte) n)
+    (told_number (k + 1)) (told_number (k + 1)) e
+    (last-none (fault_if (is_past l f (frame_next (rules_of l) f byte) n) fault.TooLong) (fault_told (rules_of l) f byte) (told_judged b (told_at f byte))
+    (is_large_item l (build_all b (told_at f byte)).item)) h
 
 top-after : (l : Limits) (s : Reading) (b : ℕ) (bs : List ℕ) (e : Element) → waiting (reading_after l s (b ∷ bs)) ≡ Some (item.Top e) → is_large l e ≡ false
 top-after l s b [] e h = top-next l s b e h
@@ -111,8 +113,10 @@ item-whole false o i h = absurd (cc)
 pub element_proper : (xml : List ℕ) (e : Element) → begins_with_tag xml ≡ true → item_of xml ≡ Some (item.Top e) → IsProper e
 element_proper [] e begins h = absurd (cc)
 element_proper (b ∷ bs) e begins h =
-    let parts = item-whole (taken limits in_client_stream (b ∷ bs) == length (b ∷ bs)) (waiting (reading_after limits in_client_stream (b ∷ bs))) (item.Top e) h in
-    top_proper limits (client_bytes ++ (b ∷ bs)) e (ap waiting (sym (of-stream b bs (eqb-true (taken limits in_client_stream (b ∷ bs)) (length (b ∷ bs)) parts.0))) ∙ parts.1)
+    let parts = item-whole (taken limits in_client_stream (b ∷ bs) == length (b ∷ bs)) (waiting (reading_after limits in_client_stream (b ∷ bs))) (item.Top e) h
+    in
+    top_proper limits (client_bytes ++ (b ∷ bs)) e
+    (ap waiting (sym (of-stream b bs (eqb-true (taken limits in_client_stream (b ∷ bs)) (length (b ∷ bs)) parts.0))) ∙ parts.1)
 
 -- what a proper element is that is not too large
 pub stanza_fits : (e : Element) (st : Stanza) → IsProper e → length (text e) ≤ 196608 → stanza_of e ≡ Some st → StanzaFits st

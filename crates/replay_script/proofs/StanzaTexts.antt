@@ -53,7 +53,8 @@ header-whole : taken limits first_reading client_header ≡ length client_header
 header-whole =
     ap (taken limits first_reading) header-split
     ∙ (last-taken header-front limits first_reading 62 front-goes
-    ∙ (let long : suc (length header-front) ≡ length (header-front ++ 62 ∷ []) = omega (arith, length-append header-front (62 ∷ [])) in long ∙ ap length (sym header-split)))
+    ∙ (let long : suc (length header-front) ≡ length (header-front ++ 62 ∷ []) = omega (arith, length-append header-front (62 ∷ [])) in long
+    ∙ ap length (sym header-split)))
 
 in-stream : in_client_stream ≡ handed (went limits first_reading client_header)
 in-stream =
@@ -90,7 +91,8 @@ top-is None e h = absurd (cc)
 read-one : (xml : List ℕ) (e : Element) → length xml ≤ 65536 → begins_with_tag xml ≡ true → item_of xml ≡ Some (item.Top e) → IsStanzaText xml e
 read-one [] e few begins h = absurd (cc)
 read-one (b ∷ bs) e few begins h =
-    let (same, waits) = chosen (taken limits in_client_stream (b ∷ bs) == length (b ∷ bs)) (waiting (reading_after limits in_client_stream (b ∷ bs))) (item.Top e) h in
+    let (same, waits) = chosen (taken limits in_client_stream (b ∷ bs) == length (b ∷ bs)) (waiting (reading_after limits in_client_stream (b ∷ bs)))
+    (item.Top e) h in
     let count : taken limits in_client_stream (b ∷ bs) ≡ length (b ∷ bs) = eqb-true (taken limits in_client_stream (b ∷ bs)) (length (b ∷ bs)) same in (
       few,
       begins,
@@ -110,7 +112,8 @@ text_taken (b ∷ bs) e (few, begins, (next, is)) =
     let (count, waits) = one_taken limits client_header b bs e next is in
     let whole : (taken limits in_client_stream (b ∷ bs) == length (b ∷ bs)) ≡ true =
     eq-eqb (taken limits in_client_stream (b ∷ bs)) (length (b ∷ bs)) (ap (λ (s : Reading). taken limits s (b ∷ bs)) in-stream ∙ count) in
-    let there : waiting (reading_after limits in_client_stream (b ∷ bs)) ≡ Some (item.Top e) = ap (λ (s : Reading). waiting (reading_after limits s (b ∷ bs))) in-stream ∙ waits in
+    let there : waiting (reading_after limits in_client_stream (b ∷ bs)) ≡ Some (item.Top e) =
+    ap (λ (s : Reading). waiting (reading_after limits s (b ∷ bs))) in-stream ∙ waits in
     ap (λ (c : Bool). if c && begins_with_tag (b ∷ bs) then top_in (item_of (b ∷ bs)) else None) (le-leb (length (b ∷ bs)) 65536 few)
     ∙ (ap (λ (c : Bool). if c then top_in (item_of (b ∷ bs)) else None) begins
     ∙ (ap (λ (c : Bool). top_in (if c then waiting (reading_after limits in_client_stream (b ∷ bs)) else None)) whole ∙ ap top_in there))

@@ -82,7 +82,8 @@ differ_more (x ∷ more) u differ new =
     let apart = halves (bytes_eq x u) (list_any (λ y. bytes_eq y u) more) new in
     let none : list_any (λ y. bytes_eq x y) (more ++ u ∷ []) ≡ false =
     list_any-append (λ y. bytes_eq x y) more (u ∷ [])
-    ∙ or-false (list_any (λ y. bytes_eq x y) more) (bytes_eq x u || false) (not-true (list_any (λ y. bytes_eq x y) more) old.0) (or-false (bytes_eq x u) false apart.0 refl) in
+    ∙ or-false (list_any (λ y. bytes_eq x y) more) (bytes_eq x u || false) (not-true (list_any (λ y. bytes_eq x y) more) old.0)
+    (or-false (bytes_eq x u) false apart.0 refl) in
     both (not (list_any (λ y. bytes_eq x y) (more ++ u ∷ []))) (are_distinct (more ++ u ∷ [])) (ap not none) (differ_more more u old.1 apart.1)
 
 or-one : (a b : Bool) → a ≡ true → (a || b) ≡ true
@@ -107,7 +108,8 @@ differ_again [] u ys old = absurd (cc)
 differ_again (x ∷ more) u ys old = elim (cases_Bool (bytes_eq x u)) [
   | inl e ↦ not-false (list_any (λ y. bytes_eq x y) (more ++ u ∷ ys)) (are_distinct (more ++ u ∷ ys))
       (list_any-append (λ y. bytes_eq x y) more (u ∷ ys)
-      ∙ or-other (list_any (λ y. bytes_eq x y) more) (bytes_eq x u || list_any (λ y. bytes_eq x y) ys) (or-one (bytes_eq x u) (list_any (λ y. bytes_eq x y) ys) e))
+      ∙ or-other (list_any (λ y. bytes_eq x y) more) (bytes_eq x u || list_any (λ y. bytes_eq x y) ys)
+      (or-one (bytes_eq x u) (list_any (λ y. bytes_eq x y) ys) e))
   | inr e ↦ and-last (not (list_any (λ y. bytes_eq x y) (more ++ u ∷ ys))) (are_distinct (more ++ u ∷ ys))
       (differ_again more u ys (or-rest (bytes_eq x u) (list_any (λ y. bytes_eq y u) more) e old))
 ]
@@ -120,7 +122,8 @@ refused : (field : List ℕ) (us : List (List ℕ)) → us ≡ slice_split is_co
 refused field us is fails = cond-false (are_users (slice_split is_comma field)) (Some (slice_split is_comma field)) None (ap are_users (sym is) ∙ fails)
 
 -- the users so far, the first of the rest, and what comes after it
-whole : (field rest : List ℕ) (us more : List (List ℕ)) → us ++ slice_split is_comma rest ≡ slice_split is_comma field → slice_split is_comma rest ≡ before 44 rest ∷ more
+whole : (field rest : List ℕ) (us more : List (List ℕ)) → us ++ slice_split is_comma rest ≡ slice_split is_comma field
+    → slice_split is_comma rest ≡ before 44 rest ∷ more
     → us ++ before 44 rest ∷ more ≡ slice_split is_comma field
 whole field rest us more is first = ap (λ parts. us ++ parts) (sym first) ∙ is
 
@@ -131,9 +134,11 @@ users_bad field rest us is none =
     let first = split-first rest (after 44 rest) refl in
     let fails : list_all is_user (us ++ before 44 rest ∷ first.0) ≡ false =
     list_all-append is_user us (before 44 rest ∷ first.0)
-    ∙ and-last (list_all is_user us) (is_user (before 44 rest) && list_all is_user first.0) (first-none (is_user (before 44 rest)) (list_all is_user first.0) (ap is_some none)) in
+    ∙ and-last (list_all is_user us) (is_user (before 44 rest) && list_all is_user first.0)
+    (first-none (is_user (before 44 rest)) (list_all is_user first.0) (ap is_some none)) in
     refused field (us ++ before 44 rest ∷ first.0) (whole field rest us first.0 is first.1)
-    (middle (nat_le (length (us ++ before 44 rest ∷ first.0)) 4096) (list_all is_user (us ++ before 44 rest ∷ first.0)) (are_distinct (us ++ before 44 rest ∷ first.0)) fails)
+    (middle (nat_le (length (us ++ before 44 rest ∷ first.0)) 4096) (list_all is_user (us ++ before 44 rest ∷ first.0))
+    (are_distinct (us ++ before 44 rest ∷ first.0)) fails)
   where
     first-none : (a b : Bool) → a ≡ false → (a && b) ≡ false
     first-none true b p = absurd (cc)
@@ -150,18 +155,21 @@ pub users_twice : (field rest : List ℕ) (us : List (List ℕ)) → us ++ slice
 users_twice field rest us is old =
     let first = split-first rest (after 44 rest) refl in
     refused field (us ++ before 44 rest ∷ first.0) (whole field rest us first.0 is first.1)
-    (and-last (nat_le (length (us ++ before 44 rest ∷ first.0)) 4096 && list_all is_user (us ++ before 44 rest ∷ first.0)) (are_distinct (us ++ before 44 rest ∷ first.0))
+    (and-last (nat_le (length (us ++ before 44 rest ∷ first.0)) 4096 && list_all is_user (us ++ before 44 rest ∷ first.0))
+    (are_distinct (us ++ before 44 rest ∷ first.0))
     (differ_again us (before 44 rest) first.0 old))
 
 longer : (us : List (List ℕ)) (x : List ℕ) (ys : List (List ℕ)) → length us ≡ 4096 → 4096 < length (us ++ x ∷ ys)
 longer us x ys count = omega (arith, count, length-append us (x ∷ ys))
 
 -- too many users
-pub users_many : (field rest : List ℕ) (us : List (List ℕ)) → us ++ slice_split is_comma rest ≡ slice_split is_comma field → length us ≡ 4096 → users_of field ≡ None
+pub users_many : (field rest : List ℕ) (us : List (List ℕ)) → us ++ slice_split is_comma rest ≡ slice_split is_comma field → length us ≡ 4096
+    → users_of field ≡ None
 users_many field rest us is count =
     let first = split-first rest (after 44 rest) refl in
     refused field (us ++ before 44 rest ∷ first.0) (whole field rest us first.0 is first.1)
-    (front-false (nat_le (length (us ++ before 44 rest ∷ first.0)) 4096) (list_all is_user (us ++ before 44 rest ∷ first.0)) (are_distinct (us ++ before 44 rest ∷ first.0))
+    (front-false (nat_le (length (us ++ before 44 rest ∷ first.0)) 4096) (list_all is_user (us ++ before 44 rest ∷ first.0))
+    (are_distinct (us ++ before 44 rest ∷ first.0))
     (lt-leb (length (us ++ before 44 rest ∷ first.0)) 4096 (longer us (before 44 rest) first.0 count)))
   where
     front-false : (a b c : Bool) → a ≡ false → (a && b && c) ≡ false
@@ -169,10 +177,12 @@ users_many field rest us is count =
     front-false false b c p = refl
 
 -- all of them
-pub users_good : (field : List ℕ) (us : List (List ℕ)) → us ≡ slice_split is_comma field → length us ≤ 4096 → list_all is_user us ≡ true → are_distinct us ≡ true → users_of field ≡ Some us
+pub users_good : (field : List ℕ) (us : List (List ℕ)) → us ≡ slice_split is_comma field → length us ≤ 4096 → list_all is_user us ≡ true
+    → are_distinct us ≡ true → users_of field ≡ Some us
 users_good field us is few all differ =
     cond-true (are_users (slice_split is_comma field)) (Some (slice_split is_comma field)) None
-    (ap are_users (sym is) ∙ both (nat_le (length us) 4096 && list_all is_user us) (are_distinct us) (both (nat_le (length us) 4096) (list_all is_user us) (le-leb (length us) 4096 few) all) differ)
+    (ap are_users (sym is) ∙ both (nat_le (length us) 4096 && list_all is_user us) (are_distinct us)
+    (both (nat_le (length us) 4096) (list_all is_user us) (le-leb (length us) 4096 few) all) differ)
     ∙ ap Some (sym is)
 
 -- a user is written as it is prepared
@@ -186,7 +196,8 @@ same-user text (Ok part) u h =
 user-is : (text u : List ℕ) → user_of text ≡ Some u → u ≡ text
 user-is text u h = same-user text (local_of text) u h
 
-pub step_parts : (field rest more : List ℕ) (us : List (List ℕ)) (u : List ℕ) → us ++ slice_split is_comma rest ≡ slice_split is_comma field → user_of (before 44 rest) ≡ Some u
+pub step_parts : (field rest more : List ℕ) (us : List (List ℕ)) (u : List ℕ) → us ++ slice_split is_comma rest ≡ slice_split is_comma field
+    → user_of (before 44 rest) ≡ Some u
     → after 44 rest ≡ Some more → (us ++ u ∷ []) ++ slice_split is_comma more ≡ slice_split is_comma field
 step_parts field rest more us u is one cut =
     append_assoc us (u ∷ []) (slice_split is_comma more)
@@ -194,7 +205,8 @@ step_parts field rest more us u is one cut =
     ∙ ap (λ parts. us ++ parts) (sym (split_more rest more cut))
     ∙ is
 
-pub last_parts : (field rest : List ℕ) (us : List (List ℕ)) (u : List ℕ) → us ++ slice_split is_comma rest ≡ slice_split is_comma field → user_of (before 44 rest) ≡ Some u
+pub last_parts : (field rest : List ℕ) (us : List (List ℕ)) (u : List ℕ) → us ++ slice_split is_comma rest ≡ slice_split is_comma field
+    → user_of (before 44 rest) ≡ Some u
     → after 44 rest ≡ None → us ++ u ∷ [] ≡ slice_split is_comma field
 last_parts field rest us u is one cut =
     ap (λ x. us ++ x ∷ []) (user-is (before 44 rest) u one)
@@ -204,15 +216,18 @@ last_parts field rest us u is one cut =
 pub step_users : (us : List (List ℕ)) (u text : List ℕ) → list_all is_user us ≡ true → user_of text ≡ Some u → list_all is_user (us ++ u ∷ []) ≡ true
 step_users us u text all one = users_more us u all (ap is_user (user-is text u one) ∙ ap is_some one)
 
-pub step_differ : (us : List (List ℕ)) (u text : List ℕ) → are_distinct us ≡ true → user_of text ≡ Some u → list_any (λ x. bytes_eq x text) us ≡ false → are_distinct (us ++ u ∷ []) ≡ true
+pub step_differ : (us : List (List ℕ)) (u text : List ℕ) → are_distinct us ≡ true → user_of text ≡ Some u → list_any (λ x. bytes_eq x text) us ≡ false
+    → are_distinct (us ++ u ∷ []) ≡ true
 step_differ us u text differ one new = differ_more us u differ (ap (λ t. list_any (λ x. bytes_eq x t) us) (user-is text u one) ∙ new)
 
 -- the last user
 pub users_all : (field rest : List ℕ) (us : List (List ℕ)) (u : List ℕ) → us ++ slice_split is_comma rest ≡ slice_split is_comma field → length us < 4096
-    → list_all is_user us ≡ true → are_distinct us ≡ true → user_of (before 44 rest) ≡ Some u → list_any (λ x. bytes_eq x (before 44 rest)) us ≡ false → after 44 rest ≡ None
+    → list_all is_user us ≡ true → are_distinct us ≡ true → user_of (before 44 rest) ≡ Some u → list_any (λ x. bytes_eq x (before 44 rest)) us ≡ false
+    → after 44 rest ≡ None
     → users_of field ≡ Some (us ++ u ∷ [])
 users_all field rest us u is few all differ one new cut =
-    users_good field (us ++ u ∷ []) (last_parts field rest us u is one cut) (omega (arith, few, length-append us (u ∷ []))) (step_users us u (before 44 rest) all one)
+    users_good field (us ++ u ∷ []) (last_parts field rest us u is one cut) (omega (arith, few, length-append us (u ∷ [])))
+    (step_users us u (before 44 rest) all one)
     (step_differ us u (before 44 rest) differ one new)
 
 pub step_prepared : (us : List (List ℕ)) (u : List ℕ) → list_all is_local us ≡ true → is_local u ≡ true → list_all is_local (us ++ u ∷ []) ≡ true
@@ -233,7 +248,8 @@ users_refused field rest us is none = elim (cases_Bool (list_any (λ x. bytes_eq
 -- one user more, and the last
 pub users_step : (field rest more : List ℕ) (us : List (List ℕ)) (u : List ℕ) → us ++ slice_split is_comma rest ≡ slice_split is_comma field
     → list_all is_user us ≡ true → are_distinct us ≡ true → new_user us (before 44 rest) ≡ Some u → after 44 rest ≡ Some more
-    → ((us ++ u ∷ []) ++ slice_split is_comma more ≡ slice_split is_comma field) × (list_all is_user (us ++ u ∷ []) ≡ true) × (are_distinct (us ++ u ∷ []) ≡ true)
+    → ((us ++ u ∷ []) ++ slice_split is_comma more ≡ slice_split is_comma field) × (list_all is_user (us ++ u ∷ []) ≡ true)
+    × (are_distinct (us ++ u ∷ []) ≡ true)
 users_step field rest more us u is all differ one cut =
     let new = new-user (list_any (λ x. bytes_eq x (before 44 rest)) us) us (before 44 rest) u one in
     (step_parts field rest more us u is new.1 cut, step_users us u (before 44 rest) all new.1, step_differ us u (before 44 rest) differ new.1 new.0)

@@ -110,7 +110,8 @@ module _ (domain a b : List ℕ) (ua ub : User) (k : Book) (ma : IsUser domain k
   over_second = by (first.mine.seen || first.mine.asked_by) refl
     where
       by : (c : Bool) → (first.mine.seen || first.mine.asked_by) ≡ c
-          → IsOver b a (noted_all (effects_of ua (after_pushes first ub) first.mine (untold (if c then cancelled first.mine first.theirs else unchanged first.mine first.theirs))) k1)
+          → IsOver b a (noted_all (effects_of ua (after_pushes first ub) first.mine
+          (untold (if c then cancelled first.mine first.theirs else unchanged first.mine first.theirs))) k1)
       by true is =
           let other = after_pushes first ub in
           subst (IsOver b a) (sym (noted_unsubscribed ua other (untold (cancelled first.mine first.theirs)) k1))

@@ -253,7 +253,8 @@ module _ (domain : List ℕ) where
       → AreKept domain k → AreKept domain (noted_all effects k)
   subscription_kept a ua ub k form effects bare contacts comes are = by (same_bare ua.bare ub.bare) comes
     where
-      by : (b : Bool) → (if b then Some [] else change.unless_full ua ub (users.side_of ua ub) (outbound (users.side_of ua ub) (users.side_of ub ua) form)) ≡ Some effects
+      by : (b : Bool) → (if b then Some [] else change.unless_full ua ub (users.side_of ua ub) (outbound (users.side_of ua ub) (users.side_of ub ua) form))
+          ≡ Some effects
           → AreKept domain (noted_all effects k)
       by true comes = subst (λ es. AreKept domain (noted_all es k)) (ap (λ (es : Option (List Effect)). unwrap_or es []) comes) are
       by false comes =

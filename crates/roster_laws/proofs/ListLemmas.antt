@@ -72,7 +72,8 @@ module _ (domain : List ℕ) where
   lists_with k x a b there =
       ap (list_any (is_at (bare_of domain b))) (contacts_with domain k x a) ∙ by (bytes_eq x.user a)
     where
-      by : (o : Bool) → list_any (is_at (bare_of domain b)) (cond o (with_listed (contact_of domain k x) (contacts_of domain k a)) (contacts_of domain k a)) ≡ true
+      by : (o : Bool) → list_any (is_at (bare_of domain b)) (cond o (with_listed (contact_of domain k x) (contacts_of domain k a)) (contacts_of domain k a))
+          ≡ true
       by true = still_there (bare_of domain b) (contact_of domain k x) (contacts_of domain k a) there
       by false = there
 

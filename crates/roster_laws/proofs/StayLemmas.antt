@@ -135,7 +135,8 @@ module _ (domain : List ℕ) where
             (pairs m.listed (approved_listed k1 a b (made_lists m.listed listed_is) (made_leaves m.listed (are.asked b a asked)) (made_listed m.listed))))
           where
             pairs : (listed : Bool)
-                → AreListed domain (record (noted_all (made listed) k) { sees = with_pair (pair b a) true (noted_all (made listed) k).sees; asked = with_pair (pair b a) false (noted_all (made listed) k).asked })
+                → AreListed domain (record (noted_all (made listed) k)
+                { sees = with_pair (pair b a) true (noted_all (made listed) k).sees; asked = with_pair (pair b a) false (noted_all (made listed) k).asked })
                 → AreListed domain (record (noted_all (made listed) k) { sees = with_pair (pair b a) true k.sees; asked = with_pair (pair b a) false k.asked })
             pairs true is = is
             pairs false is = is
@@ -153,7 +154,8 @@ module _ (domain : List ℕ) where
     pub subscription_listed : (form : PresenceForm) (effects : List Effect) → change.subscription ua ub form ≡ Some effects
         → AreListed domain (noted_all effects k)
     subscription_listed form effects comes =
-        by (same_bare ua.bare ub.bare) (change.is_made m (outbound m t form) && not (fits (ua.contacts ++ users.new_contact ub.bare (outbound m t form).mine ∷ []))) comes
+        by (same_bare ua.bare ub.bare)
+        (change.is_made m (outbound m t form) && not (fits (ua.contacts ++ users.new_contact ub.bare (outbound m t form).mine ∷ []))) comes
       where
         by : (s f : Bool) → (if s then Some [] else if f then None else Some (change.effects_of ua ub m (outbound m t form))) ≡ Some effects
             → AreListed domain (noted_all effects k)

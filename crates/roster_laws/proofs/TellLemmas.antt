@@ -60,15 +60,18 @@ module _ (domain : List ℕ) (k : Book) where
   found a b (x ∷ rs) c is = by (bytes_eq x.user a) (same_address x.address (bare_of domain b)) refl refl is (found a b rs c)
     where
       by : (o s : Bool) → bytes_eq x.user a ≡ o → same_address x.address (bare_of domain b) ≡ s
-          → find (is_at (bare_of domain b)) (map (contact_of domain k) (cond o (x ∷ filter (λ x. bytes_eq x.user a) rs) (filter (λ x. bytes_eq x.user a) rs))) ≡ Some c
+          → find (is_at (bare_of domain b)) (map (contact_of domain k) (cond o (x ∷ filter (λ x. bytes_eq x.user a) rs) (filter (λ x. bytes_eq x.user a) rs)))
+          ≡ Some c
           → (find (is_at (bare_of domain b)) (map (contact_of domain k) (filter (λ x. bytes_eq x.user a) rs)) ≡ Some c → Tells a b c) → Tells a b c
       by false s own at is rest = rest is
       by true true own at is rest =
-          let here = sym (ap (λ t. cond t (Some (contact_of domain k x)) (find (is_at (bare_of domain b)) (map (contact_of domain k) (filter (λ x. bytes_eq x.user a) rs)))) at) ∙ is in
+          let here = sym (ap (λ t. cond t (Some (contact_of domain k x))
+          (find (is_at (bare_of domain b)) (map (contact_of domain k) (filter (λ x. bytes_eq x.user a) rs)))) at) ∙ is in
           tells a b x c (bytes_equal x.user a own) (same_address-equal x.address (bare_of domain b) at)
           (ap (λ (o : Option Contact). unwrap_or o (contact_of domain k x)) here)
       by true false own at is rest =
-          rest (sym (ap (λ t. cond t (Some (contact_of domain k x)) (find (is_at (bare_of domain b)) (map (contact_of domain k) (filter (λ x. bytes_eq x.user a) rs)))) at) ∙ is)
+          rest (sym (ap (λ t. cond t (Some (contact_of domain k x))
+          (find (is_at (bare_of domain b)) (map (contact_of domain k) (filter (λ x. bytes_eq x.user a) rs)))) at) ∙ is)
 
   abbrev at_of : (a b : List ℕ) → Option Contact
   at_of a b = users.contact_of (contacts_of domain k a) (bare_of domain b)

@@ -95,7 +95,8 @@ encoding-text (x ∷ y ∷ []) h =
     let y' : y < 256 = h 1 in
     subst (IsText base64) (sym (encoding-two x y))
     (end-text _ (union-first base64_3 base64_2 _
-    (four base64_char base64_char third_char (a 61) _ _ _ 61 (char-is (x / 4) (omega arith)) (char-is (x % 4 * 16 + y / 16) (omega arith)) (third-is (y % 16) (omega arith)) pad-is)))
+    (four base64_char base64_char third_char (a 61) _ _ _ 61 (char-is (x / 4) (omega arith)) (char-is (x % 4 * 16 + y / 16) (omega arith))
+    (third-is (y % 16) (omega arith)) pad-is)))
 encoding-text (x ∷ y ∷ z ∷ rest) h =
     let x' : x < 256 = h 0 in
     let y' : y < 256 = h 1 in
@@ -227,7 +228,8 @@ group-coded v u s r t rest hv hu hs hr e after =
       are_bytes = bytes-cons x (y ∷ z ∷ after.bytes) (omega arith)
           (bytes-cons y (z ∷ after.bytes) (omega arith) (bytes-cons z after.bytes (omega arith) after.are_bytes));
       coded = e ∙ (ap (λ (l : List ℕ). symbol v ∷ symbol u ∷ symbol s ∷ symbol r ∷ l) after.coded
-          ∙ sym (encoding-group x y z after.bytes ∙ (λ i. symbol (first i) ∷ symbol (second i) ∷ symbol (third i) ∷ symbol (fourth i) ∷ base64_of after.bytes)));
+          ∙ sym (encoding-group x y z after.bytes
+          ∙ (λ i. symbol (first i) ∷ symbol (second i) ∷ symbol (third i) ∷ symbol (fourth i) ∷ base64_of after.bytes)));
     }
 
 -- a character by its own value

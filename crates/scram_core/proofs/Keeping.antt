@@ -245,7 +245,8 @@ keeps-nonce m zero b l =
     (alike-within p q h, alike-back p q h)
 keeps-nonce m (suc k) b l =
     let three = each _ (not (b == 44 && has printable b)) (below-all 256 (nonce_is m) (nonce-all m) b l) in
-    let two = each (is_alike (derivative b (after_nonce m)) (left (then_some (b == 44) (stage.Letter m)))) (is_bool (is_printable b) (has printable b)) three.0 in
+    let two = each (is_alike (derivative b (after_nonce m)) (left (then_some (b == 44) (stage.Letter m)))) (is_bool (is_printable b) (has printable b)) three.0
+    in
     let same : has printable b ≡ is_printable b = sym (bool-same (is_printable b) (has printable b) two.1) in
     let d = derivative b (after_nonce m) in
     let q = left (then_some (b == 44) (stage.Letter m)) in

@@ -41,7 +41,8 @@ pub both-sides : (first own salt : List ℕ) (rounds : ℕ) → IsTrue (is_serve
     → nonce_of_server (server_first (nonce_of_first first ++ own) salt rounds) ≡ nonce_of_first first ++ own
 both-sides first own salt rounds h =
     nonce-told (nonce_of_first first ++ own) salt rounds
-    (no_comma-append (nonce_of_first first) own (no_comma-drop (before_comma (after_comma (bare_of first))) (no_comma-before (after_comma (bare_of first)))) (own-commas own h))
+    (no_comma-append (nonce_of_first first) own (no_comma-drop (before_comma (after_comma (bare_of first))) (no_comma-before (after_comma (bare_of first))))
+    (own-commas own h))
 
 -- The base64 of bytes is such a nonce.
 

@@ -48,7 +48,8 @@ split p q t h (xs, ys, m, (us, vs, k, n, f), e) =
 pub attribute : (b c : ℕ) (p : Expression) (t : List ℕ) → IsText (concat (a b) (concat (a c) p)) t → (t ≡ b ∷ c ∷ drop 2 t) × IsText p (drop 2 t)
 unfolding IsText
 attribute b c p t (xs, ys, m, (us, vs, k, n, f), e) =
-    let w : t ≡ b ∷ c ∷ vs = e ∙ (ap (λ (l : List ℕ). l ++ ys) (byte-is b xs m) ∙ ap (λ (l : List ℕ). b ∷ l) (f ∙ ap (λ (l : List ℕ). l ++ vs) (byte-is c us k))) in
+    let w : t ≡ b ∷ c ∷ vs = e
+    ∙ (ap (λ (l : List ℕ). l ++ ys) (byte-is b xs m) ∙ ap (λ (l : List ℕ). b ∷ l) (f ∙ ap (λ (l : List ℕ). l ++ vs) (byte-is c us k))) in
     let d : drop 2 t ≡ vs = ap (λ (l : List ℕ). drop 2 l) w in
     (w ∙ ap (λ (l : List ℕ). b ∷ c ∷ l) (sym d), subst (IsText p) (sym d) n)
 
@@ -172,7 +173,8 @@ cut-last t xs ys m front value e =
     let p : proof_of t ≡ drop 2 ys =
     ap (λ (l : List ℕ). drop (length l + 3) t) b ∙ (ap (λ (l : List ℕ). drop (length xs + 3) l) w ∙ drop-past xs 44 112 61 (drop 2 ys)) in
     record {
-      whole = w ∙ (ap (λ (l : List ℕ). l ++ 44 ∷ 112 ∷ 61 ∷ drop 2 ys) (sym b) ∙ (ap (λ (l : List ℕ). without_proof t ++ 44 ∷ 112 ∷ 61 ∷ l) (sym p) ∙ sym (append_assoc (without_proof t) (44 ∷ 112 ∷ 61 ∷ []) (proof_of t))));
+      whole = w ∙ (ap (λ (l : List ℕ). l ++ 44 ∷ 112 ∷ 61 ∷ drop 2 ys) (sym b)
+          ∙ (ap (λ (l : List ℕ). without_proof t ++ 44 ∷ 112 ∷ 61 ∷ l) (sym p) ∙ sym (append_assoc (without_proof t) (44 ∷ 112 ∷ 61 ∷ []) (proof_of t))));
       front = subst (IsText client_final_message_without_proof) (sym b) front;
       binding = (attribute 99 61 base64 (before_comma t) one.front).1;
       nonce = (attribute 114 61 (printable_text 511) (before_comma (after_comma t))

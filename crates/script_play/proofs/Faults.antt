@@ -10,7 +10,8 @@ pub never : Rose 0 0 → ⊥
 never rose = omega (arith, rose)
 
 -- a fault since a later count is one since an earlier count
-pub read-before : {X : Type 0} (a b n : ℕ) (r : Result X Status) → a ≤ b → IfErr r (λ s. s ≡ status.ReadFault → Rose b n) → IfErr r (λ s. s ≡ status.ReadFault → Rose a n)
+pub read-before : {X : Type 0} (a b n : ℕ) (r : Result X Status) → a ≤ b → IfErr r (λ s. s ≡ status.ReadFault → Rose b n)
+    → IfErr r (λ s. s ≡ status.ReadFault → Rose a n)
 read-before a b n (Ok x) less rose = tt
 read-before a b n (Err s) less rose = λ is. later less (rose is)
   where

@@ -23,7 +23,8 @@ none-played = record { starts = (nobody, [], 0, refl); legal = tt; spelt = refl;
 none-written : (took : Option (List ℕ)) (taken : List ℕ) → took ≡ Some taken → took ≡ Some (taken ++ [])
 none-written took taken told = told ∙ ap Some (sym (append-nil taken))
 
-pub first-done : (left left_now took : Option (List ℕ)) (held : List ℕ) → Ends (unread [] left) (unread held left_now) → Replayed left left_now took took status.Done
+pub first-done : (left left_now took : Option (List ℕ)) (held : List ℕ) → Ends (unread [] left) (unread held left_now)
+    → Replayed left left_now took took status.Done
 first-done left left_now took held ends = record {
   lines = [];
   start = opening nobody [] 0;
@@ -105,7 +106,8 @@ pub first-short : (left left_now took : Option (List ℕ)) → Replayed left lef
 first-short left left_now took = first-taking left left_now took status.NoMemory tt
 
 pub first-going : (left coming_now took : Option (List ℕ)) (given_now : ℕ) (text : List ℕ) (house : Kept) (o : State)
-    → TakesLine (unread [] left) coming_now 0 given_now text → Makes text o → StandsFor o [] house → Going left coming_now took took given_now house no_framers 2
+    → TakesLine (unread [] left) coming_now 0 given_now text → Makes text o → StandsFor o [] house
+    → Going left coming_now took took given_now house no_framers 2
 first-going left coming_now took given_now text house o t makes stands = record {
   lines = t.line ∷ [];
   start = o;
@@ -132,9 +134,13 @@ first-going left coming_now took given_now text house o t makes stands = record 
 pub fresh-ends : (left now : Option (List ℕ)) (held : List ℕ) → held ≡ [] → Ends (unread held left) now → Ends (unread [] left) now
 fresh-ends left now held none ends = subst (λ h. Ends (unread h left) now) none ends
 
-pub fresh-stopping : (left : Option (List ℕ)) (held : List ℕ) (given : ℕ) (s : Status) → held ≡ [] → given ≡ 0 → Stopping s (unread held left) given 1 → Stopping s (unread [] left) 0 1
-fresh-stopping left held given s none zero stop = subst (λ h. Stopping s (unread h left) 0 1) none (subst (λ (n : ℕ). Stopping s (unread held left) n 1) zero stop)
+pub fresh-stopping : (left : Option (List ℕ)) (held : List ℕ) (given : ℕ) (s : Status) → held ≡ [] → given ≡ 0 → Stopping s (unread held left) given 1
+    → Stopping s (unread [] left) 0 1
+fresh-stopping left held given s none zero stop =
+    subst (λ h. Stopping s (unread h left) 0 1) none (subst (λ (n : ℕ). Stopping s (unread held left) n 1) zero stop)
 
-pub fresh-line : (left now : Option (List ℕ)) (held : List ℕ) (given given_now : ℕ) (text : List ℕ) → held ≡ [] → given ≡ 0 → TakesLine (unread held left) now given given_now text
+pub fresh-line : (left now : Option (List ℕ)) (held : List ℕ) (given given_now : ℕ) (text : List ℕ) → held ≡ [] → given ≡ 0
+    → TakesLine (unread held left) now given given_now text
     → TakesLine (unread [] left) now 0 given_now text
-fresh-line left now held given given_now text none zero t = subst (λ h. TakesLine (unread h left) now 0 given_now text) none (subst (λ (n : ℕ). TakesLine (unread held left) now n given_now text) zero t)
+fresh-line left now held given given_now text none zero t =
+    subst (λ h. TakesLine (unread h left) now 0 given_now text) none (subst (λ (n : ℕ). TakesLine (unread held left) now n given_now text) zero t)

@@ -50,7 +50,8 @@ item-told (stopped f k) t h = absurd (let bad : true ≡ false = h in cc)
 item-told (reads f b n k) t h = refl
 
 piece-on : (bs : List ℕ) (s : Reading) → is_done s ≡ false
-    → OnBy s bs (taken_reading limits s bs) (handed (reading_after limits s (take (taken_reading limits s bs) bs))) (option_to_list (waiting (reading_after limits s (take (taken_reading limits s bs) bs))))
+    → OnBy s bs (taken_reading limits s bs) (handed (reading_after limits s (take (taken_reading limits s bs) bs)))
+    (option_to_list (waiting (reading_after limits s (take (taken_reading limits s bs) bs))))
 piece-on [] s h = record {
   read = ap handed (ready_handed s (not-done s h));
   told = ap (λ (o : Option Item). option_to_list o ++ []) (sym (none-waits s h));
@@ -59,9 +60,11 @@ piece-on (b ∷ bs) s h = by (is_done (reading_next limits s b)) refl (λ e. pie
   where
     by : (t : Bool) → is_done (reading_next limits s b) ≡ t
         → (is_done (reading_next limits s b) ≡ false
-        → OnBy (reading_next limits s b) bs (taken_reading limits (reading_next limits s b) bs) (handed (reading_after limits (reading_next limits s b) (take (taken_reading limits (reading_next limits s b) bs) bs)))
+        → OnBy (reading_next limits s b) bs (taken_reading limits (reading_next limits s b) bs)
+        (handed (reading_after limits (reading_next limits s b) (take (taken_reading limits (reading_next limits s b) bs) bs)))
         (option_to_list (waiting (reading_after limits (reading_next limits s b) (take (taken_reading limits (reading_next limits s b) bs) bs)))))
-        → OnBy s (b ∷ bs) (if t then 1 else 1 + taken_reading limits (reading_next limits s b) bs) (handed (reading_after limits s (take (if t then 1 else 1 + taken_reading limits (reading_next limits s b) bs) (b ∷ bs))))
+        → OnBy s (b ∷ bs) (if t then 1 else 1 + taken_reading limits (reading_next limits s b) bs)
+        (handed (reading_after limits s (take (if t then 1 else 1 + taken_reading limits (reading_next limits s b) bs) (b ∷ bs))))
         (option_to_list (waiting (reading_after limits s (take (if t then 1 else 1 + taken_reading limits (reading_next limits s b) bs) (b ∷ bs)))))
     by true e go = record {
       read = went_on s b bs (not-done s h);
@@ -70,11 +73,15 @@ piece-on (b ∷ bs) s h = by (is_done (reading_next limits s b)) refl (λ e. pie
     by false e go =
         let m : ℕ = taken_reading limits (reading_next limits s b) bs in
         let more = go e in
-        let ready : handed (reading_next limits s b) ≡ reading_next limits s b = ready_handed (reading_next limits s b) (not-done (reading_next limits s b) e) in
+        let ready : handed (reading_next limits s b) ≡ reading_next limits s b =
+        ready_handed (reading_next limits s b) (not-done (reading_next limits s b) e) in
         let one : 1 + m ≡ suc m = omega arith in
-        let none : item_in s (reading_next limits s b) ≡ [] = item-told s (reading_next limits s b) h ∙ ap option_to_list (none-waits (reading_next limits s b) e) in
-        let whole : items_of s (b ∷ bs) ≡ items_of (reading_next limits s b) bs = ap (λ (x : List Item). x ++ items_of (handed (reading_next limits s b)) bs) none ∙ ap (λ (x : Reading). items_of x bs) ready in
-        subst (λ (i : ℕ). OnBy s (b ∷ bs) i (handed (reading_after limits s (take i (b ∷ bs)))) (option_to_list (waiting (reading_after limits s (take i (b ∷ bs)))))) (sym one) (record {
+        let none : item_in s (reading_next limits s b) ≡ [] = item-told s (reading_next limits s b) h
+        ∙ ap option_to_list (none-waits (reading_next limits s b) e) in
+        let whole : items_of s (b ∷ bs) ≡ items_of (reading_next limits s b) bs =
+        ap (λ (x : List Item). x ++ items_of (handed (reading_next limits s b)) bs) none ∙ ap (λ (x : Reading). items_of x bs) ready in
+        subst (λ (i : ℕ). OnBy s (b ∷ bs) i (handed (reading_after limits s (take i (b ∷ bs))))
+        (option_to_list (waiting (reading_after limits s (take i (b ∷ bs)))))) (sym one) (record {
           read = more.read ∙ (ap (λ (x : Reading). handed (went limits x bs)) (sym ready) ∙ went_on s b bs (not-done s h));
           told = whole ∙ more.told;
         })
@@ -82,7 +89,8 @@ piece-on (b ∷ bs) s h = by (is_done (reading_next limits s b)) refl (λ e. pie
 -- The piece of a framer that handed its item out, or that has a fault.
 
 pub piece_fed : (l : Limits) (s held t u : Reading) (bs : List ℕ) (n : ℕ) (o : Option Item)
-    → l ≡ limits → held ≡ handed s → is_ready s ≡ true → waiting s ≡ None → n ≡ taken l held bs → t ≡ reading_after l held (take n bs) → u ≡ handed t → o ≡ waiting t → OnBy s bs n u (option_to_list o)
+    → l ≡ limits → held ≡ handed s → is_ready s ≡ true → waiting s ≡ None → n ≡ taken l held bs → t ≡ reading_after l held (take n bs) → u ≡ handed t
+    → o ≡ waiting t → OnBy s bs n u (option_to_list o)
 piece_fed l (stopped f k) held t u bs n o same is ready none count read to item = absurd (some-none _ none)
   where
     some-none : {X : Type 0} (x : X) → Some x ≡ None → ⊥
@@ -92,10 +100,13 @@ piece_fed l (reads f b e k) held t u bs n o same is ready none count read to ite
     let here : held ≡ s = is ∙ ready_handed s ready in
     let number : n ≡ taken_reading limits s bs = count ∙ (ap (λ (x : Limits). taken x held bs) same ∙ ap (λ (x : Reading). taken limits x bs) here) in
     let after : t ≡ reading_after limits s (take (taken_reading limits s bs) bs) =
-    read ∙ (ap (λ (x : Limits). reading_after x held (take n bs)) same ∙ (ap (λ (x : Reading). reading_after limits x (take n bs)) here ∙ ap (λ (i : ℕ). reading_after limits s (take i bs)) number)) in
+    read ∙ (ap (λ (x : Limits). reading_after x held (take n bs)) same
+    ∙ (ap (λ (x : Reading). reading_after limits x (take n bs)) here ∙ ap (λ (i : ℕ). reading_after limits s (take i bs)) number)) in
     subst (λ (x : Option Item). OnBy s bs n u (option_to_list x)) (sym (item ∙ ap waiting after))
-    (subst (λ (x : Reading). OnBy s bs n x (option_to_list (waiting (reading_after limits s (take (taken_reading limits s bs) bs))))) (sym (to ∙ ap handed after))
-    (subst (λ (i : ℕ). OnBy s bs i (handed (reading_after limits s (take (taken_reading limits s bs) bs))) (option_to_list (waiting (reading_after limits s (take (taken_reading limits s bs) bs))))) (sym number) (piece-on bs s (none-done s none))))
+    (subst (λ (x : Reading). OnBy s bs n x (option_to_list (waiting (reading_after limits s (take (taken_reading limits s bs) bs)))))
+    (sym (to ∙ ap handed after))
+    (subst (λ (i : ℕ). OnBy s bs i (handed (reading_after limits s (take (taken_reading limits s bs) bs)))
+    (option_to_list (waiting (reading_after limits s (take (taken_reading limits s bs) bs))))) (sym number) (piece-on bs s (none-done s none))))
 
 -- after a fault no byte does anything
 pub piece_stopped : (s u : Reading) (bs out : List ℕ) → is_ready s ≡ true → is_some (waiting s) ≡ true → u ≡ handed s → FedOn s bs out (length bs) u out
@@ -120,7 +131,8 @@ piece_stopped (stopped f k) u bs out ready some to =
     told-none (b ∷ bs) = told-none bs
 
 -- what it brought was printed
-told-on : (s u : Reading) (bs : List ℕ) (n : ℕ) (items : List Item) (out new : List ℕ) → OnBy s bs n u items → new ≡ out ++ print_items items → FedOn s bs out n u new
+told-on : (s u : Reading) (bs : List ℕ) (n : ℕ) (items : List Item) (out new : List ℕ) → OnBy s bs n u items → new ≡ out ++ print_items items
+    → FedOn s bs out n u new
 told-on s u bs n items out new on made = record {
   read = on.read;
   printed =
@@ -129,7 +141,8 @@ told-on s u bs n items out new on made = record {
       ∙ ap (λ (l : List ℕ). out ++ l) (sym (flat_map-append print_item items (items_of u (drop n bs))) ∙ ap print_items (sym on.told)));
 }
 
-pub item_printed : (s u : Reading) (bs : List ℕ) (n : ℕ) (i : Item) (out new : List ℕ) → OnBy s bs n u (option_to_list (Some i)) → new ≡ out ++ print_item i → FedOn s bs out n u new
+pub item_printed : (s u : Reading) (bs : List ℕ) (n : ℕ) (i : Item) (out new : List ℕ) → OnBy s bs n u (option_to_list (Some i)) → new ≡ out ++ print_item i
+    → FedOn s bs out n u new
 item_printed s u bs n i out new on made = told-on s u bs n (i ∷ []) out new on (made ∙ ap (λ (l : List ℕ). out ++ l) (sym (append-nil (print_item i))))
 
 pub none_printed : (s u : Reading) (bs : List ℕ) (n : ℕ) (out : List ℕ) → OnBy s bs n u (option_to_list None) → FedOn s bs out n u out
@@ -158,7 +171,8 @@ taken_some l (reads f b n k) (c ∷ cs) h = by (is_done (reading_next l (reads f
     by false = omega arith
 
 -- A piece in the middle of the bytes that were fed.
-pub piece_next : (s0 s t : Reading) (bs : List ℕ) (i n : ℕ) (out0 out new : List ℕ) → FedOn s0 bs out0 i s out → FedOn s (take (length bs - i) (drop i bs)) out n t new → FedOn s0 bs out0 (i + n) t new
+pub piece_next : (s0 s t : Reading) (bs : List ℕ) (i n : ℕ) (out0 out new : List ℕ) → FedOn s0 bs out0 i s out
+    → FedOn s (take (length bs - i) (drop i bs)) out n t new → FedOn s0 bs out0 (i + n) t new
 piece_next s0 s t bs i n out0 out new before on =
     let here : FedOn s (drop i bs) out n t new = subst (λ (l : List ℕ). FedOn s l out n t new) (take_rest bs i) on in record {
       read = ap (λ (l : List ℕ). handed (went limits t l)) (sym (drop-drop n i bs)) ∙ (here.read ∙ before.read);
@@ -166,7 +180,8 @@ piece_next s0 s t bs i n out0 out new before on =
     }
 
 -- the whole was fed
-pub all_fed : (s t : Reading) (bs out new : List ℕ) (i : ℕ) → length bs ≤ i → is_ready t ≡ true → FedOn s bs out i t new → (t ≡ handed (went limits s bs)) × (new ≡ out ++ print_items (items_of s bs))
+pub all_fed : (s t : Reading) (bs out new : List ℕ) (i : ℕ) → length bs ≤ i → is_ready t ≡ true → FedOn s bs out i t new
+    → (t ≡ handed (went limits s bs)) × (new ≡ out ++ print_items (items_of s bs))
 all_fed s t bs out new i h ready on =
     let none : drop i bs ≡ [] = drop_all i bs h in (
       sym (ready_handed t ready) ∙ (ap (λ (l : List ℕ). handed (went limits t l)) (sym none) ∙ on.read),

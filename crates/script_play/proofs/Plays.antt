@@ -48,9 +48,11 @@ framers-push fs (e ∷ ds) d = framers-push (framers_next fs e) ds d
 prints-push-from : (fs : Framers) (ds : List Deed) (d : Deed) → prints_from fs (ds ++ d ∷ []) ≡ prints_from fs ds ++ print_deed (framers_after fs ds) d
 prints-push-from fs [] d = append-nil (print_deed fs d)
 prints-push-from fs (e ∷ ds) d =
-    ap (λ bytes. print_deed fs e ++ bytes) (prints-push-from (framers_next fs e) ds d) ∙ sym (append_assoc (print_deed fs e) (prints_from (framers_next fs e) ds) (print_deed (framers_after (framers_next fs e) ds) d))
+    ap (λ bytes. print_deed fs e ++ bytes) (prints-push-from (framers_next fs e) ds d)
+    ∙ sym (append_assoc (print_deed fs e) (prints_from (framers_next fs e) ds) (print_deed (framers_after (framers_next fs e) ds) d))
 
-within-push : (read : ℕ) (lines : List (List ℕ)) (line : List ℕ) → AreWithin read lines → IsWithin (read + size_of lines) line → AreWithin read (lines ++ line ∷ [])
+within-push : (read : ℕ) (lines : List (List ℕ)) (line : List ℕ) → AreWithin read lines → IsWithin (read + size_of lines) line
+    → AreWithin read (lines ++ line ∷ [])
 within-push read [] line within one = (subst (λ (n : ℕ). IsWithin n line) (omega arith) one, tt)
 within-push read (first ∷ more) line within one =
     (within.0, within-push (read + length first) more line within.1 (subst (λ (n : ℕ). IsWithin n line) (omega arith) one))
@@ -59,11 +61,14 @@ size-push : (lines : List (List ℕ)) (line : List ℕ) → size_of (lines ++ li
 size-push [] line = omega arith
 size-push (first ∷ more) line = omega (arith, size-push more line)
 
-prints-push : (framers : Framers) (ds : List Deed) (d : Deed) → framers ≡ framers_after no_framers ds → prints (ds ++ d ∷ []) ≡ prints ds ++ print_deed framers d
+prints-push : (framers : Framers) (ds : List Deed) (d : Deed) → framers ≡ framers_after no_framers ds
+    → prints (ds ++ d ∷ []) ≡ prints ds ++ print_deed framers d
 prints-push framers ds d is = prints-push-from no_framers ds d ∙ ap (λ (fs : Framers). prints ds ++ print_deed fs d) (sym is)
 
-pub along-on : (left coming coming_now : Option (List ℕ)) (given given_now : ℕ) (house house_now : Kept) (framers framers_now : Framers) (number : ℕ) (text out : List ℕ) (lines : List (List ℕ)) (start : State) (deeds : List Deed)
-    → Along left coming given house framers number lines start deeds → (t : TakesLine coming coming_now given given_now text) → (p : PlaysLine house house_now framers framers_now text out)
+pub along-on : (left coming coming_now : Option (List ℕ)) (given given_now : ℕ) (house house_now : Kept) (framers framers_now : Framers) (number : ℕ)
+    (text out : List ℕ) (lines : List (List ℕ)) (start : State) (deeds : List Deed)
+    → Along left coming given house framers number lines start deeds → (t : TakesLine coming coming_now given given_now text)
+    → (p : PlaysLine house house_now framers framers_now text out)
     → Along left coming_now given_now house_now framers_now (number + 1) (lines ++ t.line ∷ []) start (deeds ++ p.plays.deed ∷ [])
 along-on left coming coming_now given given_now house house_now framers framers_now number text out lines start deeds a t p = record {
   stands = subst (λ (h : List Turn). StandsFor start h house_now) (sym (turns-push deeds p.plays.deed)) (p.plays.stands start (turns_of deeds) a.stands);
@@ -82,7 +87,8 @@ along-on left coming coming_now given given_now house house_now framers framers_
       (next.0, (next.1.0, old.1.1 ∙ ap (λ more. lines ++ more) next.1.1 ∙ sym (append_assoc lines (t.line ∷ []) (lines_of next.0))));
 }
 
-pub turns-few : (left coming took took_now : Option (List ℕ)) (given : ℕ) (house : Kept) (framers : Framers) (number : ℕ) → Going left coming took took_now given house framers number → house.head.turns < 2 ^ 63
+pub turns-few : (left coming took took_now : Option (List ℕ)) (given : ℕ) (house : Kept) (framers : Framers) (number : ℕ)
+    → Going left coming took took_now given house framers number → house.head.turns < 2 ^ 63
 turns-few left coming took took_now given house framers number g =
     let a = g.along in
     let counted = turns-counted g.start (turns_of g.deeds) house a.stands in
@@ -107,15 +113,18 @@ turns-few left coming took took_now given house framers number g =
     less a b c d same few each most = omega (arith, same, few, each, most)
 
 -- what was written once one more print was
-pub written-on : (took : Option (List ℕ)) (before now : Option (List ℕ)) (framers : Framers) (ds : List Deed) (d : Deed) (out : List ℕ) → framers ≡ framers_after no_framers ds
+pub written-on : (took : Option (List ℕ)) (before now : Option (List ℕ)) (framers : Framers) (ds : List Deed) (d : Deed) (out : List ℕ)
+    → framers ≡ framers_after no_framers ds
     → ((taken : List ℕ) → took ≡ Some taken → before ≡ Some (taken ++ prints ds)) → ((taken : List ℕ) → before ≡ Some taken → now ≡ Some (taken ++ out))
     → out ≡ print_deed framers d → (taken : List ℕ) → took ≡ Some taken → now ≡ Some (taken ++ prints (ds ++ d ∷ []))
 written-on took before now framers ds d out framed old added is taken told =
     added (taken ++ prints ds) (old taken told)
     ∙ ap Some (append_assoc taken (prints ds) out ∙ ap (λ bytes. taken ++ bytes) (ap (λ bytes. prints ds ++ bytes) is ∙ sym (prints-push framers ds d framed)))
 
-pub going-on : (left coming coming_now took before now : Option (List ℕ)) (given given_now : ℕ) (house house_now : Kept) (framers framers_now : Framers) (number : ℕ) (text out : List ℕ)
-    → Going left coming took before given house framers number → TakesLine coming coming_now given given_now text → PlaysLine house house_now framers framers_now text out
+pub going-on : (left coming coming_now took before now : Option (List ℕ)) (given given_now : ℕ) (house house_now : Kept) (framers framers_now : Framers)
+    (number : ℕ) (text out : List ℕ)
+    → Going left coming took before given house framers number → TakesLine coming coming_now given given_now text
+    → PlaysLine house house_now framers framers_now text out
     → ((taken : List ℕ) → before ≡ Some taken → now ≡ Some (taken ++ out)) → Going left coming_now took now given_now house_now framers_now (number + 1)
 going-on left coming coming_now took before now given given_now house house_now framers framers_now number text out g t p added = record {
   lines = g.lines ++ t.line ∷ [];
@@ -127,7 +136,8 @@ going-on left coming coming_now took before now given given_now house house_now 
 
 played : (left coming : Option (List ℕ)) (given : ℕ) (house : Kept) (framers : Framers) (number : ℕ) (lines : List (List ℕ)) (start : State) (deeds : List Deed)
     → Along left coming given house framers number lines start deeds → IsPlayed lines start deeds
-played left coming given house framers number lines start deeds a = record { starts = a.stands.starts; legal = a.stands.legal; spelt = a.spelt; done = a.done; within = a.within }
+played left coming given house framers number lines start deeds a =
+    record { starts = a.stands.starts; legal = a.stands.legal; spelt = a.spelt; done = a.done; within = a.within }
 
 pub unread-none : (held : List ℕ) (o : Option (List ℕ)) → unread held o ≡ Some [] → o ≡ Some []
 unread-none held None h = absurd (cc)
@@ -143,7 +153,8 @@ unread-none (b ∷ more) (Some left) h = absurd (empty (b ∷ more ++ left) h)
     empty xs e = let n : 1 ≡ 0 = ap first e in omega (arith, n)
 
 -- the end of the script
-pub stop-done : (left coming : Option (List ℕ)) (held : List ℕ) (left_now took now : Option (List ℕ)) (given : ℕ) (house : Kept) (framers : Framers) (number : ℕ)
+pub stop-done : (left coming : Option (List ℕ)) (held : List ℕ) (left_now took now : Option (List ℕ)) (given : ℕ) (house : Kept) (framers : Framers)
+    (number : ℕ)
     → Going left coming took now given house framers number → Ends coming (unread held left_now) → Replayed left left_now took now status.Done
 stop-done left coming held left_now took now given house framers number g ends = record {
   lines = g.lines;
@@ -174,8 +185,13 @@ stop-taking left coming left_now took now given house framers number (status.Scr
   number = stop.0 ∙ g.along.count;
   read = λ all told.
       let old = g.along.read all told in
-      let passes = stop.1 old.0 old.1.0 in
-      (lines_of old.0, (old.1.1, (passes.0, (passes.1.0, (passes.1.1.0, inl (λ within. passes.1.1.1 (subst (λ (m : ℕ). IsWithin m passes.0) (sym g.along.size) within)))))));
+      let passes = stop.1 old.0 old.1.0 in (
+        lines_of old.0,
+        (
+          old.1.1,
+          (passes.0, (passes.1.0, (passes.1.1.0, inl (λ within. passes.1.1.1 (subst (λ (m : ℕ). IsWithin m passes.0) (sym g.along.size) within))))),
+        ),
+      );
   out = prints g.deeds;
   are_prints = prints_are g.deeds;
   written = g.written;
@@ -222,7 +238,8 @@ may-come o h house (step.Feed w bytes) stands may = omega (arith, may, workers-k
 may-come o h house (step.Fresh w) stands may = omega (arith, may, workers-kept o h house stands)
 
 -- the line can't be played
-pub stop-bad : (left coming coming_now left_now took now : Option (List ℕ)) (given given_now : ℕ) (house : Kept) (framers : Framers) (number : ℕ) (text : List ℕ)
+pub stop-bad : (left coming coming_now left_now took now : Option (List ℕ)) (given given_now : ℕ) (house : Kept) (framers : Framers) (number : ℕ)
+    (text : List ℕ)
     → Going left coming took now given house framers number → TakesLine coming coming_now given given_now text
     → ((s : Step) → step_of text ≡ Some s → MayComeHere house s → ⊥)
     → Replayed left left_now took now (status.Script number)
@@ -260,7 +277,8 @@ stop-bad left coming coming_now left_now took now given given_now house framers 
 -- memory was wanting
 pub stop-short : (left coming left_now took now : Option (List ℕ)) (given : ℕ) (house : Kept) (framers : Framers) (number : ℕ)
     → Going left coming took now given house framers number → Replayed left left_now took now status.NoMemory
-stop-short left coming left_now took now given house framers number g = stop-taking left coming left_now took now given house framers number status.NoMemory g tt
+stop-short left coming left_now took now given house framers number g =
+    stop-taking left coming left_now took now given house framers number status.NoMemory g tt
 
 -- a front of what comes after these prints
 front-more : (taken first out : List ℕ) (now : Option (List ℕ)) → Front (taken ++ first) out now → Front taken (first ++ out) now
@@ -277,8 +295,10 @@ front-more taken first out (Some told) p = (
 )
 
 -- the print of a turn was written in part
-pub stop-writing : (left coming coming_now left_now took before now : Option (List ℕ)) (given given_now : ℕ) (house house_now : Kept) (framers framers_now : Framers) (number : ℕ) (text out : List ℕ)
-    → Going left coming took before given house framers number → TakesLine coming coming_now given given_now text → PlaysLine house house_now framers framers_now text out
+pub stop-writing : (left coming coming_now left_now took before now : Option (List ℕ)) (given given_now : ℕ) (house house_now : Kept)
+    (framers framers_now : Framers) (number : ℕ) (text out : List ℕ)
+    → Going left coming took before given house framers number → TakesLine coming coming_now given given_now text
+    → PlaysLine house house_now framers framers_now text out
     → ((taken : List ℕ) → before ≡ Some taken → Front taken out now) → Replayed left left_now took now status.WriteFault
 stop-writing left coming coming_now left_now took before now given given_now house house_now framers framers_now number text out g t p front = record {
   lines = g.lines ++ t.line ∷ [];
@@ -291,7 +311,8 @@ stop-writing left coming coming_now left_now took before now given given_now hou
       safe g.start (turns_of (g.deeds ++ p.plays.deed ∷ [])) next.stands.starts next.stands.legal;
   number = tt;
   read = λ all told.
-      let old = (along-on left coming coming_now given given_now house house_now framers framers_now number text out g.lines g.start g.deeds g.along t p).read all told in
+      let old = (along-on left coming coming_now given given_now house house_now framers framers_now number text out g.lines g.start g.deeds g.along t p).read
+      all told in
       (lines_of old.0, (old.1.1, tt));
   out = prints (g.deeds ++ p.plays.deed ∷ []);
   are_prints = prints_are (g.deeds ++ p.plays.deed ∷ []);

@@ -32,7 +32,8 @@ ready_handed (reads f b n k) h = none b.item h refl
     none (Some i) h e = absurd (let bad : false ≡ true = h in cc)
 
 -- a byte more
-pub went_on : (s : Reading) (b : ℕ) (bs : List ℕ) → is_ready s ≡ true → handed (went limits (handed (reading_next limits s b)) bs) ≡ handed (went limits s (b ∷ bs))
+pub went_on : (s : Reading) (b : ℕ) (bs : List ℕ) → is_ready s ≡ true
+    → handed (went limits (handed (reading_next limits s b)) bs) ≡ handed (went limits s (b ∷ bs))
 went_on s b bs h = again (reading_next limits s b) bs ∙ ap (λ (x : Reading). handed (went limits (reading_next limits x b) bs)) (sym (ready_handed s h))
   where
     again : (s : Reading) (bs : List ℕ) → handed (went limits (handed s) bs) ≡ handed (went limits s bs)
@@ -41,7 +42,8 @@ went_on s b bs h = again (reading_next limits s b) bs ∙ ap (λ (x : Reading). 
 
 -- Places.
 
-pub place_set : (places : List (Option Place)) (w : ℕ) (x : Option Place) (s : Reading) → w < length places → reading_at x ≡ s → framers_of (set places w x) ≡ with_framer w s (framers_of places)
+pub place_set : (places : List (Option Place)) (w : ℕ) (x : Option Place) (s : Reading) → w < length places → reading_at x ≡ s
+    → framers_of (set places w x) ≡ with_framer w s (framers_of places)
 place_set places w x s h e = λ i v. same v i
   where
     same : (v : ℕ) → reading_at (get_or (set places w x) v None) ≡ (if v == w then s else reading_at (get_or places v None))
@@ -83,7 +85,8 @@ place_none places w h = λ i v. same v i
         by false k = refl
 
 -- a place that is set again
-pub with_set : (places : List (Option Place)) (w : ℕ) (x : Option Place) (s : Reading) → with_framer w s (framers_of (set places w x)) ≡ with_framer w s (framers_of places)
+pub with_set : (places : List (Option Place)) (w : ℕ) (x : Option Place) (s : Reading)
+    → with_framer w s (framers_of (set places w x)) ≡ with_framer w s (framers_of places)
 with_set places w x s = λ i v. same v i
   where
     same : (v : ℕ) → (if v == w then s else reading_at (get_or (set places w x) v None)) ≡ (if v == w then s else reading_at (get_or places v None))

@@ -151,7 +151,8 @@ dice-added o accounts h n ports (a ∷ before) (b ∷ now) (first, rest) =
     omega (arith, here, more)
 
 pub dice-counted : (o : State) (accounts : Book) (h : List Turn) (ports ports' : ℕ) (before now : List Telling) (each : Attended o accounts h 0 before now)
-    → 0 < length before → ports' ≡ added ports (map (λ (a : Telling). a.dice) now) → min (ports + dice_ends o accounts h 0 before now each) (2 ^ 64 - 1) ≤ ports'
+    → 0 < length before → ports' ≡ added ports (map (λ (a : Telling). a.dice) now)
+    → min (ports + dice_ends o accounts h 0 before now each) (2 ^ 64 - 1) ≤ ports'
 dice-counted o accounts h ports ports' before now each some added_all =
     let sum = added_all ∙ some-added o accounts h (λ (a : Telling). a.dice) 0 ports before now each some in
     let least = dice-added o accounts h 0 ports before now each in

@@ -61,7 +61,8 @@ pub served_over : (r : Result HouseRecord Status) (domain : Address) (workers : 
     → IfOk r (λ left. (o : State) → StandsFor o [] k → Staffed o accounts before now Shut (held left))
     → StandsFor (opening domain (names_of accounts.accounts) workers) [] k → entries_of list ≡ Ok (map entry_of accounts.accounts)
     → IfOk r (λ left. ServedBy domain workers list before now (held left))
-served_over (Ok left) domain workers list accounts before now k served stands read = (accounts, read, served (opening domain (names_of accounts.accounts) workers) stands)
+served_over (Ok left) domain workers list accounts before now k served stands read =
+    (accounts, read, served (opening domain (names_of accounts.accounts) workers) stands)
 served_over (Err s) domain workers list accounts before now k served stands read = tt
 
 pub refused_over : (r : Result HouseRecord Status) (list : List ℕ) (X Y : Type 0) → IfErr r (λ s. (s ≡ status.NoMemory) ⊎ ((s ≡ status.ListenFault) × Y))
@@ -111,7 +112,8 @@ added_some quota n x (a ∷ before) (b ∷ now) kept (first, rest) (inr rose) =
 itself : (n : ℕ) → min n (2 ^ 64 - 1) ≤ n
 itself n = omega arith
 
-pub gathered_rose : (quota n : ℕ) (before now : List Telling) → AllOpened quota before → SomeRose before now → Rose n (added n (map (λ (a : Telling). a.faults) now))
+pub gathered_rose : (quota n : ℕ) (before now : List Telling) → AllOpened quota before → SomeRose before now
+    → Rose n (added n (map (λ (a : Telling). a.faults) now))
 gathered_rose quota n before now opened rose = added_some quota n n before now (itself n) opened rose
 
 -- Posts.
@@ -120,7 +122,8 @@ pub map_both : (A B C : Type 0) (f : A → B) (g : B → C) (xs : List A) → ma
 map_both A B C f g [] = refl
 map_both A B C f g (x ∷ xs) = ap (λ (l : List C). g (f x) ∷ l) (map_both A B C f g xs)
 
-pub all_opened : (P D : Type 0) (door : P → D) (tell : P → Telling) (quotas faults links : D → ℕ) (tapes : D → Option (List (List Mark))) (quota : ℕ) (xs : List P)
+pub all_opened : (P D : Type 0) (door : P → D) (tell : P → Telling) (quotas faults links : D → ℕ) (tapes : D
+    → Option (List (List Mark))) (quota : ℕ) (xs : List P)
     → ((x : P) → (tell x).quota ≡ quotas (door x)) → ((x : P) → (tell x).faults ≡ faults (door x)) → ((x : P) → (tell x).links ≡ links (door x))
     → ((x : P) → (tell x).tapes ≡ tapes (door x)) → Each D (Opened D quotas faults links tapes quota) (map door xs) → AllOpened quota (map tell xs)
 all_opened P D door tell quotas faults links tapes quota [] q f l t opened = tt
@@ -156,7 +159,8 @@ length_told P tell xs n h = as_many P tell xs ∙ h
 gathers_told : (P : Type 0) (tell : P → Telling) (old now : Option (List (List (List Mark)))) (xs : List P)
     → Gathers old (map (λ (x : P). (tell x).tapes) xs) now → Gathers old (map (λ (a : Telling). a.tapes) (map tell xs)) now
 gathers_told P tell old now xs gathers =
-    subst (λ (l : List (Option (List (List Mark)))). Gathers old l now) (sym (map_both P Telling (Option (List (List Mark))) tell (λ (a : Telling). a.tapes) xs)) gathers
+    subst (λ (l : List (Option (List (List Mark)))). Gathers old l now)
+    (sym (map_both P Telling (Option (List (List Mark))) tell (λ (a : Telling). a.tapes) xs)) gathers
 
 counts_told : (P : Type 0) (tell : P → Telling) (count : Telling → ℕ) (n f : ℕ) (xs : List P) → f ≡ added n (map (λ (x : P). count (tell x)) xs)
     → f ≡ added n (map count (map tell xs))
@@ -241,10 +245,12 @@ run_served domain workers quota some list ports ports' house (before, now, many,
       line_by house.table.opened (openings staffed.history) house.turns (length staffed.history) n.0 n.1;
   gathered = gathers;
   counted =
-      links-added (opening domain (names_of accounts.accounts) workers) accounts staffed.history (held house) workers quota ports.links ports'.links before now some refl many
+      links-added (opening domain (names_of accounts.accounts) workers) accounts staffed.history (held house) workers quota ports.links ports'.links before now
+      some refl many
       staffed.stands staffed.each opened gathers.links;
   filled =
-      quotas-filled (opening domain (names_of accounts.accounts) workers) accounts staffed.history (held house) workers quota before now staffed.failed refl many
+      quotas-filled (opening domain (names_of accounts.accounts) workers) accounts staffed.history (held house) workers quota before now staffed.failed refl
+      many
       staffed.stands staffed.each staffed.ended staffed.worked_is opened;
   dice_failed =
       dice-counted (opening domain (names_of accounts.accounts) workers) accounts staffed.history ports.dice ports'.dice before now staffed.each
@@ -315,6 +321,7 @@ pub many_back : (P : Type 0) (tell : P → Telling) (o : State) (accounts : Book
 many_back P tell o accounts before now worked k s =
     sym (as_many P tell now) ∙ as-many-ended (map tell before) (map tell now) s.failed s.ended ∙ as_many P tell before
 
-pub given_served : (domain : Address) (workers quota : ℕ) (list : List ℕ) (ports ports' : Tally) (line : List ℕ) → Served domain workers quota list ports ports' line
+pub given_served : (domain : Address) (workers quota : ℕ) (list : List ℕ) (ports ports' : Tally) (line : List ℕ)
+    → Served domain workers quota list ports ports' line
     → GivenBack workers ports ports'
 given_served domain workers quota list ports ports' line s = (s.now, as-many-ended s.before s.now s.staffed.failed s.staffed.ended ∙ s.as_many, s.gathered)

@@ -42,10 +42,12 @@ settled E text v least most parsed digits =
     ap (λ t. cond (t && is_between least most (digits_value 10 text)) (Some (digits_value 10 text)) None) are
     ∙ ap (λ n. cond (is_between least most n) (Some n) None) (sym p.1)
 
-pub number_in : (E : Type 0) (text : List ℕ) (v least most : ℕ) → ParsesUnsigned {E = E} 64 10 text (Ok v) → list_all is_ascii_digit text ≡ true → least ≤ v → v ≤ most
+pub number_in : (E : Type 0) (text : List ℕ) (v least most : ℕ) → ParsesUnsigned {E = E} 64 10 text (Ok v) → list_all is_ascii_digit text ≡ true → least ≤ v
+    → v ≤ most
     → number least most text ≡ Some v
 number_in E text v least most parsed digits low high =
-    settled E text v least most parsed digits ∙ ap (λ t. cond (t && nat_le v most) (Some v) None) (le-leb least v low) ∙ ap (λ t. cond t (Some v) None) (le-leb v most high)
+    settled E text v least most parsed digits ∙ ap (λ t. cond (t && nat_le v most) (Some v) None) (le-leb least v low)
+    ∙ ap (λ t. cond t (Some v) None) (le-leb v most high)
 
 pub number_low : (E : Type 0) (text : List ℕ) (v least most : ℕ) → ParsesUnsigned {E = E} 64 10 text (Ok v) → list_all is_ascii_digit text ≡ true → v < least
     → number least most text ≡ None
@@ -55,13 +57,16 @@ number_low E text v least most parsed digits low =
 pub number_high : (E : Type 0) (text : List ℕ) (v least most : ℕ) → ParsesUnsigned {E = E} 64 10 text (Ok v) → list_all is_ascii_digit text ≡ true → most < v
     → number least most text ≡ None
 number_high E text v least most parsed digits high =
-    settled E text v least most parsed digits ∙ sym (none (is_between least most v) v (λ e. omega (arith, leb-true v most (both (nat_le least v) (nat_le v most) e).1, high)))
+    settled E text v least most parsed digits
+    ∙ sym (none (is_between least most v) v (λ e. omega (arith, leb-true v most (both (nat_le least v) (nat_le v most) e).1, high)))
 
-pub number_err : (E : Type 0) (text : List ℕ) (fault : E) (least most : ℕ) → ParsesUnsigned {E = E} 64 10 text (Err fault) → list_all is_ascii_digit text ≡ true → most < 2 ^ 64
+pub number_err : (E : Type 0) (text : List ℕ) (fault : E) (least most : ℕ) → ParsesUnsigned {E = E} 64 10 text (Err fault) → list_all is_ascii_digit text ≡ true
+    → most < 2 ^ 64
     → number least most text ≡ None
 number_err E text fault least most parsed digits fits =
     sym (none (are_digits text && is_between least most (digits_value 10 text)) (digits_value 10 text) (λ e.
     let b = both (are_digits text) _ e in
     let c = both (nat_lt 0 (length text)) _ b.0 in
     let d = both (nat_le least (digits_value 10 text)) (nat_le (digits_value 10 text) most) b.1 in
-    parse_digits model {E = E} 64 text (Err fault) parsed (sym (same text) ∙ digits) (ltb-true 0 (length text) c.0, omega (arith, leb-true (digits_value 10 text) most d.1, fits))))
+    parse_digits model {E = E} 64 text (Err fault) parsed (sym (same text)
+    ∙ digits) (ltb-true 0 (length text) c.0, omega (arith, leb-true (digits_value 10 text) most d.1, fits))))

@@ -10,7 +10,8 @@ use Rattle.serve_words.specs.Options.{Set, before_all, set_of}
 abbrev pub after_some : List Set → Option (List Set) → Option (List Set)
 after_some front rest = on rest (λ more. Some (front ++ more))
 
-pub one-more : (given : List Given) (one : Given) (rest : Option (List Set)) → after_some (map set_of given) (before_all (set_of one) rest) ≡ after_some (map set_of (given ++ (one ∷ []))) rest
+pub one-more : (given : List Given) (one : Given) (rest : Option (List Set))
+    → after_some (map set_of given) (before_all (set_of one) rest) ≡ after_some (map set_of (given ++ (one ∷ []))) rest
 one-more given one None = refl
 one-more given one (Some more) =
     ap Some (sym (append_assoc (map set_of given) (set_of one ∷ []) more) ∙ ap (λ l. l ++ more) (sym (map-append set_of given (one ∷ []))))

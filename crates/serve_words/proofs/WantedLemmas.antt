@@ -21,7 +21,8 @@ by-four o q r s o' q' r' s' i j k l =
 -- the values that clap reads of four words are the values of the options
 pub as-read : (given : List Set) (rows : List Row) (words : List (List ℕ)) (d p w n : List ℕ) → words ≡ four d p w n → rows ≡ matches_of grammar words
     → value_of given Domain ≡ Some d → value_of given Port ≡ Some p → value_of given Workers ≡ Some w → value_of given Connections ≡ Some n
-    → wanted_in given ≡ wanted_by (first_of (codes "domain") rows) (first_of (codes "port") rows) (first_of (codes "workers") rows) (first_of (codes "connections") rows)
+    → wanted_in given ≡ wanted_by (first_of (codes "domain") rows) (first_of (codes "port") rows) (first_of (codes "workers") rows)
+    (first_of (codes "connections") rows)
 as-read given rows words d p w n are read i j k l =
     let is : rows ≡ matches_of grammar (four d p w n) = read ∙ ap (matches_of grammar) are in
     by-four _ _ _ _ _ _ _ _

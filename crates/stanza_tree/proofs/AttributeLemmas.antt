@@ -25,7 +25,8 @@ place-here false p n h = omega arith
 
 pub attr_place-le : (local : List ℕ) (attrs : List Attr) → attr_place local attrs ≤ length attrs
 attr_place-le local [] = omega arith
-attr_place-le local (a ∷ more) = let h : (if is_named local a then 0 else 1 + attr_place local more) ≤ 1 + length more = place-here (is_named local a) (attr_place local more) (length more) (attr_place-le local more) in omega arith
+attr_place-le local (a ∷ more) = let h : (if is_named local a then 0 else 1 + attr_place local more) ≤ 1 + length more =
+    place-here (is_named local a) (attr_place local more) (length more) (attr_place-le local more) in omega arith
 
 push-here : (b : Bool) (a changed : Attr) (more rest last : List Attr) (p : ℕ)
     → (if b then 0 else 1 + p) ≡ 1 + length more → (p ≡ length more → rest ≡ more ++ last)
@@ -37,4 +38,5 @@ pub with_attr-push : (local value : List ℕ) (attrs : List Attr) → attr_place
     → with_attr local value attrs ≡ attrs ++ record { name = record { space = []; local = local }; value = value } ∷ []
 with_attr-push local value [] none = refl
 with_attr-push local value (a ∷ more) none =
-    push-here (is_named local a) a (record a { value = value }) more (with_attr local value more) _ (attr_place local more) (omega arith) (with_attr-push local value more)
+    push-here (is_named local a) a (record a { value = value }) more (with_attr local value more) _ (attr_place local more) (omega arith)
+    (with_attr-push local value more)

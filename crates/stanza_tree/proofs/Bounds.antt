@@ -45,15 +45,18 @@ stamp-step false false false w c m P U F S0 S1 T A0 A1 plain e short h0 h1 h = o
 written-bound : (k : ℕ) (from : List ℕ) (attrs : List Attr) → length (stamped_text true k from attrs) ≤ length (attributes k attrs) + 0
 written-bound k from [] = omega arith
 written-bound k from (a ∷ more) =
-    stamp-step (is_named (codes "to") a) (needs_prefix a) (is_named (codes "from") a) true (length (from_text from)) 0 (prefixed k a) (unprefixed a) (from_text from)
+    stamp-step (is_named (codes "to") a) (needs_prefix a) (is_named (codes "from") a) true (length (from_text from)) 0 (prefixed k a) (unprefixed a)
+    (from_text from)
     (stamped_text true k from more) (stamped_text true (k + 1) from more) (stamped_text true k from more) (attributes k more) (attributes (k + 1) more)
-    (plain-needs_prefix (codes "to") a) (λ h. absurd (let z : true ≡ false = h in cc)) (omega arith) (written-bound k from more) (written-bound (k + 1) from more)
+    (plain-needs_prefix (codes "to") a) (λ h. absurd (let z : true ≡ false = h in cc)) (omega arith) (written-bound k from more)
+    (written-bound (k + 1) from more)
     (omega (arith, written-bound k from more))
 
 stamped-bound : (k : ℕ) (from : List ℕ) (attrs : List Attr) → length (stamped_text false k from attrs) ≤ length (attributes k attrs) + length (from_text from)
 stamped-bound k from [] = omega arith
 stamped-bound k from (a ∷ more) =
-    stamp-step (is_named (codes "to") a) (needs_prefix a) (is_named (codes "from") a) false (length (from_text from)) (length (from_text from)) (prefixed k a) (unprefixed a) (from_text from)
+    stamp-step (is_named (codes "to") a) (needs_prefix a) (is_named (codes "from") a) false (length (from_text from)) (length (from_text from)) (prefixed k a)
+    (unprefixed a) (from_text from)
     (stamped_text false k from more) (stamped_text false (k + 1) from more) (stamped_text true k from more) (attributes k more) (attributes (k + 1) more)
     (plain-needs_prefix (codes "to") a) (λ h. refl) (omega arith) (stamped-bound k from more) (stamped-bound (k + 1) from more)
     (omega (arith, written-bound k from more))
@@ -61,13 +64,16 @@ stamped-bound k from (a ∷ more) =
 length-from_text : (from : List ℕ) → length (from_text from) ≡ 8 + length (value_text from)
 length-from_text from = grind (arith, common_steps)
 
-length-text : (e : Element) → length (text e) ≡ length (named client_space e.name) + length (declarations 0 e.attrs) + length (attributes 0 e.attrs) + length (closed e.name.local (texts_under e.name.space e.children))
+length-text : (e : Element)
+    → length (text e) ≡ length (named client_space e.name) + length (declarations 0 e.attrs) + length (attributes 0 e.attrs) + length
+    (closed e.name.local (texts_under e.name.space e.children))
 unfolding opened
 length-text e = grind (arith, common_steps, ap length (text_under-parts client_space e))
 
 -- a stanza grows by at most the sender's address
 pub length-text-sent-le : (from : List ℕ) (e : Element) → length (text (sent_by from e)) ≤ length (text e) + 8 + 6 * length from
-length-text-sent-le from e = grind (arith, common_steps, ap length (text-sent from e), length-text e, length-from_text from, length-value_text-le from, stamped-bound 0 from e.attrs)
+length-text-sent-le from e =
+    grind (arith, common_steps, ap length (text-sent from e), length-text e, length-from_text from, length-value_text-le from, stamped-bound 0 from e.attrs)
 
 -- a frame is its entry's text and the address
 pub length-frame : (e : Entry) → length (frame e) ≡ length e.rest + 6 + length (value_text e.to)

@@ -15,7 +15,13 @@ opened-some parent e = grind (arith, common_steps)
 
 element-some : (parent : List ℕ) (e : Element) → 0 < length (text_under parent e)
 element-some parent e =
-    omega (arith, ap length (text_under-parts parent e), length-append (opened parent e.name e.attrs) (closed e.name.local (texts_under e.name.space e.children)), opened-some parent e)
+    omega (
+      arith,
+      ap length (text_under-parts parent e),
+      length-append (opened parent e.name e.attrs)
+          (closed e.name.local (texts_under e.name.space e.children)),
+      opened-some parent e,
+    )
 
 byte-some : (b : ℕ) → 0 < length (escaped_in_words b)
 unfolding escaped_in_words
@@ -30,10 +36,13 @@ first-some s rest some = grind (arith, common_steps)
 
 -- an element spells something, and so do words that are not empty
 pub content-child : (s : List ℕ) (n : Node) (ns : List Node) (e : Element) → out-Node n ≡ Child e → true ≡ nat_lt 0 (length (texts_under s (n ∷ ns)))
-content-child s n ns e here = sym (ap (λ l. nat_lt 0 (length l)) (texts-child s n ns e here) ∙ first-some (text_under s e) (texts_under s ns) (element-some s e))
+content-child s n ns e here =
+    sym (ap (λ l. nat_lt 0 (length l)) (texts-child s n ns e here) ∙ first-some (text_under s e) (texts_under s ns) (element-some s e))
 
-pub content-words : (s : List ℕ) (n : Node) (ns : List Node) (w : List ℕ) → out-Node n ≡ Words w → 0 < length w → true ≡ nat_lt 0 (length (texts_under s (n ∷ ns)))
-content-words s n ns w here some = sym (ap (λ l. nat_lt 0 (length l)) (texts-words s n ns w here) ∙ first-some (words_text w) (texts_under s ns) (words-some w some))
+pub content-words : (s : List ℕ) (n : Node) (ns : List Node) (w : List ℕ) → out-Node n ≡ Words w → 0 < length w
+    → true ≡ nat_lt 0 (length (texts_under s (n ∷ ns)))
+content-words s n ns w here some =
+    sym (ap (λ l. nat_lt 0 (length l)) (texts-words s n ns w here) ∙ first-some (words_text w) (texts_under s ns) (words-some w some))
 
 -- empty words spell nothing
 pub content-none : (s : List ℕ) (n : Node) (ns : List Node) (w : List ℕ) → out-Node n ≡ Words w → length w ≡ 0 → texts_under s ns ≡ texts_under s (n ∷ ns)
@@ -45,11 +54,14 @@ unfolding closed
 closed-some local content some = grind (arith, common_steps)
 
 -- a start tag, what the children spell and an end tag are the element
-pub element-whole : (parent : List ℕ) (e : Element) (before after start end content local : List ℕ) → texts_under e.name.space e.children ≡ content → nat_lt 0 (length content) ≡ true
-    → local ≡ e.name.local → start ≡ before ++ opened parent e.name e.attrs ++ codes ">" → end ≡ start ++ content → after ≡ end ++ codes "</" ++ local ++ codes ">"
+pub element-whole : (parent : List ℕ) (e : Element) (before after start end content local : List ℕ) → texts_under e.name.space e.children ≡ content
+    → nat_lt 0 (length content) ≡ true
+    → local ≡ e.name.local → start ≡ before ++ opened parent e.name e.attrs ++ codes ">" → end ≡ start ++ content
+    → after ≡ end ++ codes "</" ++ local ++ codes ">"
     → after ≡ before ++ text_under parent e
 element-whole parent e before after start end content local same some named_so opens holds ends =
-    let whole = text_under-parts parent e ∙ ap (λ c. opened parent e.name e.attrs ++ closed e.name.local c) same ∙ ap (λ c. opened parent e.name e.attrs ++ c) (closed-some e.name.local content some) in
+    let whole = text_under-parts parent e ∙ ap (λ c. opened parent e.name e.attrs ++ closed e.name.local c) same
+    ∙ ap (λ c. opened parent e.name e.attrs ++ c) (closed-some e.name.local content some) in
     grind (arith, common_steps, whole)
 
 -- what follows from a success

@@ -38,5 +38,7 @@ pub frame-utf8 : (e : Entry) → IsUtf8 e.rest → IsUtf8 e.to → IsUtf8 (frame
 frame-utf8 e r t =
     let n = name_end e.rest in
     let cut = name-boundary e.rest in
-    let quoted = IsUtf8-append (codes " to='" ++ value_text e.to) (codes "'") (IsUtf8-append (codes " to='") (value_text e.to) (ascii-utf8 (codes " to='") refl) (value_text-utf8 e.to t)) (ascii-utf8 (codes "'") refl) in
-    IsUtf8-append (take n e.rest ++ to_attribute e.to) (drop n e.rest) (IsUtf8-append (take n e.rest) (to_attribute e.to) (IsUtf8-take e.rest n r cut) quoted) (IsUtf8-drop e.rest n r cut)
+    let quoted = IsUtf8-append (codes " to='" ++ value_text e.to) (codes "'")
+    (IsUtf8-append (codes " to='") (value_text e.to) (ascii-utf8 (codes " to='") refl) (value_text-utf8 e.to t)) (ascii-utf8 (codes "'") refl) in
+    IsUtf8-append (take n e.rest ++ to_attribute e.to) (drop n e.rest) (IsUtf8-append (take n e.rest) (to_attribute e.to) (IsUtf8-take e.rest n r cut) quoted)
+    (IsUtf8-drop e.rest n r cut)

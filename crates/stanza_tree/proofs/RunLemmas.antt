@@ -43,7 +43,8 @@ pub tested_next : (f : ℕ → List ℕ) (xs : List ℕ) (i escapes after : ℕ)
     → (plain ≡ true → f (slice_index xs i) ≡ slice_index xs i ∷ []) → (f (slice_index xs i) ≡ slice_index xs i ∷ [] → plain ≡ true)
     → (plain ≡ true → after ≡ escapes) → (plain ≡ false → after ≡ max escapes 1)
     → (escapes ≡ 0 → slice_range xs 0 i ++ flat_map f (drop i xs) ≡ flat_map f xs) → i + length (flat_map f (drop i xs)) + escapes ≤ length (flat_map f xs)
-    → (after ≡ 0 → slice_range xs 0 (i + 1) ++ flat_map f (drop (i + 1) xs) ≡ flat_map f xs) × (i + 1 + length (flat_map f (drop (i + 1) xs)) + after ≤ length (flat_map f xs))
+    → (after ≡ 0 → slice_range xs 0 (i + 1) ++ flat_map f (drop (i + 1) xs) ≡ flat_map f xs)
+    × (i + 1 + length (flat_map f (drop (i + 1) xs)) + after ≤ length (flat_map f xs))
 tested_next f xs i escapes after true within long is from_is same more so_far longer =
     let e = ap length (spelt_next f xs i within ∙ ap (λ (s : List ℕ). s ++ flat_map f (drop (i + 1) xs)) (is refl)) in (
       λ none. run_longer f xs [] 0 i (omega arith) within (is refl) ∙ so_far (omega (arith, same refl, none)),

@@ -24,7 +24,8 @@ plain-unprefixed local value a h =
     rw (parts.1, e) refl
 
 written-step : (t f : Bool) (k : ℕ) (x : List ℕ) (a : Attr) (rest : List Attr) (S : ℕ → List ℕ) → ((j : ℕ) → S j ≡ attributes j rest)
-    → (if t then S k else if needs_prefix a then prefixed k a ++ S (k + 1) else if f && false then x else unprefixed a ++ S k) ≡ attributes k (if t then rest else a ∷ rest)
+    → (if t then S k else if needs_prefix a then prefixed k a ++ S (k + 1) else if f && false then x else unprefixed a ++ S k)
+    ≡ attributes k (if t then rest else a ∷ rest)
 written-step true f k x a rest S same = same k
 written-step false true k x a rest S same = rw (same (k + 1), same k) refl
 written-step false false k x a rest S same = rw (same (k + 1), same k) refl
@@ -57,7 +58,8 @@ attributes-stamped k from (a ∷ more) =
     open-step (is_named (codes "to") a) (is_named (codes "from") a) k from a (without_attr (codes "to") more)
     (λ j. stamped_text false j from more) (λ j. stamped_text true j from more) refl (λ j. attributes-stamped j from more) (λ j. text-written j from more)
 
-stamped-declared : (t f : Bool) (k : ℕ) (from : List ℕ) (a : Attr) (rest : List Attr) (S : ℕ → List ℕ) → is_named (codes "to") a ≡ t → is_named (codes "from") a ≡ f
+stamped-declared : (t f : Bool) (k : ℕ) (from : List ℕ) (a : Attr) (rest : List Attr) (S : ℕ → List ℕ) → is_named (codes "to") a ≡ t
+    → is_named (codes "from") a ≡ f
     → ((j : ℕ) → declarations j rest ≡ S j) → ((j : ℕ) → declarations j (with_attr (codes "from") from rest) ≡ S j)
     → declarations k (with_attr (codes "from") from (if t then rest else a ∷ rest)) ≡ (if needs_prefix a then declaration k a ++ S (k + 1) else S k)
 unfolding needs_prefix
@@ -85,6 +87,7 @@ declarations-stamped k from (a ∷ more) =
 
 -- the parts of a stamped stanza's spelling
 pub text-sent : (from : List ℕ) (e : Element)
-    → text (sent_by from e) ≡ named client_space e.name ++ declarations 0 e.attrs ++ stamped_text false 0 from e.attrs ++ closed e.name.local (texts_under e.name.space e.children)
+    → text (sent_by from e) ≡ named client_space e.name ++ declarations 0 e.attrs ++ stamped_text false 0 from e.attrs
+    ++ closed e.name.local (texts_under e.name.space e.children)
 unfolding opened
 text-sent from e = text_under-parts client_space (sent_by from e) ∙ rw (declarations-stamped 0 from e.attrs, ← attributes-stamped 0 from e.attrs) refl

@@ -36,8 +36,10 @@ unfolding encode
 high-encode c h = elim (cases_lt c 2048) [
   | inl k ↦ subst AllHigh (sym (cond-false _ _ _ (le-ltb c 128 h) ∙ cond-true _ _ _ (lt-ltb c 2048 k))) (omega arith, (omega arith, tt))
   | inr k ↦ elim (cases_lt c 65536) [
-    | inl j ↦ subst AllHigh (sym (cond-false _ _ _ (le-ltb c 128 h) ∙ (cond-false _ _ _ (le-ltb c 2048 k) ∙ cond-true _ _ _ (lt-ltb c 65536 j)))) (omega arith, (omega arith, (omega arith, tt)))
-    | inr j ↦ subst AllHigh (sym (cond-false _ _ _ (le-ltb c 128 h) ∙ (cond-false _ _ _ (le-ltb c 2048 k) ∙ cond-false _ _ _ (le-ltb c 65536 j)))) (omega arith, (omega arith, (omega arith, (omega arith, tt))))
+    | inl j ↦ subst AllHigh (sym (cond-false _ _ _ (le-ltb c 128 h) ∙ (cond-false _ _ _ (le-ltb c 2048 k) ∙ cond-true _ _ _ (lt-ltb c 65536 j))))
+        (omega arith, (omega arith, (omega arith, tt)))
+    | inr j ↦ subst AllHigh (sym (cond-false _ _ _ (le-ltb c 128 h) ∙ (cond-false _ _ _ (le-ltb c 2048 k) ∙ cond-false _ _ _ (le-ltb c 65536 j))))
+        (omega arith, (omega arith, (omega arith, (omega arith, tt))))
   ]
 ]
 
@@ -46,7 +48,8 @@ spelt-high f high [] a = refl
 spelt-high f high (b ∷ bs) a = ap (λ (l : List ℕ). l ++ flat_map f bs) (high b a.0) ∙ ap (λ (l : List ℕ). b ∷ l) (spelt-high f high bs a.1)
 
 -- characters below 128 are spelt as UTF-8, and others as they are
-spelt-utf8 : (f : ℕ → List ℕ) → ((b : ℕ) → b < 128 → IsUtf8 (f b)) → ((b : ℕ) → 128 ≤ b → f b ≡ b ∷ []) → (cs : List ℕ) → scalars cs ≡ true → IsUtf8 (flat_map f (encode_utf8_all cs))
+spelt-utf8 : (f : ℕ → List ℕ) → ((b : ℕ) → b < 128 → IsUtf8 (f b)) → ((b : ℕ) → 128 ≤ b → f b ≡ b ∷ []) → (cs : List ℕ) → scalars cs ≡ true
+    → IsUtf8 (flat_map f (encode_utf8_all cs))
 spelt-utf8 f low high [] s = IsUtf8-nil
 spelt-utf8 f low high (c ∷ cs) s =
     let parts = and_parts _ _ s in
@@ -113,7 +116,8 @@ abbrev join : (xs ys : List ℕ) → IsUtf8 xs → IsUtf8 ys → IsUtf8 (xs ++ y
 join = IsUtf8-append
 
 assigned-utf8 : (v : List ℕ) → IsUtf8 v → IsUtf8 (assigned v)
-assigned-utf8 v u = join (codes "='" ++ value_text v) (codes "'") (join (codes "='") (value_text v) (ascii-utf8 (codes "='") refl) (value_text-utf8 v u)) (ascii-utf8 (codes "'") refl)
+assigned-utf8 v u = join (codes "='" ++ value_text v) (codes "'") (join (codes "='") (value_text v) (ascii-utf8 (codes "='") refl) (value_text-utf8 v u))
+    (ascii-utf8 (codes "'") refl)
 
 prefix-utf8 : (k : ℕ) → k < 2 ^ 64 → IsUtf8 (prefix k)
 prefix-utf8 k h = join (codes "n") (decimal k) (ascii-utf8 (codes "n") refl) (IsUtf8-from_ascii (decimal k) (IsAscii-decimal k h))
@@ -121,20 +125,23 @@ prefix-utf8 k h = join (codes "n") (decimal k) (ascii-utf8 (codes "n") refl) (Is
 declaration-utf8 : (k : ℕ) (a : Attr) → k < 2 ^ 64 → NameIsUtf8 a.name → IsUtf8 (declaration k a)
 unfolding declaration
 declaration-utf8 k a h n =
-    join (codes " xmlns:" ++ prefix k) (assigned a.name.space) (join (codes " xmlns:") (prefix k) (ascii-utf8 (codes " xmlns:") refl) (prefix-utf8 k h)) (assigned-utf8 a.name.space n.0)
+    join (codes " xmlns:" ++ prefix k) (assigned a.name.space) (join (codes " xmlns:") (prefix k) (ascii-utf8 (codes " xmlns:") refl) (prefix-utf8 k h))
+    (assigned-utf8 a.name.space n.0)
 
 prefixed-utf8 : (k : ℕ) (a : Attr) → k < 2 ^ 64 → NameIsUtf8 a.name → IsUtf8 a.value → IsUtf8 (prefixed k a)
 unfolding prefixed
 prefixed-utf8 k a h n v =
     let start = join (codes " ") (prefix k) (ascii-utf8 (codes " ") refl) (prefix-utf8 k h) in
     let colon = join (codes " " ++ prefix k) (codes ":") start (ascii-utf8 (codes ":") refl) in
-    join (codes " " ++ prefix k ++ codes ":" ++ a.name.local) (assigned a.value) (join (codes " " ++ prefix k ++ codes ":") a.name.local colon n.1) (assigned-utf8 a.value v)
+    join (codes " " ++ prefix k ++ codes ":" ++ a.name.local) (assigned a.value) (join (codes " " ++ prefix k ++ codes ":") a.name.local colon n.1)
+    (assigned-utf8 a.value v)
 
 unprefixed-utf8 : (a : Attr) → NameIsUtf8 a.name → IsUtf8 a.value → IsUtf8 (unprefixed a)
 unfolding unprefixed
 unprefixed-utf8 a n v =
     let xml : List ℕ = if bytes_eq a.name.space [] then [] else codes "xml:" in
-    let start = join (codes " ") xml (ascii-utf8 (codes " ") refl) (chosen-utf8 (bytes_eq a.name.space []) [] (codes "xml:") IsUtf8-nil (ascii-utf8 (codes "xml:") refl)) in
+    let start = join (codes " ") xml (ascii-utf8 (codes " ") refl)
+    (chosen-utf8 (bytes_eq a.name.space []) [] (codes "xml:") IsUtf8-nil (ascii-utf8 (codes "xml:") refl)) in
     join (codes " " ++ xml ++ a.name.local) (assigned a.value) (join (codes " " ++ xml) a.name.local start n.1) (assigned-utf8 a.value v)
 
 declarations-utf8 : (k : ℕ) (attrs : List Attr) → k + length attrs < 2 ^ 64 → AttrsAreUtf8 attrs → IsUtf8 (declarations k attrs)
@@ -154,50 +161,64 @@ attributes-utf8 k (a ∷ more) h u =
 from_text-utf8 : (from : List ℕ) → IsUtf8 from → IsUtf8 (from_text from)
 from_text-utf8 from f = join (codes " from") (assigned from) (ascii-utf8 (codes " from") refl) (assigned-utf8 from f)
 
-stamped_text-utf8 : (written : Bool) (k : ℕ) (from : List ℕ) (attrs : List Attr) → k + length attrs < 2 ^ 64 → IsUtf8 from → AttrsAreUtf8 attrs → IsUtf8 (stamped_text written k from attrs)
+stamped_text-utf8 : (written : Bool) (k : ℕ) (from : List ℕ) (attrs : List Attr) → k + length attrs < 2 ^ 64 → IsUtf8 from → AttrsAreUtf8 attrs
+    → IsUtf8 (stamped_text written k from attrs)
 stamped_text-utf8 true k from [] h f u = IsUtf8-nil
 stamped_text-utf8 false k from [] h f u = from_text-utf8 from f
 stamped_text-utf8 written k from (a ∷ more) h f u =
     chosen-utf8 (is_named (codes "to") a) _ _ (stamped_text-utf8 written k from more (omega arith) f u.2)
-    (chosen-utf8 (needs_prefix a) _ _ (join (prefixed k a) _ (prefixed-utf8 k a (omega arith) u.0 u.1) (stamped_text-utf8 written (k + 1) from more (omega arith) f u.2))
-    (chosen-utf8 (is_named (codes "from") a && not written) _ _ (join (from_text from) _ (from_text-utf8 from f) (stamped_text-utf8 true k from more (omega arith) f u.2))
+    (chosen-utf8 (needs_prefix a) _ _
+    (join (prefixed k a) _ (prefixed-utf8 k a (omega arith) u.0 u.1) (stamped_text-utf8 written (k + 1) from more (omega arith) f u.2))
+    (chosen-utf8 (is_named (codes "from") a && not written) _ _
+    (join (from_text from) _ (from_text-utf8 from f) (stamped_text-utf8 true k from more (omega arith) f u.2))
     (join (unprefixed a) _ (unprefixed-utf8 a u.0 u.1) (stamped_text-utf8 written k from more (omega arith) f u.2))))
 
 named-utf8 : (parent : List ℕ) (name : Name) → NameIsUtf8 name → IsUtf8 (named parent name)
 unfolding named
 named-utf8 parent name n =
     join (codes "<" ++ name.local) (default_space parent name.space) (join (codes "<") name.local (ascii-utf8 (codes "<") refl) n.1)
-    (chosen-utf8 (bytes_eq parent name.space) [] (codes " xmlns" ++ assigned name.space) IsUtf8-nil (join (codes " xmlns") (assigned name.space) (ascii-utf8 (codes " xmlns") refl) (assigned-utf8 name.space n.0)))
+    (chosen-utf8 (bytes_eq parent name.space) [] (codes " xmlns" ++ assigned name.space) IsUtf8-nil
+    (join (codes " xmlns") (assigned name.space) (ascii-utf8 (codes " xmlns") refl) (assigned-utf8 name.space n.0)))
 
 closed-utf8 : (local content : List ℕ) → IsUtf8 local → IsUtf8 content → IsUtf8 (closed local content)
 unfolding closed
 closed-utf8 local content l c =
     let start = join (codes ">" ++ content) (codes "</") (join (codes ">") content (ascii-utf8 (codes ">") refl) c) (ascii-utf8 (codes "</") refl) in
-    let whole = join (codes ">" ++ content ++ codes "</" ++ local) (codes ">") (join (codes ">" ++ content ++ codes "</") local start l) (ascii-utf8 (codes ">") refl) in
+    let whole = join (codes ">" ++ content ++ codes "</" ++ local) (codes ">") (join (codes ">" ++ content ++ codes "</") local start l)
+    (ascii-utf8 (codes ">") refl) in
     chosen-utf8 (length content == 0) (codes "/>") (codes ">" ++ content ++ codes "</" ++ local ++ codes ">") (ascii-utf8 (codes "/>") refl) whole
 
 -- Elements.
 
 -- an element whose texts are UTF-8 is spelt in UTF-8
-pub element-utf8 : (parent : List ℕ) (e : Element) → length e.attrs < 2 ^ 64 → NameIsUtf8 e.name → AttrsAreUtf8 e.attrs → IsUtf8 (texts_under e.name.space e.children) → IsUtf8 (text_under parent e)
+pub element-utf8 : (parent : List ℕ) (e : Element) → length e.attrs < 2 ^ 64 → NameIsUtf8 e.name → AttrsAreUtf8 e.attrs
+    → IsUtf8 (texts_under e.name.space e.children) → IsUtf8 (text_under parent e)
 unfolding opened
 element-utf8 parent e few n a c =
     let start = join (named parent e.name) (declarations 0 e.attrs) (named-utf8 parent e.name n) (declarations-utf8 0 e.attrs (omega arith) a) in
     let tag = join (named parent e.name ++ declarations 0 e.attrs) (attributes 0 e.attrs) start (attributes-utf8 0 e.attrs (omega arith) a) in
-    subst IsUtf8 (sym (text_under-parts parent e)) (join (opened parent e.name e.attrs) (closed e.name.local (texts_under e.name.space e.children)) tag (closed-utf8 e.name.local (texts_under e.name.space e.children) n.1 c))
+    subst IsUtf8 (sym (text_under-parts parent e))
+    (join (opened parent e.name e.attrs) (closed e.name.local (texts_under e.name.space e.children)) tag
+    (closed-utf8 e.name.local (texts_under e.name.space e.children) n.1 c))
 
 -- and so is a stanza that it is sent as
-pub sent-utf8 : (from : List ℕ) (e : Element) → length e.attrs < 2 ^ 64 → IsUtf8 from → NameIsUtf8 e.name → AttrsAreUtf8 e.attrs → IsUtf8 (texts_under e.name.space e.children) → IsUtf8 (text (sent_by from e))
+pub sent-utf8 : (from : List ℕ) (e : Element) → length e.attrs < 2 ^ 64 → IsUtf8 from → NameIsUtf8 e.name → AttrsAreUtf8 e.attrs
+    → IsUtf8 (texts_under e.name.space e.children) → IsUtf8 (text (sent_by from e))
 sent-utf8 from e few f n a c =
     let start = join (named client_space e.name) (declarations 0 e.attrs) (named-utf8 client_space e.name n) (declarations-utf8 0 e.attrs (omega arith) a) in
-    let tag = join (named client_space e.name ++ declarations 0 e.attrs) (stamped_text false 0 from e.attrs) start (stamped_text-utf8 false 0 from e.attrs (omega arith) f a) in
-    subst IsUtf8 (sym (text-sent from e)) (join (named client_space e.name ++ declarations 0 e.attrs ++ stamped_text false 0 from e.attrs) (closed e.name.local (texts_under e.name.space e.children)) tag (closed-utf8 e.name.local (texts_under e.name.space e.children) n.1 c))
+    let tag = join (named client_space e.name ++ declarations 0 e.attrs) (stamped_text false 0 from e.attrs) start
+    (stamped_text-utf8 false 0 from e.attrs (omega arith) f a) in
+    subst IsUtf8 (sym (text-sent from e))
+    (join (named client_space e.name ++ declarations 0 e.attrs ++ stamped_text false 0 from e.attrs)
+    (closed e.name.local (texts_under e.name.space e.children)) tag (closed-utf8 e.name.local (texts_under e.name.space e.children) n.1 c))
 
 -- nodes are spelt in UTF-8 where the first and the others are
-pub child-utf8 : (s : List ℕ) (n : Node) (ns : List Node) (e : Element) → out-Node n ≡ Child e → IsUtf8 (text_under s e) → IsUtf8 (texts_under s ns) → IsUtf8 (texts_under s (n ∷ ns))
+pub child-utf8 : (s : List ℕ) (n : Node) (ns : List Node) (e : Element) → out-Node n ≡ Child e → IsUtf8 (text_under s e) → IsUtf8 (texts_under s ns)
+    → IsUtf8 (texts_under s (n ∷ ns))
 child-utf8 s n ns e here first rest = subst IsUtf8 (sym (texts-child s n ns e here)) (join (text_under s e) (texts_under s ns) first rest)
 
-pub words-utf8 : (s : List ℕ) (n : Node) (ns : List Node) (w : List ℕ) → out-Node n ≡ Words w → IsUtf8 w → IsUtf8 (texts_under s ns) → IsUtf8 (texts_under s (n ∷ ns))
+pub words-utf8 : (s : List ℕ) (n : Node) (ns : List Node) (w : List ℕ) → out-Node n ≡ Words w → IsUtf8 w → IsUtf8 (texts_under s ns)
+    → IsUtf8 (texts_under s (n ∷ ns))
 words-utf8 s n ns w here first rest = subst IsUtf8 (sym (texts-words s n ns w here)) (join (words_text w) (texts_under s ns) (words_text-utf8 w first) rest)
 
 pub end-utf8 : (s : List ℕ) (ns : List Node) (i : ℕ) → length ns ≤ i → IsUtf8 (texts_under s (drop i ns))

@@ -34,13 +34,15 @@ nothing_long : {X : Type 0} (xs : List X) → 0 ≡ length xs → xs ≡ []
 nothing_long [] e = refl
 nothing_long (x ∷ xs) e = absurd (let f : 0 ≡ length (x ∷ xs) = e in omega arith)
 
-pub popped_last : {X : Type 0} (r : Option X) (old new : List X) (n m : ℕ) (B : X → Type 0) → m ≡ length new → old ≡ new ++ option_to_list r → MatchOption r ((n ≡ 0) × (m ≡ 0)) B → new ≡ but_last old
+pub popped_last : {X : Type 0} (r : Option X) (old new : List X) (n m : ℕ) (B : X → Type 0) → m ≡ length new → old ≡ new ++ option_to_list r
+    → MatchOption r ((n ≡ 0) × (m ≡ 0)) B → new ≡ but_last old
 popped_last None old new n m B k e c =
     let none : new ≡ [] = nothing_long new (sym c.1 ∙ k) in
     none ∙ sym (ap but_last (e ∙ (append-nil new ∙ none)))
 popped_last (Some x) old new n m B k e c = sym (ap but_last e ∙ but_last_layer new x)
 
-pub popped_none : {X : Type 0} (r : Option X) (old new : List X) (n m : ℕ) (B : X → Type 0) → r ≡ None → m ≡ length new → old ≡ new ++ option_to_list r → MatchOption r ((n ≡ 0) × (m ≡ 0)) B → old ≡ []
+pub popped_none : {X : Type 0} (r : Option X) (old new : List X) (n m : ℕ) (B : X → Type 0) → r ≡ None → m ≡ length new → old ≡ new ++ option_to_list r
+    → MatchOption r ((n ≡ 0) × (m ≡ 0)) B → old ≡ []
 popped_none None old new n m B h k e c = e ∙ (append-nil new ∙ nothing_long new (sym c.1 ∙ k))
 popped_none (Some x) old new n m B h k e c = absurd (some-none x h)
   where
@@ -48,7 +50,8 @@ popped_none (Some x) old new n m B h k e c = absurd (some-none x h)
     some-none x e = cc
 
 -- what an end tag does, where a parent is open
-pub close_some : (b : Building) (layers : List (List Binding)) (x p q : Opened) (e : Element) (others : List Opened) → b.opened ≡ x ∷ p ∷ others → e ≡ last_closed b.words x → layers ≡ but_last b.layers → q ≡ with_child [] e p
+pub close_some : (b : Building) (layers : List (List Binding)) (x p q : Opened) (e : Element) (others : List Opened) → b.opened ≡ x ∷ p ∷ others
+    → e ≡ last_closed b.words x → layers ≡ but_last b.layers → q ≡ with_child [] e p
     → record b { layers = layers; opened = q ∷ others; words = [] } ≡ closed_in b.opened b
 close_some b layers x p q e others h i j k =
     ap (λ (l : List (List Binding)). record b { layers = l; opened = q ∷ others; words = [] }) j
@@ -56,7 +59,8 @@ close_some b layers x p q e others h i j k =
     ∙ ap (λ (os : List Opened). closed_in os b) (sym h))
 
 -- and where none is
-pub close_none : (b : Building) (layers : List (List Binding)) (x : Opened) (e : Element) → b.opened ≡ x ∷ [] → e ≡ last_closed b.words x → layers ≡ but_last b.layers
+pub close_none : (b : Building) (layers : List (List Binding)) (x : Opened) (e : Element) → b.opened ≡ x ∷ [] → e ≡ last_closed b.words x
+    → layers ≡ but_last b.layers
     → record b { layers = layers; opened = []; words = []; item = Some (item.Top e) } ≡ closed_in b.opened b
 close_none b layers x e h i j =
     ap (λ (l : List (List Binding)). record b { layers = l; opened = []; words = []; item = Some (item.Top e) }) j

@@ -42,7 +42,8 @@ three-long (m ∷ x ∷ y ∷ st) = lt-ltb 2 (length (m ∷ x ∷ y ∷ st)) (om
 -- No item comes of them.
 
 begun-same : (b : Building) → not (length b.layers == 0) ≡ true → (build b (token.TagEnds false)).item ≡ b.item
-begun-same b h = ap (λ (t : Bool). (if t then headed (inside_of b.layers b.tag) b else begun (inside_of b.layers b.tag) b).item) (not-true (length b.layers == 0) h)
+begun-same b h = ap (λ (t : Bool). (if t then headed (inside_of b.layers b.tag) b else begun (inside_of b.layers b.tag) b).item)
+    (not-true (length b.layers == 0) h)
 
 ended-same : (e : Element) (words : List ℕ) (os : List Opened) (b : Building) → has_opened os ≡ true → (ended_in e words os b).item ≡ b.item
 ended-same e words [] b h = absurd (let bad : false ≡ true = h in cc)
@@ -55,7 +56,8 @@ closed-same (o ∷ x ∷ os) b h = refl
 
 -- Names are texts where a tag ends.
 
-ending-named : (s : Stage) (n : Nest) (e : Bool) (g : Gathered) → turn (stage_at s) 62 ≡ leads (stage_at (stage.Text Words)) (token.TagEnds e ∷ []) → HasTexts (open_at (stage_at s) n) g → IsTextTag g
+ending-named : (s : Stage) (n : Nest) (e : Bool) (g : Gathered) → turn (stage_at s) 62 ≡ leads (stage_at (stage.Text Words)) (token.TagEnds e ∷ [])
+    → HasTexts (open_at (stage_at s) n) g → IsTextTag g
 ending-named s n e g turned h = subst (λ (o : Outcome). AreNamed g (tokens_told o)) turned (told_named (open_at (stage_at s) n) 62 g h)
 
 -- A start tag.
@@ -79,7 +81,8 @@ enters-turn stage.InTag h = tag-ends
 enters-turn stage.ValueEnded h = value-ends
 enters-turn s h = absurd (let bad : false ≡ true = h in cc)
 
-enters-named : (st : State) (n : Nest) (t : Bool) (g : Gathered) → ((ends_start st.stage && is_between_characters st) && t) ≡ true → HasTexts (open_at st n) g → IsTextTag g
+enters-named : (st : State) (n : Nest) (t : Bool) (g : Gathered) → ((ends_start st.stage && is_between_characters st) && t) ≡ true → HasTexts (open_at st n) g
+    → IsTextTag g
 enters-named st n t g h texts =
     let q = and_parts (ends_start st.stage) (is_between_characters st) (and_parts (ends_start st.stage && is_between_characters st) t h).0 in
     ending-named st.stage n false g (enters-turn st.stage q.0) (subst (λ (y : State). HasTexts (open_at y n) g) (state_at st st.stage q.1 refl) texts)
@@ -104,21 +107,30 @@ entered-in : (r : Rules) (st : State) (n : Nest) (m x : RawName) (ms : List RawN
 entered-in r st n m x ms byte b h nests has judged =
     let p = and_parts (ends_start st.stage && is_between_characters st) (byte == 62) h in
     let q = and_parts (ends_start st.stage) (is_between_characters st) p.0 in
-    subst (λ (i : ℕ). LeadsBy r (open_at st n) b (i ∷ []) (open_at (stage_at (stage.Text Words)) (inside (m ∷ x ∷ ms))) (build b (token.TagEnds false))) (sym (eqb-true byte 62 p.1))
-    (subst (λ (y : State). LeadsBy r (open_at y n) b (62 ∷ []) (open_at (stage_at (stage.Text Words)) (inside (m ∷ x ∷ ms))) (build b (token.TagEnds false))) (sym (state_at st st.stage q.1 refl))
-    (told_led r (stage_at st.stage) (stage_at (stage.Text Words)) n (inside (m ∷ x ∷ ms)) 62 (token.TagEnds false) b (build b (token.TagEnds false)) (enters-turn st.stage q.0) nests refl refl refl judged (begun-same b has)))
+    subst (λ (i : ℕ). LeadsBy r (open_at st n) b (i ∷ []) (open_at (stage_at (stage.Text Words)) (inside (m ∷ x ∷ ms))) (build b (token.TagEnds false)))
+    (sym (eqb-true byte 62 p.1))
+    (subst (λ (y : State). LeadsBy r (open_at y n) b (62 ∷ []) (open_at (stage_at (stage.Text Words)) (inside (m ∷ x ∷ ms))) (build b (token.TagEnds false)))
+    (sym (state_at st st.stage q.1 refl))
+    (told_led r (stage_at st.stage) (stage_at (stage.Text Words)) n (inside (m ∷ x ∷ ms)) 62 (token.TagEnds false) b (build b (token.TagEnds false))
+    (enters-turn st.stage q.0) nests refl refl refl judged (begun-same b has)))
 
-entered-at : (r : Rules) (f : Frame) (byte : ℕ) (b : Building) → enters_by f byte ≡ true → not (length b.layers == 0) ≡ true → tag_judged b (token.TagEnds false) ≡ None → LeadsBy r f b (byte ∷ []) (now_entered f) (build b (token.TagEnds false))
+entered-at : (r : Rules) (f : Frame) (byte : ℕ) (b : Building) → enters_by f byte ≡ true → not (length b.layers == 0) ≡ true
+    → tag_judged b (token.TagEnds false) ≡ None → LeadsBy r f b (byte ∷ []) (now_entered f) (build b (token.TagEnds false))
 entered-at r (open_at st (naming (x ∷ ms) m)) byte b h has judged = entered-in r st (naming (x ∷ ms) m) m x ms byte b h (naming-enters r (x ∷ ms) m) has judged
-entered-at r (open_at st (in_tag (x ∷ ms) m i)) byte b h has judged = entered-in r st (in_tag (x ∷ ms) m i) m x ms byte b h (tag-enters r (x ∷ ms) m i) has judged
-entered-at r (open_at st (naming [] m)) byte b h has judged = absurd (let bad : false ≡ true = sym (and_right (ends_start st.stage && is_between_characters st) false refl) ∙ h in cc)
-entered-at r (open_at st (in_tag [] m i)) byte b h has judged = absurd (let bad : false ≡ true = sym (and_right (ends_start st.stage && is_between_characters st) false refl) ∙ h in cc)
+entered-at r (open_at st (in_tag (x ∷ ms) m i)) byte b h has judged =
+    entered-in r st (in_tag (x ∷ ms) m i) m x ms byte b h (tag-enters r (x ∷ ms) m i) has judged
+entered-at r (open_at st (naming [] m)) byte b h has judged =
+    absurd (let bad : false ≡ true = sym (and_right (ends_start st.stage && is_between_characters st) false refl) ∙ h in cc)
+entered-at r (open_at st (in_tag [] m i)) byte b h has judged =
+    absurd (let bad : false ≡ true = sym (and_right (ends_start st.stage && is_between_characters st) false refl) ∙ h in cc)
 entered-at r f byte b h has judged = absurd (let bad : false ≡ true = h in cc)
 
-pub entered_led : (r : Rules) (f g : Frame) (byte : ℕ) (b c : Building) → enters_by f byte ≡ true → not (length b.layers == 0) ≡ true → tag_judged b (token.TagEnds false) ≡ None
+pub entered_led : (r : Rules) (f g : Frame) (byte : ℕ) (b c : Building) → enters_by f byte ≡ true → not (length b.layers == 0) ≡ true
+    → tag_judged b (token.TagEnds false) ≡ None
     → g ≡ now_entered f → c ≡ build b (token.TagEnds false) → LeadsBy r f b (byte ∷ []) g c
 entered_led r f g byte b c h has judged is made =
-    subst (λ (x : Building). LeadsBy r f b (byte ∷ []) g x) (sym made) (subst (λ (x : Frame). LeadsBy r f b (byte ∷ []) x (build b (token.TagEnds false))) (sym is) (entered-at r f byte b h has judged))
+    subst (λ (x : Building). LeadsBy r f b (byte ∷ []) g x) (sym made)
+    (subst (λ (x : Frame). LeadsBy r f b (byte ∷ []) x (build b (token.TagEnds false))) (sym is) (entered-at r f byte b h has judged))
 
 -- An empty-element tag.
 
@@ -130,10 +142,12 @@ empty-mark-is : (s : Stage) → is_empty_mark s ≡ true → s ≡ stage.EmptyTa
 empty-mark-is stage.EmptyTagMark h = refl
 empty-mark-is s h = absurd (let bad : false ≡ true = h in cc)
 
-hollows-named : (st : State) (n : Nest) (t : Bool) (g : Gathered) → ((is_empty_mark st.stage && is_between_characters st) && t) ≡ true → HasTexts (open_at st n) g → IsTextTag g
+hollows-named : (st : State) (n : Nest) (t : Bool) (g : Gathered) → ((is_empty_mark st.stage && is_between_characters st) && t) ≡ true
+    → HasTexts (open_at st n) g → IsTextTag g
 hollows-named st n t g h texts =
     let q = and_parts (is_empty_mark st.stage) (is_between_characters st) (and_parts (is_empty_mark st.stage && is_between_characters st) t h).0 in
-    ending-named stage.EmptyTagMark n true g mark-ends (subst (λ (y : State). HasTexts (open_at y n) g) (state_at st stage.EmptyTagMark q.1 (empty-mark-is st.stage q.0)) texts)
+    ending-named stage.EmptyTagMark n true g mark-ends
+    (subst (λ (y : State). HasTexts (open_at y n) g) (state_at st stage.EmptyTagMark q.1 (empty-mark-is st.stage q.0)) texts)
 
 pub hollow_named : (f : Frame) (byte : ℕ) (g : Gathered) → hollows_by f byte ≡ true → HasTexts f g → IsTextTag g
 hollow_named (open_at st (naming ms m)) byte g h texts = hollows-named st (naming ms m) (nat_lt 1 (length ms) && (byte == 62)) g h texts
@@ -149,31 +163,44 @@ unfolding nest
 tag-hollow r x ms m i = refl
 
 hollow-in : (r : Rules) (st : State) (n : Nest) (x y : RawName) (ms : List RawName) (byte : ℕ) (b : Building)
-    → ((is_empty_mark st.stage && is_between_characters st) && (nat_lt 1 (length (x ∷ y ∷ ms)) && (byte == 62))) ≡ true → nest r n (token.TagEnds true) ≡ inside (x ∷ y ∷ ms)
+    → ((is_empty_mark st.stage && is_between_characters st) && (nat_lt 1 (length (x ∷ y ∷ ms)) && (byte == 62))) ≡ true
+    → nest r n (token.TagEnds true) ≡ inside (x ∷ y ∷ ms)
     → has_opened b.opened ≡ true → tag_judged b (token.TagEnds true) ≡ None
     → LeadsBy r (open_at st n) b (byte ∷ []) (open_at (stage_at (stage.Text Words)) (inside (x ∷ y ∷ ms))) (build b (token.TagEnds true))
 hollow-in r st n x y ms byte b h nests has judged =
     let p = and_parts (is_empty_mark st.stage && is_between_characters st) (nat_lt 1 (length (x ∷ y ∷ ms)) && (byte == 62)) h in
     let q = and_parts (is_empty_mark st.stage) (is_between_characters st) p.0 in
     let u = and_parts (nat_lt 1 (length (x ∷ y ∷ ms))) (byte == 62) p.1 in
-    subst (λ (i : ℕ). LeadsBy r (open_at st n) b (i ∷ []) (open_at (stage_at (stage.Text Words)) (inside (x ∷ y ∷ ms))) (build b (token.TagEnds true))) (sym (eqb-true byte 62 u.1))
-    (subst (λ (z : State). LeadsBy r (open_at z n) b (62 ∷ []) (open_at (stage_at (stage.Text Words)) (inside (x ∷ y ∷ ms))) (build b (token.TagEnds true))) (sym (state_at st stage.EmptyTagMark q.1 (empty-mark-is st.stage q.0)))
-    (told_led r (stage_at stage.EmptyTagMark) (stage_at (stage.Text Words)) n (inside (x ∷ y ∷ ms)) 62 (token.TagEnds true) b (build b (token.TagEnds true)) mark-ends nests refl refl refl judged
+    subst (λ (i : ℕ). LeadsBy r (open_at st n) b (i ∷ []) (open_at (stage_at (stage.Text Words)) (inside (x ∷ y ∷ ms))) (build b (token.TagEnds true)))
+    (sym (eqb-true byte 62 u.1))
+    (subst (λ (z : State). LeadsBy r (open_at z n) b (62 ∷ []) (open_at (stage_at (stage.Text Words)) (inside (x ∷ y ∷ ms))) (build b (token.TagEnds true)))
+    (sym (state_at st stage.EmptyTagMark q.1 (empty-mark-is st.stage q.0)))
+    (told_led r (stage_at stage.EmptyTagMark) (stage_at (stage.Text Words)) n (inside (x ∷ y ∷ ms)) 62 (token.TagEnds true) b (build b (token.TagEnds true))
+    mark-ends nests refl refl refl judged
     (ended-same _ b.words b.opened (record b { tag = nothing_gathered }) has)))
 
-hollow-at : (r : Rules) (f : Frame) (byte : ℕ) (b : Building) → hollows_by f byte ≡ true → has_opened b.opened ≡ true → tag_judged b (token.TagEnds true) ≡ None → LeadsBy r f b (byte ∷ []) (now_hollow f) (build b (token.TagEnds true))
-hollow-at r (open_at st (naming (x ∷ y ∷ ms) m)) byte b h has judged = hollow-in r st (naming (x ∷ y ∷ ms) m) x y ms byte b h (naming-hollow r x (y ∷ ms) m) has judged
-hollow-at r (open_at st (in_tag (x ∷ y ∷ ms) m i)) byte b h has judged = hollow-in r st (in_tag (x ∷ y ∷ ms) m i) x y ms byte b h (tag-hollow r x (y ∷ ms) m i) has judged
-hollow-at r (open_at st (naming [] m)) byte b h has judged = absurd (let bad : false ≡ true = sym (and_right (is_empty_mark st.stage && is_between_characters st) false refl) ∙ h in cc)
-hollow-at r (open_at st (naming (x ∷ []) m)) byte b h has judged = absurd (let bad : false ≡ true = sym (and_right (is_empty_mark st.stage && is_between_characters st) false refl) ∙ h in cc)
-hollow-at r (open_at st (in_tag [] m i)) byte b h has judged = absurd (let bad : false ≡ true = sym (and_right (is_empty_mark st.stage && is_between_characters st) false refl) ∙ h in cc)
-hollow-at r (open_at st (in_tag (x ∷ []) m i)) byte b h has judged = absurd (let bad : false ≡ true = sym (and_right (is_empty_mark st.stage && is_between_characters st) false refl) ∙ h in cc)
+hollow-at : (r : Rules) (f : Frame) (byte : ℕ) (b : Building) → hollows_by f byte ≡ true → has_opened b.opened ≡ true → tag_judged b (token.TagEnds true) ≡ None
+    → LeadsBy r f b (byte ∷ []) (now_hollow f) (build b (token.TagEnds true))
+hollow-at r (open_at st (naming (x ∷ y ∷ ms) m)) byte b h has judged =
+    hollow-in r st (naming (x ∷ y ∷ ms) m) x y ms byte b h (naming-hollow r x (y ∷ ms) m) has judged
+hollow-at r (open_at st (in_tag (x ∷ y ∷ ms) m i)) byte b h has judged =
+    hollow-in r st (in_tag (x ∷ y ∷ ms) m i) x y ms byte b h (tag-hollow r x (y ∷ ms) m i) has judged
+hollow-at r (open_at st (naming [] m)) byte b h has judged =
+    absurd (let bad : false ≡ true = sym (and_right (is_empty_mark st.stage && is_between_characters st) false refl) ∙ h in cc)
+hollow-at r (open_at st (naming (x ∷ []) m)) byte b h has judged =
+    absurd (let bad : false ≡ true = sym (and_right (is_empty_mark st.stage && is_between_characters st) false refl) ∙ h in cc)
+hollow-at r (open_at st (in_tag [] m i)) byte b h has judged =
+    absurd (let bad : false ≡ true = sym (and_right (is_empty_mark st.stage && is_between_characters st) false refl) ∙ h in cc)
+hollow-at r (open_at st (in_tag (x ∷ []) m i)) byte b h has judged =
+    absurd (let bad : false ≡ true = sym (and_right (is_empty_mark st.stage && is_between_characters st) false refl) ∙ h in cc)
 hollow-at r f byte b h has judged = absurd (let bad : false ≡ true = h in cc)
 
-pub hollow_led : (r : Rules) (f g : Frame) (byte : ℕ) (b c : Building) → hollows_by f byte ≡ true → has_opened b.opened ≡ true → tag_judged b (token.TagEnds true) ≡ None
+pub hollow_led : (r : Rules) (f g : Frame) (byte : ℕ) (b c : Building) → hollows_by f byte ≡ true → has_opened b.opened ≡ true
+    → tag_judged b (token.TagEnds true) ≡ None
     → g ≡ now_hollow f → c ≡ build b (token.TagEnds true) → LeadsBy r f b (byte ∷ []) g c
 hollow_led r f g byte b c h has judged is made =
-    subst (λ (x : Building). LeadsBy r f b (byte ∷ []) g x) (sym made) (subst (λ (x : Frame). LeadsBy r f b (byte ∷ []) x (build b (token.TagEnds true))) (sym is) (hollow-at r f byte b h has judged))
+    subst (λ (x : Building). LeadsBy r f b (byte ∷ []) g x) (sym made)
+    (subst (λ (x : Frame). LeadsBy r f b (byte ∷ []) x (build b (token.TagEnds true))) (sym is) (hollow-at r f byte b h has judged))
 
 -- An end tag.
 
@@ -190,21 +217,30 @@ closing-leaves : (r : Rules) (ms : List RawName) → nest r (closing ms []) toke
 unfolding nest
 closing-leaves r ms = refl
 
-left-at : (r : Rules) (f : Frame) (byte : ℕ) (b : Building) → leaves_by f byte ≡ true → has_parent b.opened ≡ true → LeadsBy r f b (byte ∷ []) (now_left f) (build b token.CloseEnds)
+left-at : (r : Rules) (f : Frame) (byte : ℕ) (b : Building) → leaves_by f byte ≡ true → has_parent b.opened ≡ true
+    → LeadsBy r f b (byte ∷ []) (now_left f) (build b token.CloseEnds)
 left-at r (open_at st (closing (x ∷ y ∷ ms) [])) byte b h has =
     let p = and_parts (is_end_stage st.stage && is_between_characters st) (nat_lt 1 (length (x ∷ y ∷ ms)) && (byte == 62)) h in
     let q = and_parts (is_end_stage st.stage) (is_between_characters st) p.0 in
     let u = and_parts (nat_lt 1 (length (x ∷ y ∷ ms))) (byte == 62) p.1 in
-    subst (λ (i : ℕ). LeadsBy r (open_at st (closing (x ∷ y ∷ ms) [])) b (i ∷ []) (open_at (stage_at (stage.Text Words)) (inside (x ∷ y ∷ ms))) (build b token.CloseEnds)) (sym (eqb-true byte 62 u.1))
-    (subst (λ (z : State). LeadsBy r (open_at z (closing (x ∷ y ∷ ms) [])) b (62 ∷ []) (open_at (stage_at (stage.Text Words)) (inside (x ∷ y ∷ ms))) (build b token.CloseEnds)) (sym (state_at st st.stage q.1 refl))
-    (told_led r (stage_at st.stage) (stage_at (stage.Text Words)) (closing (x ∷ y ∷ ms) []) (inside (x ∷ y ∷ ms)) 62 token.CloseEnds b (build b token.CloseEnds) (leaves-turn st.stage q.0) (closing-leaves r (x ∷ y ∷ ms)) refl refl refl refl
+    subst (λ (i : ℕ). LeadsBy r (open_at st (closing (x ∷ y ∷ ms) [])) b (i ∷ []) (open_at (stage_at (stage.Text Words)) (inside (x ∷ y ∷ ms)))
+    (build b token.CloseEnds)) (sym (eqb-true byte 62 u.1))
+    (subst (λ (z : State). LeadsBy r (open_at z (closing (x ∷ y ∷ ms) [])) b (62 ∷ []) (open_at (stage_at (stage.Text Words)) (inside (x ∷ y ∷ ms)))
+    (build b token.CloseEnds)) (sym (state_at st st.stage q.1 refl))
+    (told_led r (stage_at st.stage) (stage_at (stage.Text Words)) (closing (x ∷ y ∷ ms) []) (inside (x ∷ y ∷ ms)) 62 token.CloseEnds b (build b token.CloseEnds)
+    (leaves-turn st.stage q.0) (closing-leaves r (x ∷ y ∷ ms)) refl refl refl refl
     (closed-same b.opened (record b { tag = nothing_gathered }) has)))
-left-at r (open_at st (closing [] left)) byte b h has = absurd (let bad : false ≡ true = sym (and_right (is_end_stage st.stage && is_between_characters st) false refl) ∙ h in cc)
-left-at r (open_at st (closing (x ∷ []) left)) byte b h has = absurd (let bad : false ≡ true = sym (and_right (is_end_stage st.stage && is_between_characters st) false refl) ∙ h in cc)
+left-at r (open_at st (closing [] left)) byte b h has =
+    absurd (let bad : false ≡ true = sym (and_right (is_end_stage st.stage && is_between_characters st) false refl) ∙ h in cc)
+left-at r (open_at st (closing (x ∷ []) left)) byte b h has =
+    absurd (let bad : false ≡ true = sym (and_right (is_end_stage st.stage && is_between_characters st) false refl) ∙ h in cc)
 left-at r (open_at st (closing (x ∷ y ∷ ms) (c ∷ left))) byte b h has =
-    let p = and_parts (is_end_stage st.stage && is_between_characters st) (nat_lt 1 (length (x ∷ y ∷ ms)) && false) h in absurd (let bad : false ≡ true = (and_parts (nat_lt 1 (length (x ∷ y ∷ ms))) false p.1).1 in cc)
+    let p = and_parts (is_end_stage st.stage && is_between_characters st) (nat_lt 1 (length (x ∷ y ∷ ms)) && false) h in absurd
+    (let bad : false ≡ true = (and_parts (nat_lt 1 (length (x ∷ y ∷ ms))) false p.1).1 in cc)
 left-at r f byte b h has = absurd (let bad : false ≡ true = h in cc)
 
-pub left_led : (r : Rules) (f g : Frame) (byte : ℕ) (b c : Building) → leaves_by f byte ≡ true → has_parent b.opened ≡ true → g ≡ now_left f → c ≡ build b token.CloseEnds → LeadsBy r f b (byte ∷ []) g c
+pub left_led : (r : Rules) (f g : Frame) (byte : ℕ) (b c : Building) → leaves_by f byte ≡ true → has_parent b.opened ≡ true → g ≡ now_left f
+    → c ≡ build b token.CloseEnds → LeadsBy r f b (byte ∷ []) g c
 left_led r f g byte b c h has is made =
-    subst (λ (x : Building). LeadsBy r f b (byte ∷ []) g x) (sym made) (subst (λ (x : Frame). LeadsBy r f b (byte ∷ []) x (build b token.CloseEnds)) (sym is) (left-at r f byte b h has))
+    subst (λ (x : Building). LeadsBy r f b (byte ∷ []) g x) (sym made)
+    (subst (λ (x : Frame). LeadsBy r f b (byte ∷ []) x (build b token.CloseEnds)) (sym is) (left-at r f byte b h has))

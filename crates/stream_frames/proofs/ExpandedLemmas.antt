@@ -9,25 +9,32 @@ use Rattle.stream_frames.specs.Expanded.{expanded, has_unbound_name, is_among, h
 use Rattle.stream_grammar.specs.grammar.Resolving.{or_none}
 use Rattle.stream_frames.specs.Filled.{spaces_on}
 
-pub unbound_by_names : (bindings : List (List Binding)) (attributes : List Written) → has_unbound_name (map (expanded bindings) attributes) ≡ has_unbound bindings attributes
+pub unbound_by_names : (bindings : List (List Binding)) (attributes : List Written)
+    → has_unbound_name (map (expanded bindings) attributes) ≡ has_unbound bindings attributes
 unbound_by_names bindings [] = refl
 unbound_by_names bindings (a ∷ more) = ap (λ b. if is_unbound (attribute_space bindings a.name) then true else b) (unbound_by_names bindings more)
 
-pub twin_by_names : (bindings : List (List Binding)) (a : Written) (others : List Written) → is_among (expanded bindings a) (map (expanded bindings) others) ≡ has_twin bindings a others
+pub twin_by_names : (bindings : List (List Binding)) (a : Written) (others : List Written)
+    → is_among (expanded bindings a) (map (expanded bindings) others) ≡ has_twin bindings a others
 twin_by_names bindings a [] = refl
 twin_by_names bindings a (b ∷ more) = ap (λ c. if is_twin bindings a b then true else c) (twin_by_names bindings a more)
 
-pub twins_by_names : (bindings : List (List Binding)) (attributes : List Written) → has_repeat (map (expanded bindings) attributes) ≡ has_twins bindings attributes
+pub twins_by_names : (bindings : List (List Binding)) (attributes : List Written)
+    → has_repeat (map (expanded bindings) attributes) ≡ has_twins bindings attributes
 twins_by_names bindings [] = refl
 twins_by_names bindings (a ∷ more) =
     ap (λ c. if c then true else has_repeat (map (expanded bindings) more)) (twin_by_names bindings a more)
     ∙ ap (λ c. if has_twin bindings a more then true else c) (twins_by_names bindings more)
 
-pub fault_by_names : (bindings : List (List Binding)) (name : List ℕ) (attributes : List Written) → fault_of_names (space_of bindings (prefix_of name)) (map (expanded bindings) attributes) attributes ≡ tag_fault bindings name attributes
+pub fault_by_names : (bindings : List (List Binding)) (name : List ℕ) (attributes : List Written)
+    → fault_of_names (space_of bindings (prefix_of name)) (map (expanded bindings) attributes) attributes ≡ tag_fault bindings name attributes
 fault_by_names bindings name attributes =
     let space = space_of bindings (prefix_of name) in
-    ap (λ b. if is_unbound space || b then Some fault.BadPrefix else if is_bound_to space xml_space || (has_forbidden attributes || has_repeat (map (expanded bindings) attributes)) then Some fault.NotWellFormed else None) (unbound_by_names bindings attributes)
-    ∙ ap (λ b. if is_unbound space || has_unbound bindings attributes then Some fault.BadPrefix else if is_bound_to space xml_space || (has_forbidden attributes || b) then Some fault.NotWellFormed else None) (twins_by_names bindings attributes)
+    ap (λ b. if is_unbound space || b then Some fault.BadPrefix else if is_bound_to space xml_space
+    || (has_forbidden attributes || has_repeat (map (expanded bindings) attributes)) then Some fault.NotWellFormed else None)
+    (unbound_by_names bindings attributes)
+    ∙ ap (λ b. if is_unbound space || has_unbound bindings attributes then Some fault.BadPrefix else if is_bound_to space xml_space
+    || (has_forbidden attributes || b) then Some fault.NotWellFormed else None) (twins_by_names bindings attributes)
 
 pub spaces_by_names : (layers : List (List Binding)) (attributes : List Written) → spaces_of (map (expanded layers) attributes) ≡ spaces_on layers attributes
 spaces_by_names layers [] = refl

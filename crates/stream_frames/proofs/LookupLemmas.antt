@@ -11,11 +11,13 @@ abbrev pub found_or : Option (List ℕ) → Option (List ℕ) → Option (List �
 found_or None given = given
 found_or (Some space) given = Some space
 
-pub last_more : (given : Option (List ℕ)) (bs : List Binding) (b : Binding) (prefix : List ℕ) → last_space given (bs ++ b ∷ []) prefix ≡ (if bytes_eq b.prefix prefix then Some b.space else last_space given bs prefix)
+pub last_more : (given : Option (List ℕ)) (bs : List Binding) (b : Binding) (prefix : List ℕ)
+    → last_space given (bs ++ b ∷ []) prefix ≡ (if bytes_eq b.prefix prefix then Some b.space else last_space given bs prefix)
 last_more given [] b prefix = refl
 last_more given (c ∷ bs) b prefix = last_more (if bytes_eq c.prefix prefix then Some c.space else given) bs b prefix
 
-found_once : (x : Option (List ℕ)) (e : Bool) (space : List ℕ) (given : Option (List ℕ)) → found_or x (if e then Some space else given) ≡ found_or (found_or x (if e then Some space else None)) given
+found_once : (x : Option (List ℕ)) (e : Bool) (space : List ℕ) (given : Option (List ℕ))
+    → found_or x (if e then Some space else given) ≡ found_or (found_or x (if e then Some space else None)) given
 found_once None true space given = refl
 found_once None false space given = refl
 found_once (Some s) e space given = refl
@@ -39,12 +41,14 @@ last_at : (given : Option (List ℕ)) (bs : List Binding) (i : ℕ) (b : Binding
     → last_space given (take i bs) prefix ≡ (if bytes_eq b.prefix prefix then Some b.space else last_space given (take (i - 1) bs) prefix)
 last_at given bs i b prefix pos fits is = ap (λ l. last_space given l prefix) (take_last bs i b pos fits is) ∙ last_more given (take (i - 1) bs) b prefix
 
-pub last_here : (given : Option (List ℕ)) (bs : List Binding) (i : ℕ) (b : Binding) (prefix : List ℕ) → last_space given (take i bs) prefix ≡ last_space given bs prefix → 0 < i → i ≤ length bs → b ≡ get_or bs (i - 1) b
+pub last_here : (given : Option (List ℕ)) (bs : List Binding) (i : ℕ) (b : Binding) (prefix : List ℕ)
+    → last_space given (take i bs) prefix ≡ last_space given bs prefix → 0 < i → i ≤ length bs → b ≡ get_or bs (i - 1) b
     → bytes_eq b.prefix prefix ≡ true → Some b.space ≡ last_space given bs prefix
 last_here given bs i b prefix so_far pos fits is e =
     sym (last_at given bs i b prefix pos fits is ∙ ap (λ t. if t then Some b.space else last_space given (take (i - 1) bs) prefix) e) ∙ so_far
 
-pub last_before : (given : Option (List ℕ)) (bs : List Binding) (i : ℕ) (b : Binding) (prefix : List ℕ) → last_space given (take i bs) prefix ≡ last_space given bs prefix → 0 < i → i ≤ length bs → b ≡ get_or bs (i - 1) b
+pub last_before : (given : Option (List ℕ)) (bs : List Binding) (i : ℕ) (b : Binding) (prefix : List ℕ)
+    → last_space given (take i bs) prefix ≡ last_space given bs prefix → 0 < i → i ≤ length bs → b ≡ get_or bs (i - 1) b
     → bytes_eq b.prefix prefix ≡ false → last_space given (take (i - 1) bs) prefix ≡ last_space given bs prefix
 last_before given bs i b prefix so_far pos fits is e =
     sym (last_at given bs i b prefix pos fits is ∙ ap (λ t. if t then Some b.space else last_space given (take (i - 1) bs) prefix) e) ∙ so_far
@@ -56,12 +60,14 @@ layer_at given ls i l prefix pos fits is =
     ∙ layer_more given (take (i - 1) ls) l prefix
     ∙ last_known (last_layer given (take (i - 1) ls) prefix) l prefix
 
-pub layer_here : (given : Option (List ℕ)) (ls : List (List Binding)) (i : ℕ) (l : List Binding) (prefix space : List ℕ) → last_layer given (take i ls) prefix ≡ last_layer given ls prefix → 0 < i → i ≤ length ls → l ≡ get_or ls (i - 1) l
+pub layer_here : (given : Option (List ℕ)) (ls : List (List Binding)) (i : ℕ) (l : List Binding) (prefix space : List ℕ)
+    → last_layer given (take i ls) prefix ≡ last_layer given ls prefix → 0 < i → i ≤ length ls → l ≡ get_or ls (i - 1) l
     → last_space None l prefix ≡ Some space → Some space ≡ last_layer given ls prefix
 layer_here given ls i l prefix space so_far pos fits is e =
     sym (layer_at given ls i l prefix pos fits is ∙ ap (λ x. found_or x (last_layer given (take (i - 1) ls) prefix)) e) ∙ so_far
 
-pub layer_before : (given : Option (List ℕ)) (ls : List (List Binding)) (i : ℕ) (l : List Binding) (prefix : List ℕ) → last_layer given (take i ls) prefix ≡ last_layer given ls prefix → 0 < i → i ≤ length ls → l ≡ get_or ls (i - 1) l
+pub layer_before : (given : Option (List ℕ)) (ls : List (List Binding)) (i : ℕ) (l : List Binding) (prefix : List ℕ)
+    → last_layer given (take i ls) prefix ≡ last_layer given ls prefix → 0 < i → i ≤ length ls → l ≡ get_or ls (i - 1) l
     → last_space None l prefix ≡ None → last_layer given (take (i - 1) ls) prefix ≡ last_layer given ls prefix
 layer_before given ls i l prefix so_far pos fits is e =
     sym (layer_at given ls i l prefix pos fits is ∙ ap (λ x. found_or x (last_layer given (take (i - 1) ls) prefix)) e) ∙ so_far

@@ -37,7 +37,8 @@ root-moved st (token.TagOpens b) n = refl
 root-moved st t n = refl
 
 -- one name or more
-word-moved : (r : Rules) (m : RawName) (st : List RawName) (c : ℕ) (n : RawName) → moved (cond (stands r (m ∷ st) c) (move.To place.Inside) move.Lost) (m ∷ st) n ≡ cond (may_stand r st c) (inside (m ∷ st)) lost
+word-moved : (r : Rules) (m : RawName) (st : List RawName) (c : ℕ) (n : RawName)
+    → moved (cond (stands r (m ∷ st) c) (move.To place.Inside) move.Lost) (m ∷ st) n ≡ cond (may_stand r st c) (inside (m ∷ st)) lost
 word-moved r m [] c n = moved-cond (is_space c || r.loose) (move.To place.Inside) (inside (m ∷ [])) (m ∷ []) n refl
 word-moved r m (x ∷ st) c n = sym (cond-true (may_stand r (x ∷ st) c) (inside (m ∷ x ∷ st)) lost (or-true (is_space c)))
 
@@ -73,17 +74,20 @@ name-moved r (m ∷ st) k (token.TagEnds true) n = refl
 name-moved r st k (token.TagEnds false) n = refl
 name-moved r st k t n = refl
 
-next-head : (x : ℕ) (m : List ℕ) (y : ℕ) (s : List RawName) (r : Rules) (d : List ℕ) → d ≡ x ∷ m → cond (next_is d y) (closing s m) lost ≡ nest r (closing s d) (token.NameByte y)
+next-head : (x : ℕ) (m : List ℕ) (y : ℕ) (s : List RawName) (r : Rules) (d : List ℕ) → d ≡ x ∷ m
+    → cond (next_is d y) (closing s m) lost ≡ nest r (closing s d) (token.NameByte y)
 unfolding nest
 next-head x m y s r d e =
     ap (λ (l : List ℕ). cond (next_is l y) (closing s m) lost) e ∙ sym (ap (λ (l : List ℕ). nest r (closing s l) (token.NameByte y)) e)
 
-next-none : (m : List ℕ) (y : ℕ) (s : List RawName) (r : Rules) (d : List ℕ) → d ≡ [] → cond (next_is d y) (closing s m) lost ≡ nest r (closing s d) (token.NameByte y)
+next-none : (m : List ℕ) (y : ℕ) (s : List RawName) (r : Rules) (d : List ℕ) → d ≡ []
+    → cond (next_is d y) (closing s m) lost ≡ nest r (closing s d) (token.NameByte y)
 unfolding nest
 next-none m y s r d e =
     ap (λ (l : List ℕ). cond (next_is l y) (closing s m) lost) e ∙ sym (ap (λ (l : List ℕ). nest r (closing s l) (token.NameByte y)) e)
 
-closing-next : (l : List ℕ) (i y : ℕ) (s : List RawName) (r : Rules) → cond (next_is (drop i l) y) (closing s (drop (i + 1) l)) lost ≡ nest r (closing s (drop i l)) (token.NameByte y)
+closing-next : (l : List ℕ) (i y : ℕ) (s : List RawName) (r : Rules)
+    → cond (next_is (drop i l) y) (closing s (drop (i + 1) l)) lost ≡ nest r (closing s (drop i l)) (token.NameByte y)
 closing-next l i y s r = elim (cases_lt i (length l)) [
   | inl h ↦ next-head (get_or l i 0) (drop (i + 1) l) y s r (drop i l) (drop_more l i 0 h)
   | inr h ↦ next-none (drop (i + 1) l) y s r (drop i l) (drop_all i l h)
@@ -108,7 +112,8 @@ closing-other r s (x ∷ l) token.CloseEnds h = absurd (let bad : true ≡ false
 closing-other r s [] t h = refl
 closing-other r s (x ∷ l) t h = refl
 
-closing-moved : (r : Rules) (st : List RawName) (i : ℕ) (t : Token) (n : RawName) → moved (closing_move st i t) st n ≡ nest r (closing (outer st) (left_of st i)) t
+closing-moved : (r : Rules) (st : List RawName) (i : ℕ) (t : Token) (n : RawName)
+    → moved (closing_move st i t) st n ≡ nest r (closing (outer st) (left_of st i)) t
 unfolding is_closing_token
 closing-moved r [] i (token.NameByte y) n = next-none [] y [] r [] refl
 closing-moved r (m ∷ st) i (token.NameByte y) n =
@@ -193,12 +198,14 @@ lost-stays r (u ∷ us) = lost-stays r us
 word-nest : (r : Rules) (st : List RawName) (c : ℕ) → nest r (inside st) (token.Word c) ≡ cond (stands r st c) (inside st) lost
 word-nest r st c = sym (content-moved r st (token.Word c) (0, [])) ∙ moved-cond (stands r st c) (move.To place.Inside) (inside st) st (0, []) refl
 
-words-by : (r : Rules) (st : List RawName) (us : List Token) (n : RawName) (t : Bool) (n1 : Nest) → n1 ≡ cond t (inside st) lost → moved (words_move r st us) st n ≡ nest_all r (inside st) us
+words-by : (r : Rules) (st : List RawName) (us : List Token) (n : RawName) (t : Bool) (n1 : Nest) → n1 ≡ cond t (inside st) lost
+    → moved (words_move r st us) st n ≡ nest_all r (inside st) us
     → moved (cond t (words_move r st us) move.Lost) st n ≡ nest_all r n1 us
 words-by r st us n true n1 e h = h ∙ ap (λ (x : Nest). nest_all r x us) (sym e)
 words-by r st us n false n1 e h = sym (ap (λ (x : Nest). nest_all r x us) e ∙ lost-stays r us)
 
-words-moved : (r : Rules) (st : List RawName) (us : List Token) (n : RawName) → are_words us ≡ true → moved (words_move r st us) st n ≡ nest_all r (inside st) us
+words-moved : (r : Rules) (st : List RawName) (us : List Token) (n : RawName) → are_words us ≡ true
+    → moved (words_move r st us) st n ≡ nest_all r (inside st) us
 words-moved r st [] n h = refl
 words-moved r st (token.Word c ∷ us) n h = words-by r st us n (stands r st c) (nest r (inside st) (token.Word c)) (word-nest r st c) (words-moved r st us n h)
 words-moved r st (u ∷ us) n h = false-true h
@@ -208,7 +215,8 @@ is_inside place.Inside = true
 is_inside p = false
 
 -- words where none may stand
-words-lost : (r : Rules) (p : Place) (st : List RawName) (us : List Token) (n : RawName) (c : ℕ) → nest r (nest_at p st n) (token.Word c) ≡ lost → lost ≡ nest_all r (nest_at p st n) (token.Word c ∷ us)
+words-lost : (r : Rules) (p : Place) (st : List RawName) (us : List Token) (n : RawName) (c : ℕ) → nest r (nest_at p st n) (token.Word c) ≡ lost
+    → lost ≡ nest_all r (nest_at p st n) (token.Word c ∷ us)
 words-lost r p st us n c e = sym (ap (λ (x : Nest). nest_all r x us) e ∙ lost-stays r us)
 
 no-word : (r : Rules) (p : Place) (st : List RawName) (n : RawName) (c : ℕ) → is_inside p ≡ false → nest r (nest_at p st n) (token.Word c) ≡ lost
@@ -218,7 +226,8 @@ no-word r (place.Closing i) st n c h = closing-other r (outer st) (left_of st i)
 no-word r place.Start st n c h = refl
 no-word r p st n c h = refl
 
-many-moved : (r : Rules) (p : Place) (st : List RawName) (us : List Token) (n : RawName) (c : ℕ) → are_words us ≡ true → moved (many_move r p st (token.Word c ∷ us)) st n ≡ nest_all r (nest_at p st n) (token.Word c ∷ us)
+many-moved : (r : Rules) (p : Place) (st : List RawName) (us : List Token) (n : RawName) (c : ℕ) → are_words us ≡ true
+    → moved (many_move r p st (token.Word c ∷ us)) st n ≡ nest_all r (nest_at p st n) (token.Word c ∷ us)
 unfolding is_inside
 many-moved r place.Inside st us n c h = words-moved r st (token.Word c ∷ us) n h
 many-moved r place.Start st us n c h = words-lost r place.Start st us n c (no-word r place.Start st n c refl)
@@ -229,7 +238,8 @@ many-moved r (place.NamingAttribute k) st us n c h = words-lost r (place.NamingA
 many-moved r (place.InValue k) st us n c h = words-lost r (place.InValue k) st us n c (no-word r (place.InValue k) st n c refl)
 many-moved r (place.Closing i) st us n c h = words-lost r (place.Closing i) st us n c (no-word r (place.Closing i) st n c refl)
 
-pub tokens-moved : (r : Rules) (p : Place) (st : List RawName) (us : List Token) (n : RawName) → is_few us ≡ true → moved (tokens_move r p st us) st n ≡ nest_all r (nest_at p st n) us
+pub tokens-moved : (r : Rules) (p : Place) (st : List RawName) (us : List Token) (n : RawName) → is_few us ≡ true
+    → moved (tokens_move r p st us) st n ≡ nest_all r (nest_at p st n) us
 tokens-moved r p st [] n h = refl
 tokens-moved r p st (t ∷ []) n h = place-moved r p st t n
 tokens-moved r p st (token.Word c ∷ u ∷ us) n h = many-moved r p st (u ∷ us) n c h
@@ -262,9 +272,11 @@ enters-breaks : (r : Rules) (s : State) (st : List RawName) (n : RawName) → (i
 enters-breaks r s [] n = cond-broken s (inside (n ∷ [])) (comes_to_space s || r.loose) (gap_breaks r s) refl
 enters-breaks r s (m ∷ st) n = refl
 
-closing-breaks : (r : Rules) (s : State) (st : List RawName) (l : List ℕ) → (not (is_all l) && is_after_end_name s.stage) ≡ is_broken (placed r s (closing st l))
+closing-breaks : (r : Rules) (s : State) (st : List RawName) (l : List ℕ)
+    → (not (is_all l) && is_after_end_name s.stage) ≡ is_broken (placed r s (closing st l))
 closing-breaks r s st [] = refl
-closing-breaks r s st (x ∷ l) = cond-broken s (closing st (x ∷ l)) (not (is_after_end_name s.stage)) (is_after_end_name s.stage) (not-not (is_after_end_name s.stage))
+closing-breaks r s st (x ∷ l) = cond-broken s (closing st (x ∷ l)) (not (is_after_end_name s.stage)) (is_after_end_name s.stage)
+    (not-not (is_after_end_name s.stage))
 
 place-breaks : (r : Rules) (s : State) (p : Place) (st : List RawName) (n : RawName) → place_breaks r s p st ≡ is_broken (placed r s (nest_at p st n))
 place-breaks r s place.Start st n = refl

@@ -53,13 +53,15 @@ end-quiet l h x ms m b c e = record {
   same = refl;
 }
 
-end-run : (xs : List ℕ) (h : Half) (x : RawName) (ms : List RawName) (m : List ℕ) (b : Building) → are_plain is_name_byte xs ≡ true → Leads (end_in h x ms (xs ++ m)) b xs (end_in h x ms m) (named b (b.tag.name ++ xs))
+end-run : (xs : List ℕ) (h : Half) (x : RawName) (ms : List RawName) (m : List ℕ) (b : Building) → are_plain is_name_byte xs ≡ true
+    → Leads (end_in h x ms (xs ++ m)) b xs (end_in h x ms m) (named b (b.tag.name ++ xs))
 end-run [] h x ms m b plain = no_bytes_led (end_in h x ms m) b (named b (b.tag.name ++ [])) (ap (named b) (append-nil b.tag.name))
 end-run (c ∷ xs) h x ms m b plain =
     let p = and_parts (is_name_byte c) (are_plain is_name_byte xs) plain in
     let b1 : Building = named b (b.tag.name ++ c ∷ []) in
     subst (λ (w : List ℕ). Leads (end_in h x ms (c ∷ (xs ++ m))) b (c ∷ xs) (end_in h x ms m) (named b w)) (append_assoc b.tag.name (c ∷ []) xs)
-    (more_led (end_in h x ms (c ∷ (xs ++ m))) (end_in h x ms (xs ++ m)) (end_in h x ms m) b b1 (named b ((b.tag.name ++ c ∷ []) ++ xs)) c (token.NameByte c ∷ []) xs (λ l. end-quiet l h x ms (xs ++ m) b c p.0) (end-run xs h x ms m b1 p.1))
+    (more_led (end_in h x ms (c ∷ (xs ++ m))) (end_in h x ms (xs ++ m)) (end_in h x ms m) b b1 (named b ((b.tag.name ++ c ∷ []) ++ xs)) c
+    (token.NameByte c ∷ []) xs (λ l. end-quiet l h x ms (xs ++ m) b c p.0) (end-run xs h x ms m b1 p.1))
 
 end-state : (st : State) → (is_end_stage st.stage && is_between_characters st) ≡ true → (h : Half) × (st ≡ name_at EndTag h)
 end-state st e =
@@ -72,14 +74,16 @@ end-state st e =
     end-stage s e = absurd (let bad : false ≡ true = e in cc)
 
 end-led : (f g : Frame) (b c : Building) (xs : List ℕ)
-    → is_in_end_name f ≡ true → are_plain is_name_byte xs ≡ true → closing_left f ≡ xs ++ closing_left g → g ≡ closing_on f (closing_left g) → c ≡ named b (b.tag.name ++ xs) → Leads f b xs g c
+    → is_in_end_name f ≡ true → are_plain is_name_byte xs ≡ true → closing_left f ≡ xs ++ closing_left g → g ≡ closing_on f (closing_left g)
+    → c ≡ named b (b.tag.name ++ xs) → Leads f b xs g c
 end-led (open_at st (closing (x ∷ ms) left)) g b c xs e plain is to made =
     let (h, same) = end-state st e in
     let m : List ℕ = closing_left g in
     subst (λ (y : Building). Leads (open_at st (closing (x ∷ ms) left)) b xs g y) (sym made)
     (subst (λ (y : Frame). Leads (open_at st (closing (x ∷ ms) left)) b xs y (named b (b.tag.name ++ xs))) (sym to)
     (subst (λ (w : List ℕ). Leads (open_at st (closing (x ∷ ms) w)) b xs (open_at st (closing (x ∷ ms) m)) (named b (b.tag.name ++ xs))) (sym is)
-    (subst (λ (s : State). Leads (open_at s (closing (x ∷ ms) (xs ++ m))) b xs (open_at s (closing (x ∷ ms) m)) (named b (b.tag.name ++ xs))) (sym same) (end-run xs h x ms m b plain))))
+    (subst (λ (s : State). Leads (open_at s (closing (x ∷ ms) (xs ++ m))) b xs (open_at s (closing (x ∷ ms) m)) (named b (b.tag.name ++ xs))) (sym same)
+    (end-run xs h x ms m b plain))))
 end-led f g b c xs e plain is to made = absurd (let bad : false ≡ true = e in cc)
 
 plain-take : (ok : ℕ → Bool) (i : ℕ) (xs : List ℕ) → are_plain ok xs ≡ true → are_plain ok (take i xs) ≡ true
@@ -90,10 +94,12 @@ plain-take ok (suc i) (x ∷ xs) h = let p = and_parts (ok x) (are_plain ok xs) 
 -- so many bytes of those that may go on with a name are its next
 pub end_led : (f g : Frame) (b c : Building) (m v : ℕ) (bytes : List ℕ)
     → is_in_end_name f ≡ true → are_plain is_name_byte (take v bytes) ≡ true → v ≤ length bytes → m ≤ length (take v bytes)
-    → closing_left f ≡ take m (take v bytes) ++ closing_left g → g ≡ closing_on f (closing_left g) → c ≡ record b { tag = record b.tag { name = b.tag.name ++ take m (take v bytes) } } → Leads f b (take m bytes) g c
+    → closing_left f ≡ take m (take v bytes) ++ closing_left g → g ≡ closing_on f (closing_left g)
+    → c ≡ record b { tag = record b.tag { name = b.tag.name ++ take m (take v bytes) } } → Leads f b (take m bytes) g c
 end_led f g b c m v bytes e plain most fits is to made =
     let of_v : length (take v bytes) ≡ v = length-take-le v bytes most in
-    subst (λ (xs : List ℕ). Leads f b xs g c) (take-take m v bytes (omega (arith, of_v, fits))) (end-led f g b c (take m (take v bytes)) e (plain-take is_name_byte m (take v bytes) plain) is to made)
+    subst (λ (xs : List ℕ). Leads f b xs g c) (take-take m v bytes (omega (arith, of_v, fits)))
+    (end-led f g b c (take m (take v bytes)) e (plain-take is_name_byte m (take v bytes) plain) is to made)
 
 -- The bytes of an end tag's name are compared with those of the name that is open.
 
@@ -112,7 +118,8 @@ some-next : (t : Bool) (i j : ℕ) → cond t (Some i) None ≡ Some j → (t �
 some-next true i j e = (refl, let e1 : Some i ≡ Some j = e in cc)
 some-next false i j e = absurd (let bad : None ≡ Some j = e in cc)
 
-pub goes_on_more : (st : List RawName) (bs : List ℕ) (from next i d after : ℕ) → i < length bs → left_of st from ≡ take i bs ++ left_of st next → cond (next_is (left_of st next) (get_or bs i d)) (Some (next + 1)) None ≡ Some after → left_of st from ≡ take (i + 1) bs ++ left_of st after
+pub goes_on_more : (st : List RawName) (bs : List ℕ) (from next i d after : ℕ) → i < length bs → left_of st from ≡ take i bs ++ left_of st next
+    → cond (next_is (left_of st next) (get_or bs i d)) (Some (next + 1)) None ≡ Some after → left_of st from ≡ take (i + 1) bs ++ left_of st after
 goes_on_more st bs from next i d after h is e =
     let p = some-next (next_is (left_of st next) (get_or bs i d)) (next + 1) after e in
     is ∙ (ap (λ (l : List ℕ). take i bs ++ l) (next-left st next (get_or bs i d) p.0)

@@ -64,14 +64,18 @@ name-of b h =
 abbrev pub name_at : NameOwner → Half → State
 name_at owner h = at (stage.Name owner h) pending.Nothing false
 
-ascii-name : (owner : NameOwner) (h : Half) (b : ℕ) → is_name_byte b ≡ true → ascii (stage.Name owner h) (ascii_kind b) b ≡ tells_and_goes (next_name_token owner b ∷ []) (stage.Name owner h)
+ascii-name : (owner : NameOwner) (h : Half) (b : ℕ) → is_name_byte b ≡ true
+    → ascii (stage.Name owner h) (ascii_kind b) b ≡ tells_and_goes (next_name_token owner b ∷ []) (stage.Name owner h)
 unfolding ascii in_name
-ascii-name owner h b e = ap (λ (t : Bool). cond t (tells_and_goes (next_name_token owner b ∷ []) (stage.Name owner h)) (after_part owner h (ascii_kind b) b)) (name-of b e).0
+ascii-name owner h b e = ap (λ (t : Bool). cond t (tells_and_goes (next_name_token owner b ∷ []) (stage.Name owner h)) (after_part owner h (ascii_kind b) b))
+    (name-of b e).0
 
-pub turn-name : (owner : NameOwner) (h : Half) (b : ℕ) → is_name_byte b ≡ true → turn (name_at owner h) b ≡ leads (name_at owner h) (next_name_token owner b ∷ [])
+pub turn-name : (owner : NameOwner) (h : Half) (b : ℕ) → is_name_byte b ≡ true
+    → turn (name_at owner h) b ≡ leads (name_at owner h) (next_name_token owner b ∷ [])
 turn-name owner h b e = turned (stage.Name owner h) b (next_name_token owner b ∷ []) (name-of b e).1 (name-of b e).2 (ascii-name owner h b e)
 
-pub name_more : (bs : List ℕ) (i d : ℕ) → i < length bs → are_plain is_name_byte (take i bs) ≡ true → is_name_byte (get_or bs i d) ≡ true → are_plain is_name_byte (take (i + 1) bs) ≡ true
+pub name_more : (bs : List ℕ) (i d : ℕ) → i < length bs → are_plain is_name_byte (take i bs) ≡ true → is_name_byte (get_or bs i d) ≡ true
+    → are_plain is_name_byte (take (i + 1) bs) ≡ true
 name_more bs i d h e p = ap (are_plain is_name_byte) (take_more bs i d h) ∙ plain-append is_name_byte (take i bs) (get_or bs i d) e p
 
 -- Of an attribute.
@@ -89,7 +93,8 @@ attributed b attribute = record b { tag = record b.tag { attribute = attribute }
 attribute-quiet : (l : Limits) (h : Half) (ms : List RawName) (m : RawName) (i : ℕ) (b : Building) (c : ℕ)
     → is_name_byte c ≡ true → Quiet l (attribute_in h ms m i) b c (token.AttrByte c ∷ []) (attribute_in h ms m i) (attributed b (b.tag.attribute ++ c ∷ []))
 attribute-quiet l h ms m i b c e = record {
-  framed = ap (framed (rules_of l) (naming_attribute ms m i)) (turn-name Attribute h c e) ∙ ap (placed (rules_of l) (name_at Attribute h)) (attribute-nest (rules_of l) ms m i c);
+  framed = ap (framed (rules_of l) (naming_attribute ms m i)) (turn-name Attribute h c e)
+      ∙ ap (placed (rules_of l) (name_at Attribute h)) (attribute-nest (rules_of l) ms m i c);
   told = ap tokens_told (turn-name Attribute h c e);
   built = refl;
   named = refl;
@@ -101,13 +106,15 @@ attribute-quiet l h ms m i b c e = record {
 
 attribute-run : (xs : List ℕ) (h : Half) (ms : List RawName) (m : RawName) (i : ℕ) (b : Building)
     → are_plain is_name_byte xs ≡ true → Leads (attribute_in h ms m i) b xs (attribute_in h ms m i) (attributed b (b.tag.attribute ++ xs))
-attribute-run [] h ms m i b plain = no_bytes_led (attribute_in h ms m i) b (attributed b (b.tag.attribute ++ [])) (ap (attributed b) (append-nil b.tag.attribute))
+attribute-run [] h ms m i b plain =
+    no_bytes_led (attribute_in h ms m i) b (attributed b (b.tag.attribute ++ [])) (ap (attributed b) (append-nil b.tag.attribute))
 attribute-run (c ∷ xs) h ms m i b plain =
     let p = and_parts (is_name_byte c) (are_plain is_name_byte xs) plain in
     let f : Frame = attribute_in h ms m i in
     let b1 : Building = attributed b (b.tag.attribute ++ c ∷ []) in
     subst (λ (w : List ℕ). Leads f b (c ∷ xs) f (attributed b w)) (append_assoc b.tag.attribute (c ∷ []) xs)
-    (more_led f f f b b1 (attributed b ((b.tag.attribute ++ c ∷ []) ++ xs)) c (token.AttrByte c ∷ []) xs (λ l. attribute-quiet l h ms m i b c p.0) (attribute-run xs h ms m i b1 p.1))
+    (more_led f f f b b1 (attributed b ((b.tag.attribute ++ c ∷ []) ++ xs)) c (token.AttrByte c ∷ []) xs (λ l. attribute-quiet l h ms m i b c p.0)
+    (attribute-run xs h ms m i b1 p.1))
 
 attribute-state : (st : State) → (is_attribute_stage st.stage && is_between_characters st) ≡ true → (h : Half) × (st ≡ name_at Attribute h)
 attribute-state st e =
@@ -120,11 +127,13 @@ attribute-state st e =
     attribute-stage s e = absurd (let bad : false ≡ true = e in cc)
 
 pub attribute_led : (f : Frame) (b c : Building) (xs : List ℕ)
-    → is_in_attribute_name f ≡ true → are_plain is_name_byte xs ≡ true → c ≡ record b { tag = record b.tag { attribute = b.tag.attribute ++ xs } } → Leads f b xs f c
+    → is_in_attribute_name f ≡ true → are_plain is_name_byte xs ≡ true → c ≡ record b { tag = record b.tag { attribute = b.tag.attribute ++ xs } }
+    → Leads f b xs f c
 attribute_led (open_at st (naming_attribute ms m i)) b c xs e plain made =
     let (h, same) = attribute-state st e in
     subst (λ (y : Building). Leads (open_at st (naming_attribute ms m i)) b xs (open_at st (naming_attribute ms m i)) y) (sym made)
-    (subst (λ (s : State). Leads (open_at s (naming_attribute ms m i)) b xs (open_at s (naming_attribute ms m i)) (attributed b (b.tag.attribute ++ xs))) (sym same) (attribute-run xs h ms m i b plain))
+    (subst (λ (s : State). Leads (open_at s (naming_attribute ms m i)) b xs (open_at s (naming_attribute ms m i)) (attributed b (b.tag.attribute ++ xs)))
+    (sym same) (attribute-run xs h ms m i b plain))
 attribute_led f b c xs e plain made = absurd (let bad : false ≡ true = e in cc)
 
 -- Of a start tag: what has come of the name stands in the place too.
@@ -157,7 +166,8 @@ start-quiet l h ms m b c e = record {
   same = refl;
 }
 
-start-run : (xs : List ℕ) (h : Half) (ms : List RawName) (m : RawName) (b : Building) → are_plain is_name_byte xs ≡ true → Leads (start_in h ms m) b xs (start_in h ms (m.0, m.1 ++ xs)) (named b (b.tag.name ++ xs))
+start-run : (xs : List ℕ) (h : Half) (ms : List RawName) (m : RawName) (b : Building) → are_plain is_name_byte xs ≡ true
+    → Leads (start_in h ms m) b xs (start_in h ms (m.0, m.1 ++ xs)) (named b (b.tag.name ++ xs))
 start-run [] h ms m b plain =
     subst (λ (w : List ℕ). Leads (start_in h ms m) b [] (start_in h ms (m.0, w)) (named b (b.tag.name ++ []))) (sym (append-nil m.1))
     (no_bytes_led (start_in h ms m) b (named b (b.tag.name ++ [])) (ap (named b) (append-nil b.tag.name)))
@@ -167,7 +177,8 @@ start-run (c ∷ xs) h ms m b plain =
     let b1 : Building = named b (b.tag.name ++ c ∷ []) in
     subst (λ (w : List ℕ). Leads (start_in h ms m) b (c ∷ xs) (start_in h ms (m.0, m.1 ++ (c ∷ xs))) (named b w)) (append_assoc b.tag.name (c ∷ []) xs)
     (subst (λ (w : List ℕ). Leads (start_in h ms m) b (c ∷ xs) (start_in h ms (m.0, w)) (named b ((b.tag.name ++ c ∷ []) ++ xs))) (append_assoc m.1 (c ∷ []) xs)
-    (more_led (start_in h ms m) (start_in h ms m1) (start_in h ms (m.0, (m.1 ++ c ∷ []) ++ xs)) b b1 (named b ((b.tag.name ++ c ∷ []) ++ xs)) c (token.NameByte c ∷ []) xs (λ l. start-quiet l h ms m b c p.0) (start-run xs h ms m1 b1 p.1)))
+    (more_led (start_in h ms m) (start_in h ms m1) (start_in h ms (m.0, (m.1 ++ c ∷ []) ++ xs)) b b1 (named b ((b.tag.name ++ c ∷ []) ++ xs)) c
+    (token.NameByte c ∷ []) xs (λ l. start-quiet l h ms m b c p.0) (start-run xs h ms m1 b1 p.1)))
 
 start-state : (st : State) → (is_start_stage st.stage && is_between_characters st) ≡ true → (h : Half) × (st ≡ name_at StartTag h)
 start-state st e =
@@ -180,10 +191,12 @@ start-state st e =
     start-stage s e = absurd (let bad : false ≡ true = e in cc)
 
 pub start_led : (f g : Frame) (b c : Building) (xs : List ℕ)
-    → is_in_start_name f ≡ true → are_plain is_name_byte xs ≡ true → g ≡ named_on f xs → c ≡ record b { tag = record b.tag { name = b.tag.name ++ xs } } → Leads f b xs g c
+    → is_in_start_name f ≡ true → are_plain is_name_byte xs ≡ true → g ≡ named_on f xs → c ≡ record b { tag = record b.tag { name = b.tag.name ++ xs } }
+    → Leads f b xs g c
 start_led (open_at st (naming ms m)) g b c xs e plain placed_on made =
     let (h, same) = start-state st e in
     subst (λ (y : Building). Leads (open_at st (naming ms m)) b xs g y) (sym made)
     (subst (λ (y : Frame). Leads (open_at st (naming ms m)) b xs y (named b (b.tag.name ++ xs))) (sym placed_on)
-    (subst (λ (s : State). Leads (open_at s (naming ms m)) b xs (open_at s (naming ms (m.0, m.1 ++ xs))) (named b (b.tag.name ++ xs))) (sym same) (start-run xs h ms m b plain)))
+    (subst (λ (s : State). Leads (open_at s (naming ms m)) b xs (open_at s (naming ms (m.0, m.1 ++ xs))) (named b (b.tag.name ++ xs))) (sym same)
+    (start-run xs h ms m b plain)))
 start_led f g b c xs e plain placed_on made = absurd (let bad : false ≡ true = e in cc)

@@ -73,14 +73,16 @@ value-of q b h = implied (is_plain_value q b) (is_value_kind q (ascii_kind b) b)
 abbrev pub value_at : Quote → State
 value_at q = at (stage.Text (Value q)) pending.Nothing false
 
-ascii-value : (q : Quote) (b : ℕ) → is_plain_value q b ≡ true → ascii (stage.Text (Value q)) (ascii_kind b) b ≡ tells_and_goes (token.Value b ∷ []) (stage.Text (Value q))
+ascii-value : (q : Quote) (b : ℕ) → is_plain_value q b ≡ true
+    → ascii (stage.Text (Value q)) (ascii_kind b) b ≡ tells_and_goes (token.Value b ∷ []) (stage.Text (Value q))
 unfolding ascii
 ascii-value q b h = value-kind q (ascii_kind b) b (value-of q b h).0
 
 turn-value : (q : Quote) (b : ℕ) → is_plain_value q b ≡ true → turn (value_at q) b ≡ leads (value_at q) (token.Value b ∷ [])
 turn-value q b h = turned (stage.Text (Value q)) b (token.Value b ∷ []) (value-low q b h) (value-of q b h).1 (ascii-value q b h)
 
-pub value_more : (q : Quote) (bs : List ℕ) (i d : ℕ) → i < length bs → are_plain (is_plain_value q) (take i bs) ≡ true → is_plain_value q (get_or bs i d) ≡ true → are_plain (is_plain_value q) (take (i + 1) bs) ≡ true
+pub value_more : (q : Quote) (bs : List ℕ) (i d : ℕ) → i < length bs → are_plain (is_plain_value q) (take i bs) ≡ true → is_plain_value q (get_or bs i d) ≡ true
+    → are_plain (is_plain_value q) (take (i + 1) bs) ≡ true
 value_more q bs i d h e p = ap (are_plain (is_plain_value q)) (take_more bs i d h) ∙ plain-append (is_plain_value q) (take i bs) (get_or bs i d) e p
 
 -- In a tag.

@@ -70,7 +70,8 @@ ascii-word b h = word-kind (ascii_kind b) b (word-of b h).0
 turn-word : (b : ℕ) → is_plain_word b ≡ true → turn words_at b ≡ leads words_at (token.Word b ∷ [])
 turn-word b h = turned (stage.Text Words) b (token.Word b ∷ []) (word-low b h) (word-of b h).1 (ascii-word b h)
 
-pub word_more : (bs : List ℕ) (i d : ℕ) → i < length bs → are_plain is_plain_word (take i bs) ≡ true → is_plain_word (get_or bs i d) ≡ true → are_plain is_plain_word (take (i + 1) bs) ≡ true
+pub word_more : (bs : List ℕ) (i d : ℕ) → i < length bs → are_plain is_plain_word (take i bs) ≡ true → is_plain_word (get_or bs i d) ≡ true
+    → are_plain is_plain_word (take (i + 1) bs) ≡ true
 word_more bs i d h e p = ap (are_plain is_plain_word) (take_more bs i d h) ∙ plain-append is_plain_word (take i bs) (get_or bs i d) e p
 
 -- In an element of the stream's.
@@ -143,7 +144,8 @@ words-opened m x ms b (o ∷ os) xs e h spelt =
 
 words-state : (st : State) → (is_words_stage st.stage && is_between_characters st) ≡ true → st ≡ words_at
 words-state st h =
-    let p = and_parts (is_words_stage st.stage) (is_between_characters st) h in between-state st p.1 ∙ ap (λ (s : Stage). at s pending.Nothing false) (words-stage st.stage p.0)
+    let p = and_parts (is_words_stage st.stage) (is_between_characters st) h in between-state st p.1
+    ∙ ap (λ (s : Stage). at s pending.Nothing false) (words-stage st.stage p.0)
   where
     words-stage : (s : Stage) → is_words_stage s ≡ true → s ≡ stage.Text Words
     words-stage (stage.Text Words) h = refl

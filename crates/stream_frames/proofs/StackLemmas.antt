@@ -23,7 +23,8 @@ no-snoc : (ns : List OpenName) (n : OpenName) → ns ++ n ∷ [] ≡ [] → ⊥
 no-snoc [] n e = cc
 no-snoc (m ∷ ns) n e = cc
 
-pub popped-one : (o : Option OpenName) (before after : List OpenName) (n : OpenName) → AreStacked o before → before ≡ after ++ n ∷ [] → raw n ∷ stacked_on [] after ≡ outer (stacked o before)
+pub popped-one : (o : Option OpenName) (before after : List OpenName) (n : OpenName) → AreStacked o before → before ≡ after ++ n ∷ []
+    → raw n ∷ stacked_on [] after ≡ outer (stacked o before)
 popped-one None before after n k e = absurd (no-snoc after n (sym e ∙ k))
 popped-one (Some m) before after n k e = sym (ap (stacked_on []) e ∙ stacked-snoc [] after n)
 
@@ -46,14 +47,16 @@ whole_at m i = elim (cases_lt i (length m)) [
   | inr h ↦ is-le (length m) i h ∙ sym (ap is_all (drop_all i m h))
 ]
 
-pub pushed-some : (m n : OpenName) (before after : List OpenName) → after ≡ before ++ m ∷ [] → raw n ∷ stacked_on [] after ≡ raw n ∷ (raw m ∷ stacked_on [] before)
+pub pushed-some : (m n : OpenName) (before after : List OpenName) → after ≡ before ++ m ∷ []
+    → raw n ∷ stacked_on [] after ≡ raw n ∷ (raw m ∷ stacked_on [] before)
 pushed-some m n before after e = ap (λ (l : List RawName). raw n ∷ l) (ap (stacked_on []) e ∙ stacked-snoc [] before m)
 
 nothing-long : (ns : List OpenName) → 0 ≡ length ns → ns ≡ []
 nothing-long [] e = refl
 nothing-long (n ∷ ns) e = absurd (let f : 0 ≡ length (n ∷ ns) = e in omega arith)
 
-pub popped : (p o : Option OpenName) (before after : List OpenName) (n : ℕ) (A : Type 0) (B : OpenName → Type 0) → AreStacked o before → n ≡ length before → before ≡ after ++ option_to_list p → MatchOption p ((n ≡ 0) × A) B
+pub popped : (p o : Option OpenName) (before after : List OpenName) (n : ℕ) (A : Type 0) (B : OpenName → Type 0) → AreStacked o before → n ≡ length before
+    → before ≡ after ++ option_to_list p → MatchOption p ((n ≡ 0) × A) B
     → stacked p after ≡ outer (stacked o before)
 popped None o before after n A B k e f m = popped-none o before (nothing-long before (sym m.0 ∙ e))
 popped (Some x) o before after n A B k e f m = popped-one o before after x k f

@@ -19,9 +19,11 @@ after-colon (b ∷ name) h = by (b == 58) refl (after-colon name)
     shorter : (b == 58) ≡ false → colon_at name < length name
     shorter f = let c : colon_at (b ∷ name) ≡ 1 + colon_at name = ap (λ (t : Bool). if t then 0 else 1 + colon_at name) f in omega (arith, c, h)
 
-    by : (t : Bool) → (b == 58) ≡ t → (colon_at name < length name → get_or name (colon_at name) 0 ≡ 58) → get_or (b ∷ name) (if b == 58 then 0 else 1 + colon_at name) 0 ≡ 58
+    by : (t : Bool) → (b == 58) ≡ t → (colon_at name < length name → get_or name (colon_at name) 0 ≡ 58)
+        → get_or (b ∷ name) (if b == 58 then 0 else 1 + colon_at name) 0 ≡ 58
     by true e more = ap (λ (t : Bool). get_or (b ∷ name) (if t then 0 else 1 + colon_at name) 0) e ∙ eqb-true b 58 e
-    by false e more = ap (λ (t : Bool). get_or (b ∷ name) (if t then 0 else 1 + colon_at name) 0) e ∙ (ap (λ (i : ℕ). get_or (b ∷ name) i 0) (one-more (colon_at name)) ∙ more (shorter e))
+    by false e more = ap (λ (t : Bool). get_or (b ∷ name) (if t then 0 else 1 + colon_at name) 0) e
+        ∙ (ap (λ (i : ℕ). get_or (b ∷ name) i 0) (one-more (colon_at name)) ∙ more (shorter e))
 
 -- the local part of a name that is UTF-8
 pub local_utf8 : (name : List ℕ) → IsUtf8 name → IsUtf8 (local_of name)
@@ -35,7 +37,8 @@ local_utf8 name h = by (has_prefix name) refl
         (IsUtf8-drop name (colon_at name + 1) h (IsCharBoundary-after_ascii name (colon_at name) h within low))
     by false e = subst (λ (t : Bool). IsUtf8 (if t then drop (colon_at name + 1) name else name)) (sym e) h
 
-pub layer_more : (given : Option (List ℕ)) (ls : List (List Binding)) (l : List Binding) (prefix : List ℕ) → last_layer given (ls ++ l ∷ []) prefix ≡ last_space (last_layer given ls prefix) l prefix
+pub layer_more : (given : Option (List ℕ)) (ls : List (List Binding)) (l : List Binding) (prefix : List ℕ)
+    → last_layer given (ls ++ l ∷ []) prefix ≡ last_space (last_layer given ls prefix) l prefix
 layer_more given [] l prefix = refl
 layer_more given (k ∷ ls) l prefix = layer_more (last_space given k prefix) ls l prefix
 

@@ -36,17 +36,23 @@ root-more : (r q : Rules) (st : List RawName) → Allows r q → cond (is_root s
 root-more r q [] a e = a.loose e
 root-more r q (m ∷ st) a e = refl
 
-name-kept : (r q : Rules) (st : List RawName) (n : RawName) (k : ℕ) (t : Token) → Allows r q → is_lost (after_name r st n k t) ≡ false → after_name r st n k t ≡ after_name q st n k t
+name-kept : (r q : Rules) (st : List RawName) (n : RawName) (k : ℕ) (t : Token) → Allows r q → is_lost (after_name r st n k t) ≡ false
+    → after_name r st n k t ≡ after_name q st n k t
 unfolding is_lost
-name-kept r q st n k (token.AttrOpens b) a e = cond-kept (nat_lt k r.attributes) (nat_lt k q.attributes) (naming_attribute st n (k + 1)) (lower k r.attributes q.attributes a.attributes) e
+name-kept r q st n k (token.AttrOpens b) a e =
+    cond-kept (nat_lt k r.attributes) (nat_lt k q.attributes) (naming_attribute st n (k + 1)) (lower k r.attributes q.attributes a.attributes) e
 name-kept r q st n k (token.TagEnds true) a e = refl
 name-kept r q st n k (token.TagEnds false) a e = refl
 name-kept r q st n k t a e = refl
 
-content-kept : (r q : Rules) (m : RawName) (st : List RawName) (t : Token) → Allows r q → is_lost (in_content r m st t) ≡ false → in_content r m st t ≡ in_content q m st t
+content-kept : (r q : Rules) (m : RawName) (st : List RawName) (t : Token) → Allows r q → is_lost (in_content r m st t) ≡ false
+    → in_content r m st t ≡ in_content q m st t
 unfolding is_lost
-content-kept r q m st (token.Word c) a e = cond-kept (may_stand r st c) (may_stand q st c) (inside (m ∷ st)) (or-more (is_space c) (cond (is_root st) r.loose true) (cond (is_root st) q.loose true) (root-more r q st a)) e
-content-kept r q m st (token.TagOpens b) a e = cond-kept (nat_lt (length st) r.depth) (nat_lt (length st) q.depth) (naming (m ∷ st) (b, [])) (lower (length st) r.depth q.depth a.depth) e
+content-kept r q m st (token.Word c) a e =
+    cond-kept (may_stand r st c) (may_stand q st c) (inside (m ∷ st))
+    (or-more (is_space c) (cond (is_root st) r.loose true) (cond (is_root st) q.loose true) (root-more r q st a)) e
+content-kept r q m st (token.TagOpens b) a e =
+    cond-kept (nat_lt (length st) r.depth) (nat_lt (length st) q.depth) (naming (m ∷ st) (b, [])) (lower (length st) r.depth q.depth a.depth) e
 content-kept r q m st t a e = refl
 
 nest-kept : (r q : Rules) (n : Nest) (t : Token) → Allows r q → is_lost (nest r n t) ≡ false → nest r n t ≡ nest q n t
@@ -99,14 +105,16 @@ goes-kept r q st (closing s (x ∷ m)) a e = e
 goes-kept r q st (closing s []) a e = refl
 goes-kept r q st n a e = refl
 
-cond-open : (r q : Rules) (st : State) (n : Nest) (c d : Bool) → (c ≡ true → d ≡ true) → is_broken (cond c (open_at st n) broken) ≡ false → cond c (open_at st n) broken ≡ cond d (open_at st n) broken
+cond-open : (r q : Rules) (st : State) (n : Nest) (c d : Bool) → (c ≡ true → d ≡ true) → is_broken (cond c (open_at st n) broken) ≡ false
+    → cond c (open_at st n) broken ≡ cond d (open_at st n) broken
 cond-open r q st n true d h e = sym (cond-true d (open_at st n) broken (h refl))
 cond-open r q st n false d h e = absurd (let bad : true ≡ false = e in cc)
 
 placed-kept : (r q : Rules) (st : State) (n : Nest) → Allows r q → is_broken (placed r st n) ≡ false → placed r st n ≡ placed q st n
 placed-kept r q st lost a e = refl
 placed-kept r q st (inside []) a e = refl
-placed-kept r q st (inside (m ∷ s)) a e = cond-open r q st (inside (m ∷ s)) (goes_with r st (inside (m ∷ s))) (goes_with q st (inside (m ∷ s))) (goes-kept r q st (inside (m ∷ s)) a) e
+placed-kept r q st (inside (m ∷ s)) a e = cond-open r q st (inside (m ∷ s)) (goes_with r st (inside (m ∷ s))) (goes_with q st (inside (m ∷ s)))
+    (goes-kept r q st (inside (m ∷ s)) a) e
 placed-kept r q st start a e = cond-open r q st start (goes_with r st start) (goes_with q st start) (goes-kept r q st start a) e
 placed-kept r q st n a e = cond-open r q st n (goes_with r st n) (goes_with q st n) (goes-kept r q st n a) e
 
@@ -131,7 +139,8 @@ broken-stays r (b ∷ bs) = broken-stays r bs
 
 pub after-kept : (r q : Rules) (f : Frame) (bs : List ℕ) → Allows r q → is_broken (frame_after r f bs) ≡ false → frame_after r f bs ≡ frame_after q f bs
 after-kept r q f [] a e = refl
-after-kept r q f (b ∷ bs) a e = after-kept r q (frame_next r f b) bs a e ∙ ap (λ (x : Frame). frame_after q x bs) (next-kept r q f b a (first (frame_next r f b) e))
+after-kept r q f (b ∷ bs) a e = after-kept r q (frame_next r f b) bs a e
+    ∙ ap (λ (x : Frame). frame_after q x bs) (next-kept r q f b a (first (frame_next r f b) e))
   where
     first : (g : Frame) → is_broken (frame_after r g bs) ≡ false → is_broken g ≡ false
     first broken h = absurd (let bad : true ≡ false = ap is_broken (sym (broken-stays r bs)) ∙ h in cc)

@@ -20,11 +20,15 @@ pub after_more : (l : Limits) (s : Reading) (xs ys : List ℕ) → reading_after
 after_more l s [] ys = refl
 after_more l s (x ∷ xs) ys = after_more l (reading_next l s x) xs ys
 
-pub after_one : (l : Limits) (s : Reading) (bs : List ℕ) (i d : ℕ) → i < length bs → reading_after l s (take (i + 1) bs) ≡ reading_next l (reading_after l s (take i bs)) (get_or bs i d)
+pub after_one : (l : Limits) (s : Reading) (bs : List ℕ) (i d : ℕ) → i < length bs
+    → reading_after l s (take (i + 1) bs) ≡ reading_next l (reading_after l s (take i bs)) (get_or bs i d)
 after_one l s bs i d h = ap (reading_after l s) (take_more bs i d h) ∙ after_more l s (take i bs) (get_or bs i d ∷ [])
 
-pub rest_going : (l : Limits) (s t : Reading) (bs : List ℕ) (i d : ℕ) → i < length bs → reading_next l s (get_or bs i d) ≡ t → is_done t ≡ false → i + taken_reading l s (drop i bs) ≡ (i + 1) + taken_reading l t (drop (i + 1) bs)
-rest_going l s t bs i d h e going = ap (λ (xs : List ℕ). i + taken_reading l s xs) (drop_more bs i d h) ∙ (ap (λ (r : Reading). i + (if is_done r then 1 else 1 + taken_reading l r (drop (i + 1) bs))) e ∙ (ap (λ (x : Bool). i + (if x then 1 else 1 + taken_reading l t (drop (i + 1) bs))) going ∙ shift i (taken_reading l t (drop (i + 1) bs))))
+pub rest_going : (l : Limits) (s t : Reading) (bs : List ℕ) (i d : ℕ) → i < length bs → reading_next l s (get_or bs i d) ≡ t → is_done t ≡ false
+    → i + taken_reading l s (drop i bs) ≡ (i + 1) + taken_reading l t (drop (i + 1) bs)
+rest_going l s t bs i d h e going = ap (λ (xs : List ℕ). i + taken_reading l s xs) (drop_more bs i d h)
+    ∙ (ap (λ (r : Reading). i + (if is_done r then 1 else 1 + taken_reading l r (drop (i + 1) bs))) e
+    ∙ (ap (λ (x : Bool). i + (if x then 1 else 1 + taken_reading l t (drop (i + 1) bs))) going ∙ shift i (taken_reading l t (drop (i + 1) bs))))
   where
     shift : (i n : ℕ) → i + (1 + n) ≡ (i + 1) + n
     shift i n = omega arith
@@ -48,13 +52,17 @@ going-ready (reads f b n k) h = by (is_none b.item) h
     by false h = absurd (let bad : true ≡ false = h in cc)
 
 -- what is taken at once is read as if each item were handed out
-pub taken_went : (bs : List ℕ) (l : Limits) (s : Reading) → is_ready s ≡ true → reading_after l s (take (taken_reading l s bs) bs) ≡ went l s (take (taken_reading l s bs) bs)
+pub taken_went : (bs : List ℕ) (l : Limits) (s : Reading) → is_ready s ≡ true
+    → reading_after l s (take (taken_reading l s bs) bs) ≡ went l s (take (taken_reading l s bs) bs)
 taken_went [] l s h = refl
 taken_went (b ∷ bs) l s h = by (is_done (reading_next l s b)) refl (λ h. taken_went bs l (reading_next l s b) h)
   where
     by : (t : Bool) → is_done (reading_next l s b) ≡ t
-        → (is_ready (reading_next l s b) ≡ true → reading_after l (reading_next l s b) (take (taken_reading l (reading_next l s b) bs) bs) ≡ went l (reading_next l s b) (take (taken_reading l (reading_next l s b) bs) bs))
-        → reading_after l s (take (if t then 1 else 1 + taken_reading l (reading_next l s b) bs) (b ∷ bs)) ≡ went l s (take (if t then 1 else 1 + taken_reading l (reading_next l s b) bs) (b ∷ bs))
+        → (is_ready (reading_next l s b) ≡ true
+        → reading_after l (reading_next l s b) (take (taken_reading l (reading_next l s b) bs) bs)
+        ≡ went l (reading_next l s b) (take (taken_reading l (reading_next l s b) bs) bs))
+        → reading_after l s (take (if t then 1 else 1 + taken_reading l (reading_next l s b) bs) (b ∷ bs))
+        ≡ went l s (take (if t then 1 else 1 + taken_reading l (reading_next l s b) bs) (b ∷ bs))
     by true e go = ap (λ (x : Reading). reading_next l x b) (sym (ready-handed s h))
     by false e go =
         let m : ℕ = taken_reading l (reading_next l s b) bs in

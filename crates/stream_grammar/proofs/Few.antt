@@ -81,9 +81,11 @@ few-ascii st b =
 few-wide : (s : Stage) (p : Pending) (r : Bool) (b : ℕ) (x : Reach) → Few (turn_wide (at s p r) b x)
 unfolding turn_wide
 few-wide s p r b (Begun q low high) =
-    cond_both (has_between (class_of (allowed_at s)) low high) _ _ Few (λ e. few-move (sort_of (at s p r)) _ (sort (through s)) (voiced s p r b low high 0 e).0.0) (λ e. tt)
+    cond_both (has_between (class_of (allowed_at s)) low high) _ _ Few
+    (λ e. few-move (sort_of (at s p r)) _ (sort (through s)) (voiced s p r b low high 0 e).0.0) (λ e. tt)
 few-wide s p r b (Whole n) =
-    cond_both (has_between (class_of (allowed_at s)) n n) _ _ Few (λ e. few-move (sort_of (at s p r)) _ (sort (through s)) (voiced s p r b n n n e).1.0) (λ e. tt)
+    cond_both (has_between (class_of (allowed_at s)) n n) _ _ Few (λ e. few-move (sort_of (at s p r)) _ (sort (through s)) (voiced s p r b n n n e).1.0)
+    (λ e. tt)
 few-wide s p r b Broken = tt
 
 few : (st : State) (b : ℕ) → Few (turn st b)

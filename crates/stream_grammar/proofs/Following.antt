@@ -40,7 +40,8 @@ use Rattle.stream_grammar.proofs.Refusing.{said-split, mark-tells, named-tells, 
 
 -- One byte of the lexical layer.
 
-pub left-to : (st to : State) (b : ℕ) (us : List Token) (more : List ℕ) (ts : List Token) → is_live st ≡ true → turn st b ≡ leads to us → Left st (b ∷ more) (all_said ts)
+pub left-to : (st to : State) (b : ℕ) (us : List Token) (more : List ℕ) (ts : List Token) → is_live st ≡ true → turn st b ≡ leads to us
+    → Left st (b ∷ more) (all_said ts)
     → (vs : List Token) × (ts ≡ us ++ vs) × Left to more (all_said vs)
 left-to st to b us more ts live e l =
     let g : Goes st b us to = subst (Does st b) e (does st b live) in
@@ -48,7 +49,8 @@ left-to st to b us more ts live e l =
     let (vs, h, i) = said-split us ts ns f in
     (vs, h, subst (Left to more) i m)
 
-pub left-from : (st to : State) (b : ℕ) (us : List Token) (more : List ℕ) (vs : List Token) → is_live st ≡ true → turn st b ≡ leads to us → Left to more (all_said vs) → Left st (b ∷ more) (all_said (us ++ vs))
+pub left-from : (st to : State) (b : ℕ) (us : List Token) (more : List ℕ) (vs : List Token) → is_live st ≡ true → turn st b ≡ leads to us
+    → Left to more (all_said vs) → Left st (b ∷ more) (all_said (us ++ vs))
 left-from st to b us more vs live e l =
     let g : Goes st b us to = subst (Does st b) e (does st b live) in
     subst (Left st (b ∷ more)) (sym (said-append us vs)) (g.text more (all_said vs) l)
@@ -64,7 +66,8 @@ fails-left : (st : State) (b : ℕ) (f : LexFault) (more : List ℕ) (ts : List 
 fails-left st b f more ts (refusing r) l = not-refused f ts (r.refused more (all_said ts) l)
 fails-left st b f more ts (undecodable e never) (cs, sc, enc, m) = never more (cs, (sc, enc))
 
-pub left-fails : (st : State) (b : ℕ) (f : LexFault) (more : List ℕ) (ts : List Token) → is_live st ≡ true → turn st b ≡ fails f → Left st (b ∷ more) (all_said ts) → ⊥
+pub left-fails : (st : State) (b : ℕ) (f : LexFault) (more : List ℕ) (ts : List Token) → is_live st ≡ true → turn st b ≡ fails f
+    → Left st (b ∷ more) (all_said ts) → ⊥
 left-fails st b f more ts live e l = fails-left st b f more ts (subst (Does st b) e (does st b live)) l
 
 -- No byte passes 255.
@@ -103,7 +106,8 @@ big-live st b h = big st.stage st.pending st.returned b h
   where
     big : (s : Stage) (p : Pending) (r : Bool) (b : ℕ) → 256 ≤ b → LeadsLive (turn (at s p r) b)
     big s pending.Nothing r b h =
-        cond_both (nat_lt b 128) _ _ LeadsLive (λ e. absurd (let k : b < 128 = ltb-true b 128 e in omega arith)) (λ e. broken-live (at s pending.Nothing r) b (reach pending.Nothing b) (big-broken pending.Nothing b h))
+        cond_both (nat_lt b 128) _ _ LeadsLive (λ e. absurd (let k : b < 128 = ltb-true b 128 e in omega arith))
+        (λ e. broken-live (at s pending.Nothing r) b (reach pending.Nothing b) (big-broken pending.Nothing b h))
     big s (pending.One x) r b h = broken-live (at s (pending.One x) r) b (reach (pending.One x) b) (big-broken (pending.One x) b h)
     big s (pending.Two x y) r b h = broken-live (at s (pending.Two x y) r) b (reach (pending.Two x y) b) (big-broken (pending.Two x y) b h)
     big s (pending.Three x y z) r b h = broken-live (at s (pending.Three x y z) r) b (reach (pending.Three x y z) b) (big-broken (pending.Three x y z) b h)
@@ -126,7 +130,8 @@ leaves-nothing r start ts o (s, keeps, is) e = stream-told s.declared (sym is �
 leaves-nothing r declared ts o (root, f, keeps, is) e = no_token (token.TagOpens root.name.0) _ (sym is ∙ e)
 leaves-nothing r (inside []) ts o m e = absurd o
 leaves-nothing r (inside (m ∷ st)) ts o (f, rest, keeps, low, is, c) e = not-nil (content_tokens f) _ (token.CloseOpens m.0) (sym is ∙ e)
-leaves-nothing r (naming st n) ts o (m, rest, is, (xs, empty, rest2, few, is2, after)) e = tag-told (map token.NameByte m) (sym (is ∙ ap (λ (l : List Token). map token.NameByte m ++ l) is2) ∙ e)
+leaves-nothing r (naming st n) ts o (m, rest, is, (xs, empty, rest2, few, is2, after)) e =
+    tag-told (map token.NameByte m) (sym (is ∙ ap (λ (l : List Token). map token.NameByte m ++ l) is2) ∙ e)
   where
     tag-told : (ys : List Token) → ys ++ (attributes_tokens xs ++ (token.TagEnds empty ∷ rest2)) ≡ [] → ⊥
     tag-told [] f = not-nil (attributes_tokens xs) rest2 (token.TagEnds empty) f
@@ -143,14 +148,16 @@ leaves-nothing r lost ts o m e = absurd m
 abbrev pub Tight : State → List ℕ → List Token → Type 0
 Tight st text ts = (xs ys : List ℕ) → text ≡ xs ++ ys → Left st xs (all_said ts) → ys ≡ []
 
-pub tight-to : (st to : State) (b : ℕ) (us : List Token) (text : List ℕ) (vs : List Token) → is_live st ≡ true → turn st b ≡ leads to us → Tight st (b ∷ text) (us ++ vs) → Tight to text vs
+pub tight-to : (st to : State) (b : ℕ) (us : List Token) (text : List ℕ) (vs : List Token) → is_live st ≡ true → turn st b ≡ leads to us
+    → Tight st (b ∷ text) (us ++ vs) → Tight to text vs
 tight-to st to b us text vs live e t xs ys f l = t (b ∷ xs) ys (ap (λ (x : List ℕ). b ∷ x) f) (left-from st to b us xs vs live e l)
 
 cancel : (us vs ws : List Token) → us ++ vs ≡ us ++ ws → vs ≡ ws
 cancel [] vs ws e = e
 cancel (u ∷ us) vs ws e = cancel us vs ws (let f : u ∷ (us ++ vs) ≡ u ∷ (us ++ ws) = e in cc)
 
-pub tight-from : (st to : State) (b : ℕ) (us : List Token) (text : List ℕ) (vs : List Token) → is_live st ≡ true → turn st b ≡ leads to us → (us ++ vs ≡ [] → ⊥) → Tight to text vs → Tight st (b ∷ text) (us ++ vs)
+pub tight-from : (st to : State) (b : ℕ) (us : List Token) (text : List ℕ) (vs : List Token) → is_live st ≡ true → turn st b ≡ leads to us → (us ++ vs ≡ [] → ⊥)
+    → Tight to text vs → Tight st (b ∷ text) (us ++ vs)
 tight-from st to b us text vs live e some t [] ys f l = absurd (some (said-same (us ++ vs) [] (left-done st (all_said (us ++ vs)) live l)))
 tight-from st to b us text vs live e some t (x ∷ xs) ys f l =
     let same : b ≡ x = same_head b x text (xs ++ ys) f in
@@ -158,7 +165,8 @@ tight-from st to b us text vs live e some t (x ∷ xs) ys f l =
     t xs ys (same_tail b x text (xs ++ ys) f) (subst (λ (y : List Token). Left to xs (all_said y)) (sym (cancel us vs ws h)) m)
 
 abbrev pub Over : Rules → State → Nest → List ℕ → Type 0
-Over r st n more = (text : List ℕ) × (after : List ℕ) × (ts : List Token) × (more ≡ text ++ after) × AreSpaces after × Left st text (all_said ts) × Leaves r n ts × Tight st text ts
+Over r st n more = (text : List ℕ) × (after : List ℕ) × (ts : List Token) × (more ≡ text ++ after) × AreSpaces after × Left st text (all_said ts)
+    × Leaves r n ts × Tight st text ts
 
 abbrev pub Follows : Rules → Frame → List ℕ → Type 0
 Follows r (open_at st n) more = Over r st n more
@@ -180,7 +188,8 @@ Sound r f = Unit {0}
 
 -- One byte.
 
-over-to : (r : Rules) (st to : State) (n : Nest) (b : ℕ) (us : List Token) (more : List ℕ) → is_live st ≡ true → turn st b ≡ leads to us → IsOpen n → Over r st n (b ∷ more) → Over r to (nest_all r n us) more
+over-to : (r : Rules) (st to : State) (n : Nest) (b : ℕ) (us : List Token) (more : List ℕ) → is_live st ≡ true → turn st b ≡ leads to us → IsOpen n
+    → Over r st n (b ∷ more) → Over r to (nest_all r n us) more
 over-to r st to n b us more live e o ([], after, ts, f, sp, l, m, t) = absurd (leaves-nothing r n ts o m (said-same ts [] (left-done st (all_said ts) live l)))
 over-to r st to n b us more live e o (x ∷ text, after, ts, f, sp, l, m, t) =
     let same : x ≡ b = sym (same_head b x more (text ++ after) f) in
@@ -188,7 +197,8 @@ over-to r st to n b us more live e o (x ∷ text, after, ts, f, sp, l, m, t) =
     let t1 : Tight st (b ∷ text) (us ++ vs) = subst (λ (y : ℕ). Tight st (y ∷ text) (us ++ vs)) same (subst (Tight st (x ∷ text)) h t) in
     (text, after, vs, same_tail b x more (text ++ after) f, sp, k, all-to r n us vs (subst (Leaves r n) h m), tight-to st to b us text vs live e t1)
 
-over-from : (r : Rules) (st to : State) (n : Nest) (b : ℕ) (us : List Token) (more : List ℕ) → is_live st ≡ true → turn st b ≡ leads to us → IsOpen n → Room r n → Over r to (nest_all r n us) more → Over r st n (b ∷ more)
+over-from : (r : Rules) (st to : State) (n : Nest) (b : ℕ) (us : List Token) (more : List ℕ) → is_live st ≡ true → turn st b ≡ leads to us → IsOpen n → Room r n
+    → Over r to (nest_all r n us) more → Over r st n (b ∷ more)
 over-from r st to n b us more live e o room (text, after, vs, f, sp, l, m, t) =
     let m1 : Leaves r n (us ++ vs) = all-from r n us vs room m in (
       b ∷ text,
@@ -201,14 +211,16 @@ over-from r st to n b us more live e o room (text, after, vs, f, sp, l, m, t) =
       tight-from st to b us text vs live e (λ z. leaves-nothing r n (us ++ vs) o m1 z) t,
     )
 
-fails-over : (r : Rules) (st : State) (n : Nest) (b : ℕ) (f : LexFault) (more : List ℕ) → is_live st ≡ true → turn st b ≡ fails f → IsOpen n → Over r st n (b ∷ more) → ⊥
+fails-over : (r : Rules) (st : State) (n : Nest) (b : ℕ) (f : LexFault) (more : List ℕ) → is_live st ≡ true → turn st b ≡ fails f → IsOpen n
+    → Over r st n (b ∷ more) → ⊥
 fails-over r st n b f more live e o ([], after, ts, g, sp, l, m, t) = leaves-nothing r n ts o m (said-same ts [] (left-done st (all_said ts) live l))
 fails-over r st n b f more live e o (x ∷ text, after, ts, g, sp, l, m, t) =
     left-fails st b f text ts live e (subst (λ (y : ℕ). Left st (y ∷ text) (all_said ts)) (sym (same_head b x more (text ++ after) g)) l)
 
 pub words-left : Left words [] []
 unfolding rest_at IsText
-words-left = plain-left (stage.Text Words) false [] [] ([], refl, refl, ([], [], [], [], (0, (refl, refl)), ([], [], [], [], (0, (refl, refl)), (0, (refl, refl)), refl, refl), refl, refl))
+words-left = plain-left (stage.Text Words) false [] []
+    ([], refl, refl, ([], [], [], [], (0, (refl, refl)), ([], [], [], [], (0, (refl, refl)), (0, (refl, refl)), refl, refl), refl, refl))
 
 -- Where the nesting does not go with the state.
 
@@ -225,7 +237,8 @@ or-parts false t e = (refl, e)
 
 word-lost : (r : Rules) (m : RawName) (c : ℕ) → is_space c ≡ false → r.loose ≡ false → nest r (inside (m ∷ [])) (token.Word c) ≡ lost
 unfolding nest
-word-lost r m c e f = subst (λ (t : Bool). cond (t || r.loose) (inside (m ∷ [])) lost ≡ lost) (sym e) (subst (λ (t : Bool). cond t (inside (m ∷ [])) lost ≡ lost) (sym f) refl)
+word-lost r m c e f = subst (λ (t : Bool). cond (t || r.loose) (inside (m ∷ [])) lost ≡ lost) (sym e)
+    (subst (λ (t : Bool). cond t (inside (m ∷ [])) lost ≡ lost) (sym f) refl)
 
 hollow-lost : (r : Rules) (n : RawName) → nest r (naming [] n) (token.TagEnds true) ≡ lost
 unfolding nest
@@ -244,7 +257,8 @@ stray-refused r to (closing s (x ∷ m)) more h (text, after, ts, f, sp, l, k, t
     let (us, e) = named-tells to text ts h l in refused-next r (closing s (x ∷ m)) token.CloseEnds ts us k e (early-lost r s x m)
 stray-refused r to n more h o = absurd h
 
-pub refused-over : (r : Rules) (to : State) (n : Nest) (more : List ℕ) → is_live to ≡ true → (Fits to n) ⊎ (Strays to n) → goes_with r to n ≡ false → Over r to n more → ⊥
+pub refused-over : (r : Rules) (to : State) (n : Nest) (more : List ℕ) → is_live to ≡ true → (Fits to n) ⊎ (Strays to n) → goes_with r to n ≡ false
+    → Over r to n more → ⊥
 refused-over r to n more live (inr h) g o = stray-refused r to n more h o
 refused-over r to (inside (m ∷ [])) more live (inl (k, a)) g (text, after, ts, f, sp, l, h, t) =
     let (quiet, loose) = or-parts (comes_to_space to) r.loose g in
@@ -253,9 +267,11 @@ refused-over r to (inside (m ∷ [])) more live (inl (k, a)) g (text, after, ts,
 refused-over r to (naming [] n) more live (inl k) g (text, after, ts, f, sp, l, h, t) =
     let (us, e) = mark-tells to text ts (not-not (is_empty_mark to.stage) g) l in refused-next r (naming [] n) (token.TagEnds true) ts us h e (hollow-lost r n)
 refused-over r to (in_tag [] n i) more live (inl k) g (text, after, ts, f, sp, l, h, t) =
-    let (us, e) = mark-tells to text ts (not-not (is_empty_mark to.stage) g) l in refused-next r (in_tag [] n i) (token.TagEnds true) ts us h e (hollow_tag-lost r n i)
+    let (us, e) = mark-tells to text ts (not-not (is_empty_mark to.stage) g) l in refused-next r (in_tag [] n i) (token.TagEnds true) ts us h e
+    (hollow_tag-lost r n i)
 refused-over r to (closing s (x ∷ m)) more live (inl k) g (text, after, ts, f, sp, l, h, t) =
-    let (us, e) = named-tells to text ts (not-not (is_after_end_name to.stage) g) l in refused-next r (closing s (x ∷ m)) token.CloseEnds ts us h e (early-lost r s x m)
+    let (us, e) = named-tells to text ts (not-not (is_after_end_name to.stage) g) l in refused-next r (closing s (x ∷ m)) token.CloseEnds ts us h e
+    (early-lost r s x m)
 refused-over r to (inside []) more live h g o = absurd (let bad : true ≡ false = g in cc)
 refused-over r to (inside (m ∷ x ∷ st)) more live h g o = absurd (let bad : true ≡ false = g in cc)
 refused-over r to (naming (m ∷ st) n) more live h g o = absurd (let bad : true ≡ false = g in cc)
@@ -265,7 +281,8 @@ refused-over r to n more live h g o = absurd (let bad : true ≡ false = g in cc
 
 -- Placed.
 
-cond-follows : (r : Rules) (to : State) (n : Nest) (more : List ℕ) → is_live to ≡ true → (Fits to n) ⊎ (Strays to n) → Over r to n more → Follows r (cond (goes_with r to n) (open_at to n) broken) more
+cond-follows : (r : Rules) (to : State) (n : Nest) (more : List ℕ) → is_live to ≡ true → (Fits to n) ⊎ (Strays to n) → Over r to n more
+    → Follows r (cond (goes_with r to n) (open_at to n) broken) more
 cond-follows r to n more live h o =
     cond_both (goes_with r to n) (open_at to n) broken (λ (x : Frame). Follows r x more) (λ e. o) (λ e. refused-over r to n more live h e o)
 
@@ -276,7 +293,8 @@ cond-over r false to n more f = absurd f
 ended-follows : (r : Rules) (to : State) (more : List ℕ) → (Fits to (inside [])) ⊎ (Strays to (inside [])) → Over r to (inside []) more → AreSpaces more
 ended-follows r to more (inr h) o = absurd h
 ended-follows r to more (inl e) (text, after, ts, f, sp, l, m, t) =
-    let none : text ≡ [] = t [] text refl (subst (λ (x : List Token). Left to [] (all_said x)) (sym m) (subst (λ (s : State). Left s [] []) (sym e) words-left)) in
+    let none : text ≡ [] = t [] text refl (subst (λ (x : List Token). Left to [] (all_said x)) (sym m) (subst (λ (s : State). Left s [] []) (sym e) words-left))
+    in
     subst AreSpaces (sym (f ∙ ap (λ (x : List ℕ). x ++ after) none)) sp
 
 follows-ended : (r : Rules) (to : State) (more : List ℕ) → to ≡ words → AreSpaces more → Over r to (inside []) more
@@ -286,7 +304,8 @@ follows-ended r to more e sp = ([], more, [], refl, sp, subst (λ (s : State). L
     nil-back [] ys e = e
     nil-back (x ∷ xs) ys e = absurd (cons_not_nil x (xs ++ ys) e)
 
-pub placed-to : (r : Rules) (to : State) (n : Nest) (more : List ℕ) → is_live to ≡ true → (Fits to n) ⊎ (Strays to n) → Over r to n more → Follows r (placed r to n) more
+pub placed-to : (r : Rules) (to : State) (n : Nest) (more : List ℕ) → is_live to ≡ true → (Fits to n) ⊎ (Strays to n) → Over r to n more
+    → Follows r (placed r to n) more
 placed-to r to lost more live h (text, after, ts, f, sp, l, m, t) = absurd m
 placed-to r to (inside []) more live h o = ended-follows r to more h o
 placed-to r to (inside (m ∷ st)) more live h o = cond-follows r to (inside (m ∷ st)) more live h o
@@ -304,9 +323,11 @@ fitting r to n (inl f) e = f
 fitting r to (closing s (x ∷ m)) (inr f) e = absurd (let bad : false ≡ true = ap not (sym f) ∙ e in cc)
 fitting r to n (inr f) e = absurd f
 
-cond-sound : (r : Rules) (to : State) (n : Nest) → is_live to ≡ true → calm to ≡ true → Room r n → IsOpen n → (Fits to n) ⊎ (Strays to n) → Sound r (cond (goes_with r to n) (open_at to n) broken)
+cond-sound : (r : Rules) (to : State) (n : Nest) → is_live to ≡ true → calm to ≡ true → Room r n → IsOpen n → (Fits to n) ⊎ (Strays to n)
+    → Sound r (cond (goes_with r to n) (open_at to n) broken)
 cond-sound r to n live c room o h =
-    cond_both (goes_with r to n) (open_at to n) broken (Sound r) (λ e. record { live = live; calm_is = c; room = room; opens = o; fits = fitting r to n h e; goes = e }) (λ e. tt)
+    cond_both (goes_with r to n) (open_at to n) broken (Sound r)
+    (λ e. record { live = live; calm_is = c; room = room; opens = o; fits = fitting r to n h e; goes = e }) (λ e. tt)
 
 pub placed-sound : (r : Rules) (to : State) (n : Nest) → is_live to ≡ true → calm to ≡ true → Room r n → (Fits to n) ⊎ (Strays to n) → Sound r (placed r to n)
 placed-sound r to lost live c room h = tt
@@ -317,12 +338,15 @@ placed-sound r to n live c room h = cond-sound r to n live c room tt h
 
 -- A byte.
 
-settled-to : (r : Rules) (st : State) (n : Nest) (b : ℕ) (more : List ℕ) (o : Outcome) → turn st b ≡ o → IsSound r st n → Over r st n (b ∷ more) → Follows r (settled r n o) more
+settled-to : (r : Rules) (st : State) (n : Nest) (b : ℕ) (more : List ℕ) (o : Outcome) → turn st b ≡ o → IsSound r st n → Over r st n (b ∷ more)
+    → Follows r (settled r n o) more
 settled-to r st n b more (leads to us) e s x =
-    placed-to r to (nest_all r n us) more (subst LeadsLive e (any-live st b s.live)) (fits-next r st to b n us e s.calm_is s.opens s.fits) (over-to r st to n b us more s.live e s.opens x)
+    placed-to r to (nest_all r n us) more (subst LeadsLive e (any-live st b s.live)) (fits-next r st to b n us e s.calm_is s.opens s.fits)
+    (over-to r st to n b us more s.live e s.opens x)
 settled-to r st n b more (fails f) e s x = fails-over r st n b f more s.live e s.opens x
 
-settled-from : (r : Rules) (st : State) (n : Nest) (b : ℕ) (more : List ℕ) (o : Outcome) → turn st b ≡ o → IsSound r st n → Follows r (settled r n o) more → Over r st n (b ∷ more)
+settled-from : (r : Rules) (st : State) (n : Nest) (b : ℕ) (more : List ℕ) (o : Outcome) → turn st b ≡ o → IsSound r st n → Follows r (settled r n o) more
+    → Over r st n (b ∷ more)
 settled-from r st n b more (leads to us) e s f =
     over-from r st to n b us more s.live e s.opens s.room (placed-from r to (nest_all r n us) more (fits-next r st to b n us e s.calm_is s.opens s.fits) f)
 settled-from r st n b more (fails f) e s x = absurd x
@@ -330,7 +354,8 @@ settled-from r st n b more (fails f) e s x = absurd x
 settled-sound : (r : Rules) (st : State) (n : Nest) (b : ℕ) (o : Outcome) → turn st b ≡ o → IsSound r st n → Sound r (settled r n o)
 settled-sound r st n b (leads to us) e s =
     let l : Led st b (leads to us) = subst (Led st b) e (turn-led st b s.calm_is) in
-    placed-sound r to (nest_all r n us) (subst LeadsLive e (any-live st b s.live)) l.2 (all-room r n us s.room) (fits-next r st to b n us e s.calm_is s.opens s.fits)
+    placed-sound r to (nest_all r n us) (subst LeadsLive e (any-live st b s.live)) l.2 (all-room r n us s.room)
+    (fits-next r st to b n us e s.calm_is s.opens s.fits)
 settled-sound r st n b (fails f) e s = tt
 
 pub next-sound : (r : Rules) (f : Frame) (b : ℕ) → Sound r f → Sound r (frame_next r f b)

@@ -39,7 +39,8 @@ name-turn Prefix false = refl
 name-turn Local true = refl
 name-turn Local false = refl
 
-pub colon-way : (r : Bool) → r ≡ false → turn (at (stage.Colon StartTag) pending.Nothing r) 97 ≡ leads (at (stage.Name StartTag Local) pending.Nothing false) (token.NameByte 97 ∷ [])
+pub colon-way : (r : Bool) → r ≡ false
+    → turn (at (stage.Colon StartTag) pending.Nothing r) 97 ≡ leads (at (stage.Name StartTag Local) pending.Nothing false) (token.NameByte 97 ∷ [])
 unfolding turn_ascii ascii_kind ascii in_fixed in_declaration in_reference in_number in_name in_tag allowed_at
 colon-way true e = false-true (sym e)
 colon-way false e = refl
@@ -75,15 +76,19 @@ tag-way (stage.Fixed w at) h = false-true h
 tag-way s h = false-true h
 
 abbrev pub AttributeEnds : Stage → Type 0
-AttributeEnds s = Ways s words (token.ValueOpens ∷ token.ValueEnds ∷ token.TagEnds false ∷ []) ⊎ ((x : ℕ) × Ways s words (token.AttrByte x ∷ token.ValueOpens ∷ token.ValueEnds ∷ token.TagEnds false ∷ []))
+AttributeEnds s = Ways s words (token.ValueOpens ∷ token.ValueEnds ∷ token.TagEnds false ∷ [])
+    ⊎ ((x : ℕ) × Ways s words (token.AttrByte x ∷ token.ValueOpens ∷ token.ValueEnds ∷ token.TagEnds false ∷ []))
 
 pub attribute-way : (s : Stage) → is_attribute (sort s) ≡ true → AttributeEnds s
 unfolding turn_ascii ascii_kind ascii in_fixed in_declaration in_reference in_number in_name in_tag allowed_at
-attribute-way (stage.Name Attribute Prefix) h = inl (both (stage.Name Attribute Prefix) words (token.ValueOpens ∷ token.ValueEnds ∷ token.TagEnds false ∷ []) (codes "=''>") refl refl)
-attribute-way (stage.Name Attribute Local) h = inl (both (stage.Name Attribute Local) words (token.ValueOpens ∷ token.ValueEnds ∷ token.TagEnds false ∷ []) (codes "=''>") refl refl)
+attribute-way (stage.Name Attribute Prefix) h =
+    inl (both (stage.Name Attribute Prefix) words (token.ValueOpens ∷ token.ValueEnds ∷ token.TagEnds false ∷ []) (codes "=''>") refl refl)
+attribute-way (stage.Name Attribute Local) h =
+    inl (both (stage.Name Attribute Local) words (token.ValueOpens ∷ token.ValueEnds ∷ token.TagEnds false ∷ []) (codes "=''>") refl refl)
 attribute-way stage.AttrNamed h = inl (both stage.AttrNamed words (token.ValueOpens ∷ token.ValueEnds ∷ token.TagEnds false ∷ []) (codes "=''>") refl refl)
 attribute-way stage.ValueAwaited h = inl (both stage.ValueAwaited words (token.ValueOpens ∷ token.ValueEnds ∷ token.TagEnds false ∷ []) (codes "''>") refl refl)
-attribute-way (stage.Colon Attribute) h = inr (97, both (stage.Colon Attribute) words (token.AttrByte 97 ∷ token.ValueOpens ∷ token.ValueEnds ∷ token.TagEnds false ∷ []) (codes "a=''>") refl refl)
+attribute-way (stage.Colon Attribute) h =
+    inr (97, both (stage.Colon Attribute) words (token.AttrByte 97 ∷ token.ValueOpens ∷ token.ValueEnds ∷ token.TagEnds false ∷ []) (codes "a=''>") refl refl)
 attribute-way (stage.Text Words) h = false-true h
 attribute-way (stage.Text (Value q)) h = false-true h
 attribute-way (stage.Hash Words) h = false-true h
@@ -114,41 +119,111 @@ text-value_way Single = both (stage.Text (Value Single)) words (token.ValueEnds 
 pub value-way : (s : Stage) → is_value (sort s) ≡ true → is_number s ≡ false → ValueEnds s
 unfolding turn_ascii ascii_kind ascii in_fixed in_declaration in_reference in_number in_name in_tag allowed_at
 value-way (stage.Text (Value Double)) h n = inl (both (stage.Text (Value Double)) words (token.ValueEnds ∷ token.TagEnds false ∷ []) (codes "\">") refl refl)
-value-way (stage.Reference (Value Double) entity_name.Empty) h n = inr (60, both (stage.Reference (Value Double) entity_name.Empty) words (token.Value 60 ∷ token.ValueEnds ∷ token.TagEnds false ∷ []) (codes "lt;\">") refl refl)
-value-way (stage.Reference (Value Double) entity_name.A) h n = inr (38, both (stage.Reference (Value Double) entity_name.A) words (token.Value 38 ∷ token.ValueEnds ∷ token.TagEnds false ∷ []) (codes "mp;\">") refl refl)
-value-way (stage.Reference (Value Double) entity_name.Am) h n = inr (38, both (stage.Reference (Value Double) entity_name.Am) words (token.Value 38 ∷ token.ValueEnds ∷ token.TagEnds false ∷ []) (codes "p;\">") refl refl)
-value-way (stage.Reference (Value Double) entity_name.Amp) h n = inr (38, both (stage.Reference (Value Double) entity_name.Amp) words (token.Value 38 ∷ token.ValueEnds ∷ token.TagEnds false ∷ []) (codes ";\">") refl refl)
-value-way (stage.Reference (Value Double) entity_name.Ap) h n = inr (39, both (stage.Reference (Value Double) entity_name.Ap) words (token.Value 39 ∷ token.ValueEnds ∷ token.TagEnds false ∷ []) (codes "os;\">") refl refl)
-value-way (stage.Reference (Value Double) entity_name.Apo) h n = inr (39, both (stage.Reference (Value Double) entity_name.Apo) words (token.Value 39 ∷ token.ValueEnds ∷ token.TagEnds false ∷ []) (codes "s;\">") refl refl)
-value-way (stage.Reference (Value Double) entity_name.Apos) h n = inr (39, both (stage.Reference (Value Double) entity_name.Apos) words (token.Value 39 ∷ token.ValueEnds ∷ token.TagEnds false ∷ []) (codes ";\">") refl refl)
-value-way (stage.Reference (Value Double) entity_name.L) h n = inr (60, both (stage.Reference (Value Double) entity_name.L) words (token.Value 60 ∷ token.ValueEnds ∷ token.TagEnds false ∷ []) (codes "t;\">") refl refl)
-value-way (stage.Reference (Value Double) entity_name.Lt) h n = inr (60, both (stage.Reference (Value Double) entity_name.Lt) words (token.Value 60 ∷ token.ValueEnds ∷ token.TagEnds false ∷ []) (codes ";\">") refl refl)
-value-way (stage.Reference (Value Double) entity_name.G) h n = inr (62, both (stage.Reference (Value Double) entity_name.G) words (token.Value 62 ∷ token.ValueEnds ∷ token.TagEnds false ∷ []) (codes "t;\">") refl refl)
-value-way (stage.Reference (Value Double) entity_name.Gt) h n = inr (62, both (stage.Reference (Value Double) entity_name.Gt) words (token.Value 62 ∷ token.ValueEnds ∷ token.TagEnds false ∷ []) (codes ";\">") refl refl)
-value-way (stage.Reference (Value Double) entity_name.Q) h n = inr (34, both (stage.Reference (Value Double) entity_name.Q) words (token.Value 34 ∷ token.ValueEnds ∷ token.TagEnds false ∷ []) (codes "uot;\">") refl refl)
-value-way (stage.Reference (Value Double) entity_name.Qu) h n = inr (34, both (stage.Reference (Value Double) entity_name.Qu) words (token.Value 34 ∷ token.ValueEnds ∷ token.TagEnds false ∷ []) (codes "ot;\">") refl refl)
-value-way (stage.Reference (Value Double) entity_name.Quo) h n = inr (34, both (stage.Reference (Value Double) entity_name.Quo) words (token.Value 34 ∷ token.ValueEnds ∷ token.TagEnds false ∷ []) (codes "t;\">") refl refl)
-value-way (stage.Reference (Value Double) entity_name.Quot) h n = inr (34, both (stage.Reference (Value Double) entity_name.Quot) words (token.Value 34 ∷ token.ValueEnds ∷ token.TagEnds false ∷ []) (codes ";\">") refl refl)
-value-way (stage.Hash (Value Double)) h n = inr (32, both (stage.Hash (Value Double)) words (token.Value 32 ∷ token.ValueEnds ∷ token.TagEnds false ∷ []) (codes "32;\">") refl refl)
-value-way (stage.HashX (Value Double)) h n = inr (32, both (stage.HashX (Value Double)) words (token.Value 32 ∷ token.ValueEnds ∷ token.TagEnds false ∷ []) (codes "20;\">") refl refl)
+value-way (stage.Reference (Value Double) entity_name.Empty) h n =
+    inr (
+      60,
+      both (stage.Reference (Value Double) entity_name.Empty) words (token.Value 60 ∷ token.ValueEnds ∷ token.TagEnds false ∷ []) (codes "lt;\">") refl
+          refl,
+    )
+value-way (stage.Reference (Value Double) entity_name.A) h n =
+    inr (38, both (stage.Reference (Value Double) entity_name.A) words (token.Value 38 ∷ token.ValueEnds ∷ token.TagEnds false ∷ []) (codes "mp;\">") refl refl)
+value-way (stage.Reference (Value Double) entity_name.Am) h n =
+    inr (38, both (stage.Reference (Value Double) entity_name.Am) words (token.Value 38 ∷ token.ValueEnds ∷ token.TagEnds false ∷ []) (codes "p;\">") refl refl)
+value-way (stage.Reference (Value Double) entity_name.Amp) h n =
+    inr (38, both (stage.Reference (Value Double) entity_name.Amp) words (token.Value 38 ∷ token.ValueEnds ∷ token.TagEnds false ∷ []) (codes ";\">") refl refl)
+value-way (stage.Reference (Value Double) entity_name.Ap) h n =
+    inr (
+      39,
+      both (stage.Reference (Value Double) entity_name.Ap) words (token.Value 39 ∷ token.ValueEnds ∷ token.TagEnds false ∷ []) (codes "os;\">") refl
+          refl,
+    )
+value-way (stage.Reference (Value Double) entity_name.Apo) h n =
+    inr (
+      39,
+      both (stage.Reference (Value Double) entity_name.Apo) words (token.Value 39 ∷ token.ValueEnds ∷ token.TagEnds false ∷ []) (codes "s;\">") refl
+          refl,
+    )
+value-way (stage.Reference (Value Double) entity_name.Apos) h n =
+    inr (
+      39,
+      both (stage.Reference (Value Double) entity_name.Apos) words (token.Value 39 ∷ token.ValueEnds ∷ token.TagEnds false ∷ []) (codes ";\">") refl
+          refl,
+    )
+value-way (stage.Reference (Value Double) entity_name.L) h n =
+    inr (60, both (stage.Reference (Value Double) entity_name.L) words (token.Value 60 ∷ token.ValueEnds ∷ token.TagEnds false ∷ []) (codes "t;\">") refl refl)
+value-way (stage.Reference (Value Double) entity_name.Lt) h n =
+    inr (60, both (stage.Reference (Value Double) entity_name.Lt) words (token.Value 60 ∷ token.ValueEnds ∷ token.TagEnds false ∷ []) (codes ";\">") refl refl)
+value-way (stage.Reference (Value Double) entity_name.G) h n =
+    inr (62, both (stage.Reference (Value Double) entity_name.G) words (token.Value 62 ∷ token.ValueEnds ∷ token.TagEnds false ∷ []) (codes "t;\">") refl refl)
+value-way (stage.Reference (Value Double) entity_name.Gt) h n =
+    inr (62, both (stage.Reference (Value Double) entity_name.Gt) words (token.Value 62 ∷ token.ValueEnds ∷ token.TagEnds false ∷ []) (codes ";\">") refl refl)
+value-way (stage.Reference (Value Double) entity_name.Q) h n =
+    inr (
+      34,
+      both (stage.Reference (Value Double) entity_name.Q) words (token.Value 34 ∷ token.ValueEnds ∷ token.TagEnds false ∷ []) (codes "uot;\">") refl
+          refl,
+    )
+value-way (stage.Reference (Value Double) entity_name.Qu) h n =
+    inr (
+      34,
+      both (stage.Reference (Value Double) entity_name.Qu) words (token.Value 34 ∷ token.ValueEnds ∷ token.TagEnds false ∷ []) (codes "ot;\">") refl
+          refl,
+    )
+value-way (stage.Reference (Value Double) entity_name.Quo) h n =
+    inr (
+      34,
+      both (stage.Reference (Value Double) entity_name.Quo) words (token.Value 34 ∷ token.ValueEnds ∷ token.TagEnds false ∷ []) (codes "t;\">") refl
+          refl,
+    )
+value-way (stage.Reference (Value Double) entity_name.Quot) h n =
+    inr (
+      34,
+      both (stage.Reference (Value Double) entity_name.Quot) words (token.Value 34 ∷ token.ValueEnds ∷ token.TagEnds false ∷ []) (codes ";\">") refl
+          refl,
+    )
+value-way (stage.Hash (Value Double)) h n =
+    inr (32, both (stage.Hash (Value Double)) words (token.Value 32 ∷ token.ValueEnds ∷ token.TagEnds false ∷ []) (codes "32;\">") refl refl)
+value-way (stage.HashX (Value Double)) h n =
+    inr (32, both (stage.HashX (Value Double)) words (token.Value 32 ∷ token.ValueEnds ∷ token.TagEnds false ∷ []) (codes "20;\">") refl refl)
 value-way (stage.Text (Value Single)) h n = inl (both (stage.Text (Value Single)) words (token.ValueEnds ∷ token.TagEnds false ∷ []) (codes "'>") refl refl)
-value-way (stage.Reference (Value Single) entity_name.Empty) h n = inr (60, both (stage.Reference (Value Single) entity_name.Empty) words (token.Value 60 ∷ token.ValueEnds ∷ token.TagEnds false ∷ []) (codes "lt;'>") refl refl)
-value-way (stage.Reference (Value Single) entity_name.A) h n = inr (38, both (stage.Reference (Value Single) entity_name.A) words (token.Value 38 ∷ token.ValueEnds ∷ token.TagEnds false ∷ []) (codes "mp;'>") refl refl)
-value-way (stage.Reference (Value Single) entity_name.Am) h n = inr (38, both (stage.Reference (Value Single) entity_name.Am) words (token.Value 38 ∷ token.ValueEnds ∷ token.TagEnds false ∷ []) (codes "p;'>") refl refl)
-value-way (stage.Reference (Value Single) entity_name.Amp) h n = inr (38, both (stage.Reference (Value Single) entity_name.Amp) words (token.Value 38 ∷ token.ValueEnds ∷ token.TagEnds false ∷ []) (codes ";'>") refl refl)
-value-way (stage.Reference (Value Single) entity_name.Ap) h n = inr (39, both (stage.Reference (Value Single) entity_name.Ap) words (token.Value 39 ∷ token.ValueEnds ∷ token.TagEnds false ∷ []) (codes "os;'>") refl refl)
-value-way (stage.Reference (Value Single) entity_name.Apo) h n = inr (39, both (stage.Reference (Value Single) entity_name.Apo) words (token.Value 39 ∷ token.ValueEnds ∷ token.TagEnds false ∷ []) (codes "s;'>") refl refl)
-value-way (stage.Reference (Value Single) entity_name.Apos) h n = inr (39, both (stage.Reference (Value Single) entity_name.Apos) words (token.Value 39 ∷ token.ValueEnds ∷ token.TagEnds false ∷ []) (codes ";'>") refl refl)
-value-way (stage.Reference (Value Single) entity_name.L) h n = inr (60, both (stage.Reference (Value Single) entity_name.L) words (token.Value 60 ∷ token.ValueEnds ∷ token.TagEnds false ∷ []) (codes "t;'>") refl refl)
-value-way (stage.Reference (Value Single) entity_name.Lt) h n = inr (60, both (stage.Reference (Value Single) entity_name.Lt) words (token.Value 60 ∷ token.ValueEnds ∷ token.TagEnds false ∷ []) (codes ";'>") refl refl)
-value-way (stage.Reference (Value Single) entity_name.G) h n = inr (62, both (stage.Reference (Value Single) entity_name.G) words (token.Value 62 ∷ token.ValueEnds ∷ token.TagEnds false ∷ []) (codes "t;'>") refl refl)
-value-way (stage.Reference (Value Single) entity_name.Gt) h n = inr (62, both (stage.Reference (Value Single) entity_name.Gt) words (token.Value 62 ∷ token.ValueEnds ∷ token.TagEnds false ∷ []) (codes ";'>") refl refl)
-value-way (stage.Reference (Value Single) entity_name.Q) h n = inr (34, both (stage.Reference (Value Single) entity_name.Q) words (token.Value 34 ∷ token.ValueEnds ∷ token.TagEnds false ∷ []) (codes "uot;'>") refl refl)
-value-way (stage.Reference (Value Single) entity_name.Qu) h n = inr (34, both (stage.Reference (Value Single) entity_name.Qu) words (token.Value 34 ∷ token.ValueEnds ∷ token.TagEnds false ∷ []) (codes "ot;'>") refl refl)
-value-way (stage.Reference (Value Single) entity_name.Quo) h n = inr (34, both (stage.Reference (Value Single) entity_name.Quo) words (token.Value 34 ∷ token.ValueEnds ∷ token.TagEnds false ∷ []) (codes "t;'>") refl refl)
-value-way (stage.Reference (Value Single) entity_name.Quot) h n = inr (34, both (stage.Reference (Value Single) entity_name.Quot) words (token.Value 34 ∷ token.ValueEnds ∷ token.TagEnds false ∷ []) (codes ";'>") refl refl)
-value-way (stage.Hash (Value Single)) h n = inr (32, both (stage.Hash (Value Single)) words (token.Value 32 ∷ token.ValueEnds ∷ token.TagEnds false ∷ []) (codes "32;'>") refl refl)
-value-way (stage.HashX (Value Single)) h n = inr (32, both (stage.HashX (Value Single)) words (token.Value 32 ∷ token.ValueEnds ∷ token.TagEnds false ∷ []) (codes "20;'>") refl refl)
+value-way (stage.Reference (Value Single) entity_name.Empty) h n =
+    inr (
+      60,
+      both (stage.Reference (Value Single) entity_name.Empty) words (token.Value 60 ∷ token.ValueEnds ∷ token.TagEnds false ∷ []) (codes "lt;'>") refl
+          refl,
+    )
+value-way (stage.Reference (Value Single) entity_name.A) h n =
+    inr (38, both (stage.Reference (Value Single) entity_name.A) words (token.Value 38 ∷ token.ValueEnds ∷ token.TagEnds false ∷ []) (codes "mp;'>") refl refl)
+value-way (stage.Reference (Value Single) entity_name.Am) h n =
+    inr (38, both (stage.Reference (Value Single) entity_name.Am) words (token.Value 38 ∷ token.ValueEnds ∷ token.TagEnds false ∷ []) (codes "p;'>") refl refl)
+value-way (stage.Reference (Value Single) entity_name.Amp) h n =
+    inr (38, both (stage.Reference (Value Single) entity_name.Amp) words (token.Value 38 ∷ token.ValueEnds ∷ token.TagEnds false ∷ []) (codes ";'>") refl refl)
+value-way (stage.Reference (Value Single) entity_name.Ap) h n =
+    inr (39, both (stage.Reference (Value Single) entity_name.Ap) words (token.Value 39 ∷ token.ValueEnds ∷ token.TagEnds false ∷ []) (codes "os;'>") refl refl)
+value-way (stage.Reference (Value Single) entity_name.Apo) h n =
+    inr (39, both (stage.Reference (Value Single) entity_name.Apo) words (token.Value 39 ∷ token.ValueEnds ∷ token.TagEnds false ∷ []) (codes "s;'>") refl refl)
+value-way (stage.Reference (Value Single) entity_name.Apos) h n =
+    inr (39, both (stage.Reference (Value Single) entity_name.Apos) words (token.Value 39 ∷ token.ValueEnds ∷ token.TagEnds false ∷ []) (codes ";'>") refl refl)
+value-way (stage.Reference (Value Single) entity_name.L) h n =
+    inr (60, both (stage.Reference (Value Single) entity_name.L) words (token.Value 60 ∷ token.ValueEnds ∷ token.TagEnds false ∷ []) (codes "t;'>") refl refl)
+value-way (stage.Reference (Value Single) entity_name.Lt) h n =
+    inr (60, both (stage.Reference (Value Single) entity_name.Lt) words (token.Value 60 ∷ token.ValueEnds ∷ token.TagEnds false ∷ []) (codes ";'>") refl refl)
+value-way (stage.Reference (Value Single) entity_name.G) h n =
+    inr (62, both (stage.Reference (Value Single) entity_name.G) words (token.Value 62 ∷ token.ValueEnds ∷ token.TagEnds false ∷ []) (codes "t;'>") refl refl)
+value-way (stage.Reference (Value Single) entity_name.Gt) h n =
+    inr (62, both (stage.Reference (Value Single) entity_name.Gt) words (token.Value 62 ∷ token.ValueEnds ∷ token.TagEnds false ∷ []) (codes ";'>") refl refl)
+value-way (stage.Reference (Value Single) entity_name.Q) h n =
+    inr (34, both (stage.Reference (Value Single) entity_name.Q) words (token.Value 34 ∷ token.ValueEnds ∷ token.TagEnds false ∷ []) (codes "uot;'>") refl refl)
+value-way (stage.Reference (Value Single) entity_name.Qu) h n =
+    inr (34, both (stage.Reference (Value Single) entity_name.Qu) words (token.Value 34 ∷ token.ValueEnds ∷ token.TagEnds false ∷ []) (codes "ot;'>") refl refl)
+value-way (stage.Reference (Value Single) entity_name.Quo) h n =
+    inr (34, both (stage.Reference (Value Single) entity_name.Quo) words (token.Value 34 ∷ token.ValueEnds ∷ token.TagEnds false ∷ []) (codes "t;'>") refl refl)
+value-way (stage.Reference (Value Single) entity_name.Quot) h n =
+    inr (34, both (stage.Reference (Value Single) entity_name.Quot) words (token.Value 34 ∷ token.ValueEnds ∷ token.TagEnds false ∷ []) (codes ";'>") refl refl)
+value-way (stage.Hash (Value Single)) h n =
+    inr (32, both (stage.Hash (Value Single)) words (token.Value 32 ∷ token.ValueEnds ∷ token.TagEnds false ∷ []) (codes "32;'>") refl refl)
+value-way (stage.HashX (Value Single)) h n =
+    inr (32, both (stage.HashX (Value Single)) words (token.Value 32 ∷ token.ValueEnds ∷ token.TagEnds false ∷ []) (codes "20;'>") refl refl)
 value-way (stage.Number (Value q) base v) h n = absurd (let bad : true ≡ false = n in cc)
 value-way (stage.Text Words) h n = false-true h
 value-way (stage.Hash Words) h n = false-true h
@@ -198,21 +273,36 @@ content-way (stage.CdataBracketed Many) h live n m = inl (both (stage.CdataBrack
 content-way (stage.Fixed literal.Cdata i) h live n m = inl (cdata-way i live)
 content-way (stage.Hash Words) h live n m = inr (32, both (stage.Hash Words) end_mark (token.Word 32 ∷ []) (codes "32;</") refl refl, inl refl)
 content-way (stage.HashX Words) h live n m = inr (32, both (stage.HashX Words) end_mark (token.Word 32 ∷ []) (codes "20;</") refl refl, inl refl)
-content-way (stage.Reference Words entity_name.Empty) h live n m = inr (32, both (stage.Reference Words entity_name.Empty) end_mark (token.Word 32 ∷ []) (codes "#32;</") refl refl, inl refl)
-content-way (stage.Reference Words entity_name.A) h live n m = inr (38, both (stage.Reference Words entity_name.A) end_mark (token.Word 38 ∷ []) (codes "mp;</") refl refl, inr refl)
-content-way (stage.Reference Words entity_name.Am) h live n m = inr (38, both (stage.Reference Words entity_name.Am) end_mark (token.Word 38 ∷ []) (codes "p;</") refl refl, inr refl)
-content-way (stage.Reference Words entity_name.Amp) h live n m = inr (38, both (stage.Reference Words entity_name.Amp) end_mark (token.Word 38 ∷ []) (codes ";</") refl refl, inr refl)
-content-way (stage.Reference Words entity_name.Ap) h live n m = inr (39, both (stage.Reference Words entity_name.Ap) end_mark (token.Word 39 ∷ []) (codes "os;</") refl refl, inr refl)
-content-way (stage.Reference Words entity_name.Apo) h live n m = inr (39, both (stage.Reference Words entity_name.Apo) end_mark (token.Word 39 ∷ []) (codes "s;</") refl refl, inr refl)
-content-way (stage.Reference Words entity_name.Apos) h live n m = inr (39, both (stage.Reference Words entity_name.Apos) end_mark (token.Word 39 ∷ []) (codes ";</") refl refl, inr refl)
-content-way (stage.Reference Words entity_name.L) h live n m = inr (60, both (stage.Reference Words entity_name.L) end_mark (token.Word 60 ∷ []) (codes "t;</") refl refl, inr refl)
-content-way (stage.Reference Words entity_name.Lt) h live n m = inr (60, both (stage.Reference Words entity_name.Lt) end_mark (token.Word 60 ∷ []) (codes ";</") refl refl, inr refl)
-content-way (stage.Reference Words entity_name.G) h live n m = inr (62, both (stage.Reference Words entity_name.G) end_mark (token.Word 62 ∷ []) (codes "t;</") refl refl, inr refl)
-content-way (stage.Reference Words entity_name.Gt) h live n m = inr (62, both (stage.Reference Words entity_name.Gt) end_mark (token.Word 62 ∷ []) (codes ";</") refl refl, inr refl)
-content-way (stage.Reference Words entity_name.Q) h live n m = inr (34, both (stage.Reference Words entity_name.Q) end_mark (token.Word 34 ∷ []) (codes "uot;</") refl refl, inr refl)
-content-way (stage.Reference Words entity_name.Qu) h live n m = inr (34, both (stage.Reference Words entity_name.Qu) end_mark (token.Word 34 ∷ []) (codes "ot;</") refl refl, inr refl)
-content-way (stage.Reference Words entity_name.Quo) h live n m = inr (34, both (stage.Reference Words entity_name.Quo) end_mark (token.Word 34 ∷ []) (codes "t;</") refl refl, inr refl)
-content-way (stage.Reference Words entity_name.Quot) h live n m = inr (34, both (stage.Reference Words entity_name.Quot) end_mark (token.Word 34 ∷ []) (codes ";</") refl refl, inr refl)
+content-way (stage.Reference Words entity_name.Empty) h live n m =
+    inr (32, both (stage.Reference Words entity_name.Empty) end_mark (token.Word 32 ∷ []) (codes "#32;</") refl refl, inl refl)
+content-way (stage.Reference Words entity_name.A) h live n m =
+    inr (38, both (stage.Reference Words entity_name.A) end_mark (token.Word 38 ∷ []) (codes "mp;</") refl refl, inr refl)
+content-way (stage.Reference Words entity_name.Am) h live n m =
+    inr (38, both (stage.Reference Words entity_name.Am) end_mark (token.Word 38 ∷ []) (codes "p;</") refl refl, inr refl)
+content-way (stage.Reference Words entity_name.Amp) h live n m =
+    inr (38, both (stage.Reference Words entity_name.Amp) end_mark (token.Word 38 ∷ []) (codes ";</") refl refl, inr refl)
+content-way (stage.Reference Words entity_name.Ap) h live n m =
+    inr (39, both (stage.Reference Words entity_name.Ap) end_mark (token.Word 39 ∷ []) (codes "os;</") refl refl, inr refl)
+content-way (stage.Reference Words entity_name.Apo) h live n m =
+    inr (39, both (stage.Reference Words entity_name.Apo) end_mark (token.Word 39 ∷ []) (codes "s;</") refl refl, inr refl)
+content-way (stage.Reference Words entity_name.Apos) h live n m =
+    inr (39, both (stage.Reference Words entity_name.Apos) end_mark (token.Word 39 ∷ []) (codes ";</") refl refl, inr refl)
+content-way (stage.Reference Words entity_name.L) h live n m =
+    inr (60, both (stage.Reference Words entity_name.L) end_mark (token.Word 60 ∷ []) (codes "t;</") refl refl, inr refl)
+content-way (stage.Reference Words entity_name.Lt) h live n m =
+    inr (60, both (stage.Reference Words entity_name.Lt) end_mark (token.Word 60 ∷ []) (codes ";</") refl refl, inr refl)
+content-way (stage.Reference Words entity_name.G) h live n m =
+    inr (62, both (stage.Reference Words entity_name.G) end_mark (token.Word 62 ∷ []) (codes "t;</") refl refl, inr refl)
+content-way (stage.Reference Words entity_name.Gt) h live n m =
+    inr (62, both (stage.Reference Words entity_name.Gt) end_mark (token.Word 62 ∷ []) (codes ";</") refl refl, inr refl)
+content-way (stage.Reference Words entity_name.Q) h live n m =
+    inr (34, both (stage.Reference Words entity_name.Q) end_mark (token.Word 34 ∷ []) (codes "uot;</") refl refl, inr refl)
+content-way (stage.Reference Words entity_name.Qu) h live n m =
+    inr (34, both (stage.Reference Words entity_name.Qu) end_mark (token.Word 34 ∷ []) (codes "ot;</") refl refl, inr refl)
+content-way (stage.Reference Words entity_name.Quo) h live n m =
+    inr (34, both (stage.Reference Words entity_name.Quo) end_mark (token.Word 34 ∷ []) (codes "t;</") refl refl, inr refl)
+content-way (stage.Reference Words entity_name.Quot) h live n m =
+    inr (34, both (stage.Reference Words entity_name.Quot) end_mark (token.Word 34 ∷ []) (codes ";</") refl refl, inr refl)
 content-way (stage.Number Words base v) h live n m = absurd (let bad : true ≡ false = n in cc)
 content-way stage.EndTagMark h live n m = absurd (let bad : true ≡ false = m in cc)
 content-way (stage.Text (Value q)) h live n m = false-true h

@@ -90,7 +90,9 @@ plain-led s r b (stops f) h o = tt
 
 return-led : (s : Stage) (r : Bool) (b : ℕ) (t : Turn) → turn_moves (sort s) t ≡ true → turn_returns t ≡ true → Led (at s pending.Nothing r) b (settled true t)
 return-led s r b (goes t) h k = (h, refl, k)
-return-led s r b (tells_and_goes ts t) h k = let (a, n) = and_parts (may_return t) (not (has_name ts || is_end ts)) k in (h, no-name b ts (not-either (has_name ts) (is_end ts) (not-true (has_name ts || is_end ts) n)), a)
+return-led s r b (tells_and_goes ts t) h k = let (a, n) =
+    and_parts (may_return t) (not (has_name ts || is_end ts)) k
+    in (h, no-name b ts (not-either (has_name ts) (is_end ts) (not-true (has_name ts || is_end ts) n)), a)
 return-led s r b (stops f) h k = tt
 
 ascii-led : (s : Stage) (r : Bool) (b : ℕ) → calm (at s pending.Nothing r) ≡ true → Led (at s pending.Nothing r) b (turn_ascii (at s pending.Nothing r) b)
@@ -118,7 +120,8 @@ begun-sort s (pending.Three x y z) r b bs e = refl
 abbrev pub IsVoiced : Stage → Pending → Type 0
 IsVoiced s p = (r : Bool) (b low high n : ℕ) → has_between (class_of (allowed_at s)) low high ≡ true
     → ((may_move (sort_of (at s p r)) (byte_told (voice s) p b) (sort (through s)) ≡ true) × (own_byte b (byte_told (voice s) p b) ≡ b))
-    × ((may_move (sort_of (at s p r)) (byte_told (voice s) p b ++ end_told (voice s) n) (sort (through s)) ≡ true) × (own_byte b (byte_told (voice s) p b ++ end_told (voice s) n) ≡ b))
+    × ((may_move (sort_of (at s p r)) (byte_told (voice s) p b ++ end_told (voice s) n) (sort (through s)) ≡ true)
+    × (own_byte b (byte_told (voice s) p b ++ end_told (voice s) n) ≡ b))
 
 pub voiced : (s : Stage) (p : Pending) → IsVoiced s p
 unfolding allowed_at voice through
@@ -166,11 +169,13 @@ voiced (stage.Colon Attribute) pending.Nothing = λ r b low high n e. ((refl, re
 voiced (stage.Colon Attribute) p = λ r b low high n e. ((refl, refl), (refl, refl))
 voiced s p = λ r b low high n e. false-true e
 
-wide-led : (s : Stage) (p : Pending) (r : Bool) (b : ℕ) (x : Reach) → calm (at s p r) ≡ true → Spelt (bytes_of p ++ b ∷ []) x → Led (at s p r) b (turn_wide (at s p r) b x)
+wide-led : (s : Stage) (p : Pending) (r : Bool) (b : ℕ) (x : Reach) → calm (at s p r) ≡ true → Spelt (bytes_of p ++ b ∷ []) x
+    → Led (at s p r) b (turn_wide (at s p r) b x)
 unfolding turn_wide
 wide-led s p r b (Begun q low high) h spelt =
     cond_both (has_between (class_of (allowed_at s)) low high) _ _ (Led (at s p r) b)
-    (λ e. let v = (voiced s p r b low high 0 e).0 in (subst (λ (y : Sort). may_move (sort_of (at s p r)) (byte_told (voice s) p b) y ≡ true) (sym (begun-sort s q r b (bytes_of p) spelt.0)) v.0, v.1, h))
+    (λ e. let v = (voiced s p r b low high 0 e).0
+    in (subst (λ (y : Sort). may_move (sort_of (at s p r)) (byte_told (voice s) p b) y ≡ true) (sym (begun-sort s q r b (bytes_of p) spelt.0)) v.0, v.1, h))
     (λ e. tt)
 wide-led s p r b (Whole n) h spelt =
     cond_both (has_between (class_of (allowed_at s)) n n) _ _ (Led (at s p r) b)
@@ -183,6 +188,7 @@ turn-led st b h = led st.stage st.pending st.returned b h
   where
     led : (s : Stage) (p : Pending) (r : Bool) (b : ℕ) → calm (at s p r) ≡ true → Led (at s p r) b (turn (at s p r) b)
     led s pending.Nothing r b h =
-        cond_both (nat_lt b 128) (turn_ascii (at s pending.Nothing r) b) (turn_wide (at s pending.Nothing r) b (reach pending.Nothing b)) (Led (at s pending.Nothing r) b)
+        cond_both (nat_lt b 128) (turn_ascii (at s pending.Nothing r) b) (turn_wide (at s pending.Nothing r) b (reach pending.Nothing b))
+        (Led (at s pending.Nothing r) b)
         (λ e. ascii-led s r b h) (λ e. wide-led s pending.Nothing r b (reach pending.Nothing b) h (reach-spelt pending.Nothing b))
     led s p r b h = wide-led s p r b (reach p b) h (reach-spelt p b)

@@ -1,5 +1,6 @@
 -- The names that are gathered stay UTF-8 as bytes come, but for the bytes of a character that is not whole yet.
-use Rattle.std.proofs.Common.{◌≡◌, ℕ, ◌<◌, List, [], ◌∷◌, ◌++◌, append-nil, append_assoc, refl, sym, ap, ◌∙◌, subst, Bool, true, false, ◌&&◌, ◌==◌, nat_lt, arith}
+use Rattle.std.proofs.Common.{◌≡◌, ℕ, ◌<◌, List, [], ◌∷◌, ◌++◌, append-nil, append_assoc, refl, sym, ap, ◌∙◌, subst}
+use Rattle.std.proofs.Common.{Bool, true, false, ◌&&◌, ◌==◌, nat_lt, arith}
 use Rattle.std.proofs.lemmas.Bool.{cond_both, and_parts, and_from, ltb-true, lt-ltb}
 use Rattle.std.proofs.lemmas.Str.{IsUtf8-append, IsUtf8-nil, IsUtf8-encode}
 use Rattle.stanza_tree.proofs.Utf8Lemmas.{ascii-utf8}
@@ -57,7 +58,8 @@ grown : (name : List ℕ) (p q : Pending) (b : ℕ) → BeginsText name p → Gr
 grown name p q b (front, is, e) (text, also, k) = (
   front ++ text,
   IsUtf8-append front text is also,
-  ap (λ (l : List ℕ). l ++ b ∷ []) e ∙ (append_assoc front (bytes_of p) (b ∷ []) ∙ (ap (λ (l : List ℕ). front ++ l) k ∙ sym (append_assoc front text (bytes_of q)))),
+  ap (λ (l : List ℕ). l ++ b ∷ []) e
+      ∙ (append_assoc front (bytes_of p) (b ∷ []) ∙ (ap (λ (l : List ℕ). front ++ l) k ∙ sym (append_assoc front text (bytes_of q)))),
 )
 
 opened : (b : ℕ) (q : Pending) → Grows pending.Nothing b q → BeginsText (b ∷ []) q
@@ -107,11 +109,14 @@ equals-attr k c = refl
 attr-ascii : (s : Stage) (k : Kind) (c : ℕ) → in_a_tag (sort s) ≡ true → attr_turn c (ascii s k c) ≡ c
 unfolding ascii in_name in_tag
 attr-ascii (stage.Name Attribute h) k c e =
-    cond_both (is_name_further k) (tells_and_goes (token.AttrByte c ∷ []) (stage.Name Attribute h)) (after_part Attribute h k c) (λ (t : Turn). attr_turn c t ≡ c) (λ y. refl) (λ y. after-attr h k c)
+    cond_both (is_name_further k) (tells_and_goes (token.AttrByte c ∷ []) (stage.Name Attribute h)) (after_part Attribute h k c)
+    (λ (t : Turn). attr_turn c t ≡ c) (λ y. refl) (λ y. after-attr h k c)
 attr-ascii (stage.Colon Attribute) k c e =
-    cond_both (is_name_start k) (tells_and_goes (token.AttrByte c ∷ []) (stage.Name Attribute Local)) fault (λ (t : Turn). attr_turn c t ≡ c) (λ y. refl) (λ y. refl)
+    cond_both (is_name_start k) (tells_and_goes (token.AttrByte c ∷ []) (stage.Name Attribute Local)) fault (λ (t : Turn). attr_turn c t ≡ c) (λ y. refl)
+    (λ y. refl)
 attr-ascii stage.InTag k c e =
-    cond_both (is_name_start k) (tells_and_goes (token.AttrOpens c ∷ []) (stage.Name Attribute Prefix)) (in_tag_end k) (λ (t : Turn). attr_turn c t ≡ c) (λ y. refl) (λ y. tag-end-attr k c)
+    cond_both (is_name_start k) (tells_and_goes (token.AttrOpens c ∷ []) (stage.Name Attribute Prefix)) (in_tag_end k) (λ (t : Turn). attr_turn c t ≡ c)
+    (λ y. refl) (λ y. tag-end-attr k c)
 attr-ascii stage.ValueEnded k c e = tag-end-attr k c
 attr-ascii stage.ValueAwaited k c e = equals-attr k c
 attr-ascii stage.EmptyTagMark kinds.Space c e = refl
@@ -136,7 +141,8 @@ attr-ascii (stage.Number Words base v) k c e = false-true e
 attr-ascii (stage.Number (Value q) base v) k c e = false-true e
 attr-ascii s k c e = false-true e
 
-ascii-step : (x : Sort) (us : List Token) (y : Sort) (c : ℕ) (b : Building) → may_move x us y ≡ true → own_byte c us ≡ c → (in_a_tag x ≡ true → attr_byte c us ≡ c) → c < 128
+ascii-step : (x : Sort) (us : List Token) (y : Sort) (c : ℕ) (b : Building) → may_move x us y ≡ true → own_byte c us ≡ c
+    → (in_a_tag x ≡ true → attr_byte c us ≡ c) → c < 128
     → AreGathered x pending.Nothing b.tag → AreGathered y pending.Nothing (build_all b us).tag
 ascii-step x us at_begin c b h o a low g = tt
 ascii-step x us at_prolog c b h o a low g = tt
@@ -149,7 +155,8 @@ ascii-step at_name (token.NameByte n ∷ []) at_name c b h o a low (name, more) 
     (grown b.tag.name pending.Nothing pending.Nothing n name (ascii-grows n (subst (λ (i : ℕ). i < 128) (sym o) low)), more)
 ascii-step at_name [] at_tag c b h o a low (name, more) = (whole b.tag.name name, more)
 ascii-step at_tag [] at_tag c b h o a low g = g
-ascii-step at_tag (token.AttrOpens n ∷ []) at_attribute c b h o a low g = (g, opened n pending.Nothing (ascii-grows n (subst (λ (i : ℕ). i < 128) (sym (a refl)) low)))
+ascii-step at_tag (token.AttrOpens n ∷ []) at_attribute c b h o a low g =
+    (g, opened n pending.Nothing (ascii-grows n (subst (λ (i : ℕ). i < 128) (sym (a refl)) low)))
 ascii-step at_attribute [] at_attribute c b h o a low g = g
 ascii-step at_attribute (token.AttrByte n ∷ []) at_attribute c b h o a low (tag, name) =
     (tag, grown b.tag.attribute pending.Nothing pending.Nothing n name (ascii-grows n (subst (λ (i : ℕ). i < 128) (sym (a refl)) low)))
@@ -188,7 +195,8 @@ abbrev Led : Building → Outcome → Type 0
 Led b (leads to us) = (is_begun to.pending ≡ true) × AreGathered (sort_of to) to.pending (build_all b us).tag
 Led b (fails f) = Unit {0}
 
-settled-led : (s : Stage) (r : Bool) (c : ℕ) (t : Turn) (b : Building) → turn_moves (sort s) t ≡ true → turn_own c t ≡ c → (in_a_tag (sort s) ≡ true → attr_turn c t ≡ c) → c < 128
+settled-led : (s : Stage) (r : Bool) (c : ℕ) (t : Turn) (b : Building) → turn_moves (sort s) t ≡ true → turn_own c t ≡ c
+    → (in_a_tag (sort s) ≡ true → attr_turn c t ≡ c) → c < 128
     → AreGathered (sort s) pending.Nothing b.tag → Led b (settled r t)
 settled-led s r c (goes t) b h o a low g = (refl, ascii-step (sort s) [] (sort t) c b h o a low g)
 settled-led s r c (tells_and_goes ts t) b h o a low g = (refl, ascii-step (sort s) ts (sort t) c b h o a low g)
@@ -197,13 +205,16 @@ settled-led s r c (stops f) b h o a low g = tt
 low-ten : 10 < 128
 low-ten = omega arith
 
-ascii-led : (s : Stage) (r : Bool) (c : ℕ) (b : Building) → nat_lt c 128 ≡ true → AreGathered (sort s) pending.Nothing b.tag → Led b (turn_ascii (at s pending.Nothing r) c)
+ascii-led : (s : Stage) (r : Bool) (c : ℕ) (b : Building) → nat_lt c 128 ≡ true → AreGathered (sort s) pending.Nothing b.tag
+    → Led b (turn_ascii (at s pending.Nothing r) c)
 unfolding turn_ascii ascii_kind
 ascii-led s r c b low g =
     cond_both (r && c == 10) _ _ (Led b) (λ e. (refl, g))
     (λ f. cond_both (c == 13) _ _ (Led b)
-    (λ e. settled-led s true 10 (ascii s kinds.Space 10) b (moves-ascii s kinds.Space 10).0 (moves-ascii s kinds.Space 10).1 (attr-ascii s kinds.Space 10) low-ten g)
-    (λ e. settled-led s false c (ascii s (ascii_kind c) c) b (moves-ascii s (ascii_kind c) c).0 (moves-ascii s (ascii_kind c) c).1 (attr-ascii s (ascii_kind c) c) (ltb-true c 128 low) g))
+    (λ e. settled-led s true 10 (ascii s kinds.Space 10) b (moves-ascii s kinds.Space 10).0 (moves-ascii s kinds.Space 10).1 (attr-ascii s kinds.Space 10)
+    low-ten g)
+    (λ e. settled-led s false c (ascii s (ascii_kind c) c) b (moves-ascii s (ascii_kind c) c).0 (moves-ascii s (ascii_kind c) c).1
+    (attr-ascii s (ascii_kind c) c) (ltb-true c 128 low) g))
 
 -- A character from 128 on.
 
@@ -249,8 +260,10 @@ may_go p x us y = false
 
 abbrev Goes : Stage → Pending → Type 0
 Goes s p = (r : Bool) (b low high n : ℕ) → has_between (class_of (allowed_at s)) low high ≡ true
-    → ((may_go p (sort_of (at s p r)) (byte_told (voice s) p b) (sort (through s)) ≡ true) × (own_byte b (byte_told (voice s) p b) ≡ b) × (attr_byte b (byte_told (voice s) p b) ≡ b))
-    × ((may_go p (sort_of (at s p r)) (byte_told (voice s) p b ++ end_told (voice s) n) (sort (through s)) ≡ true) × (own_byte b (byte_told (voice s) p b ++ end_told (voice s) n) ≡ b)
+    → ((may_go p (sort_of (at s p r)) (byte_told (voice s) p b) (sort (through s)) ≡ true) × (own_byte b (byte_told (voice s) p b) ≡ b)
+    × (attr_byte b (byte_told (voice s) p b) ≡ b))
+    × ((may_go p (sort_of (at s p r)) (byte_told (voice s) p b ++ end_told (voice s) n) (sort (through s)) ≡ true)
+    × (own_byte b (byte_told (voice s) p b ++ end_told (voice s) n) ≡ b)
     × (attr_byte b (byte_told (voice s) p b ++ end_told (voice s) n) ≡ b))
 
 wide-goes : (s : Stage) (p : Pending) → Goes s p
@@ -299,7 +312,8 @@ wide-goes (stage.Colon Attribute) pending.Nothing = λ r b low high n e. ((refl,
 wide-goes (stage.Colon Attribute) p = λ r b low high n e. ((refl, refl, refl), (refl, refl, refl))
 wide-goes s p = λ r b low high n e. false-true e
 
-tag-opened : (p : Pending) (us : List Token) (q : Pending) (c : ℕ) (b : Building) → is_tag_open us ≡ true → is_nothing p ≡ true → own_byte c us ≡ c → Grows p c q → AreGathered at_name q (build_all b us).tag
+tag-opened : (p : Pending) (us : List Token) (q : Pending) (c : ℕ) (b : Building) → is_tag_open us ≡ true → is_nothing p ≡ true → own_byte c us ≡ c
+    → Grows p c q → AreGathered at_name q (build_all b us).tag
 tag-opened pending.Nothing (token.TagOpens n ∷ []) q c b h k o grows = (opened n q (subst (λ (i : ℕ). Grows pending.Nothing i q) (sym o) grows), tt)
 tag-opened pending.Nothing us q c b h k o grows = false-true h
 tag-opened p us q c b h k o grows = false-true k
@@ -309,7 +323,8 @@ tag-more : (p : Pending) (us : List Token) (q : Pending) (c : ℕ) (b : Building
 tag-more p (token.NameByte n ∷ []) q c b h o grows (name, more) = (grown b.tag.name p q n name (subst (λ (i : ℕ). Grows p i q) (sym o) grows), more)
 tag-more p us q c b h o grows g = false-true h
 
-attr-opened : (p : Pending) (us : List Token) (q : Pending) (c : ℕ) (b : Building) → is_attr_open us ≡ true → is_nothing p ≡ true → attr_byte c us ≡ c → Grows p c q
+attr-opened : (p : Pending) (us : List Token) (q : Pending) (c : ℕ) (b : Building) → is_attr_open us ≡ true → is_nothing p ≡ true → attr_byte c us ≡ c
+    → Grows p c q
     → AreGathered at_tag p b.tag → AreGathered at_attribute q (build_all b us).tag
 attr-opened pending.Nothing (token.AttrOpens n ∷ []) q c b h k o grows g = (g, opened n q (subst (λ (i : ℕ). Grows pending.Nothing i q) (sym o) grows))
 attr-opened pending.Nothing us q c b h k o grows g = false-true h
@@ -320,12 +335,14 @@ attr-more : (p : Pending) (us : List Token) (q : Pending) (c : ℕ) (b : Buildin
 attr-more p (token.AttrByte n ∷ []) q c b h o grows (tag, name) = (tag, grown b.tag.attribute p q n name (subst (λ (i : ℕ). Grows p i q) (sym o) grows))
 attr-more p us q c b h o grows g = false-true h
 
-value-more : (p : Pending) (us : List Token) (q : Pending) (b : Building) → is_of_value us ≡ true → AreGathered at_value p b.tag → AreGathered at_value q (build_all b us).tag
+value-more : (p : Pending) (us : List Token) (q : Pending) (b : Building) → is_of_value us ≡ true → AreGathered at_value p b.tag
+    → AreGathered at_value q (build_all b us).tag
 value-more p [] q b h g = g
 value-more p (token.Value n ∷ []) q b h g = g
 value-more p us q b h g = false-true h
 
-wide-step : (p : Pending) (x : Sort) (us : List Token) (y : Sort) (q : Pending) (c : ℕ) (b : Building) → may_go p x us y ≡ true → own_byte c us ≡ c → attr_byte c us ≡ c → Grows p c q
+wide-step : (p : Pending) (x : Sort) (us : List Token) (y : Sort) (q : Pending) (c : ℕ) (b : Building) → may_go p x us y ≡ true → own_byte c us ≡ c
+    → attr_byte c us ≡ c → Grows p c q
     → AreGathered x p b.tag → AreGathered y q (build_all b us).tag
 wide-step p x us at_begin q c b h o a grows g = tt
 wide-step p x us at_prolog q c b h o a grows g = tt
@@ -355,7 +372,8 @@ reached p b (Whole n) h e =
     spelt ∙ (ap (λ (l : List ℕ). (bytes_of p ++ b ∷ []) ++ l) left ∙ append-nil (bytes_of p ++ b ∷ []))
 reached p b Broken h e = tt
 
-wide-led : (s : Stage) (p : Pending) (r : Bool) (c : ℕ) (x : Reach) (b : Building) → IsReached (bytes_of p ++ c ∷ []) x → AreGathered (sort_of (at s p r)) p b.tag
+wide-led : (s : Stage) (p : Pending) (r : Bool) (c : ℕ) (x : Reach) (b : Building) → IsReached (bytes_of p ++ c ∷ []) x
+    → AreGathered (sort_of (at s p r)) p b.tag
     → Led b (turn_wide (at s p r) c x)
 unfolding turn_wide
 wide-led s p r c (Begun q low high) b (begun, spelt) g =
@@ -378,13 +396,16 @@ wide-led s p r c Broken b spelt g = tt
 
 -- Where a byte leads.
 
-turn-led : (s : Stage) (p : Pending) (r : Bool) (c : ℕ) (b : Building) → is_begun p ≡ true → AreGathered (sort_of (at s p r)) p b.tag → Led b (turn (at s p r) c)
+turn-led : (s : Stage) (p : Pending) (r : Bool) (c : ℕ) (b : Building) → is_begun p ≡ true → AreGathered (sort_of (at s p r)) p b.tag
+    → Led b (turn (at s p r) c)
 turn-led s pending.Nothing r c b h g =
     cond_both (nat_lt c 128) (turn_ascii (at s pending.Nothing r) c) (turn_wide (at s pending.Nothing r) c (reach pending.Nothing c)) (Led b)
-    (λ e. ascii-led s r c b e g) (λ e. wide-led s pending.Nothing r c (reach pending.Nothing c) b (reached pending.Nothing c (reach pending.Nothing c) h refl) g)
+    (λ e. ascii-led s r c b e g)
+    (λ e. wide-led s pending.Nothing r c (reach pending.Nothing c) b (reached pending.Nothing c (reach pending.Nothing c) h refl) g)
 turn-led s p r c b h g = wide-led s p r c (reach p c) b (reached p c (reach p c) h refl) g
 
-placed-texts : (r : Rules) (st : State) (n : Nest) (g : Gathered) → is_begun st.pending ≡ true → AreGathered (sort_of st) st.pending g → HasTexts (placed r st n) g
+placed-texts : (r : Rules) (st : State) (n : Nest) (g : Gathered) → is_begun st.pending ≡ true → AreGathered (sort_of st) st.pending g
+    → HasTexts (placed r st n) g
 placed-texts r st lost g h a = tt
 placed-texts r st (inside []) g h a = tt
 placed-texts r st n g h a = cond_both (goes_with r st n) (open_at st n) broken (λ (f : Frame). HasTexts f g) (λ e. (h, a)) (λ e. tt)

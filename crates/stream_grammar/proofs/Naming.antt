@@ -84,13 +84,15 @@ cond-named st false to b o h = h
 
 colon-turn : (r : Bool) (b : ℕ) (k : Kind) → EndsNamed (at (stage.Colon StartTag) pending.Nothing r) (settled false (ascii (stage.Colon StartTag) k b))
 unfolding ascii
-colon-turn r b k = cond_both (is_name_start k) _ _ (λ (t : Turn). EndsNamed (at (stage.Colon StartTag) pending.Nothing r) (settled false t)) (λ e bad. false-true (sym bad)) (λ e. tt)
+colon-turn r b k = cond_both (is_name_start k) _ _ (λ (t : Turn). EndsNamed (at (stage.Colon StartTag) pending.Nothing r) (settled false t))
+    (λ e bad. false-true (sym bad)) (λ e. tt)
 
 colon-space : (r : Bool) → EndsNamed (at (stage.Colon StartTag) pending.Nothing r) (settled true (ascii (stage.Colon StartTag) kinds.Space 10))
 unfolding ascii
 colon-space r = tt
 
-colon-ascii : (r : Bool) (b : ℕ) → r ≡ false → EndsNamed (at (stage.Colon StartTag) pending.Nothing r) (turn_ascii (at (stage.Colon StartTag) pending.Nothing r) b)
+colon-ascii : (r : Bool) (b : ℕ) → r ≡ false
+    → EndsNamed (at (stage.Colon StartTag) pending.Nothing r) (turn_ascii (at (stage.Colon StartTag) pending.Nothing r) b)
 unfolding turn_ascii ascii_kind
 colon-ascii true b e = absurd (let bad : true ≡ false = e in cc)
 colon-ascii false b e =
@@ -98,35 +100,63 @@ colon-ascii false b e =
 
 name-wide : (s : Stage) (p : Pending) (r : Bool) (b : ℕ) (x : Reach) → is_named (sort_of (at s p r)) ≡ true → EndsNamed (at s p r) (turn_wide (at s p r) b x)
 unfolding turn_wide allowed_at voice through
-name-wide (stage.Name StartTag Prefix) pending.Nothing r b (Begun q low high) h = cond-named (at (stage.Name StartTag Prefix) pending.Nothing r) (has_between (class_of (allowed_at (stage.Name StartTag Prefix))) low high) (at (stage.Name StartTag Prefix) q r) b _ tt
-name-wide (stage.Name StartTag Prefix) pending.Nothing r b (Whole n) h = cond-named (at (stage.Name StartTag Prefix) pending.Nothing r) (has_between (class_of (allowed_at (stage.Name StartTag Prefix))) n n) (at (through (stage.Name StartTag Prefix)) pending.Nothing false) b _ tt
+name-wide (stage.Name StartTag Prefix) pending.Nothing r b (Begun q low high) h =
+    cond-named (at (stage.Name StartTag Prefix) pending.Nothing r) (has_between (class_of (allowed_at (stage.Name StartTag Prefix))) low high)
+    (at (stage.Name StartTag Prefix) q r) b _ tt
+name-wide (stage.Name StartTag Prefix) pending.Nothing r b (Whole n) h =
+    cond-named (at (stage.Name StartTag Prefix) pending.Nothing r) (has_between (class_of (allowed_at (stage.Name StartTag Prefix))) n n)
+    (at (through (stage.Name StartTag Prefix)) pending.Nothing false) b _ tt
 name-wide (stage.Name StartTag Prefix) pending.Nothing r b Broken h = tt
-name-wide (stage.Name StartTag Prefix) p r b (Begun q low high) h = cond-named (at (stage.Name StartTag Prefix) p r) (has_between (class_of (allowed_at (stage.Name StartTag Prefix))) low high) (at (stage.Name StartTag Prefix) q r) b _ tt
-name-wide (stage.Name StartTag Prefix) p r b (Whole n) h = cond-named (at (stage.Name StartTag Prefix) p r) (has_between (class_of (allowed_at (stage.Name StartTag Prefix))) n n) (at (through (stage.Name StartTag Prefix)) pending.Nothing false) b _ tt
+name-wide (stage.Name StartTag Prefix) p r b (Begun q low high) h =
+    cond-named (at (stage.Name StartTag Prefix) p r) (has_between (class_of (allowed_at (stage.Name StartTag Prefix))) low high)
+    (at (stage.Name StartTag Prefix) q r) b _ tt
+name-wide (stage.Name StartTag Prefix) p r b (Whole n) h =
+    cond-named (at (stage.Name StartTag Prefix) p r) (has_between (class_of (allowed_at (stage.Name StartTag Prefix))) n n)
+    (at (through (stage.Name StartTag Prefix)) pending.Nothing false) b _ tt
 name-wide (stage.Name StartTag Prefix) p r b Broken h = tt
-name-wide (stage.Name StartTag Local) pending.Nothing r b (Begun q low high) h = cond-named (at (stage.Name StartTag Local) pending.Nothing r) (has_between (class_of (allowed_at (stage.Name StartTag Local))) low high) (at (stage.Name StartTag Local) q r) b _ tt
-name-wide (stage.Name StartTag Local) pending.Nothing r b (Whole n) h = cond-named (at (stage.Name StartTag Local) pending.Nothing r) (has_between (class_of (allowed_at (stage.Name StartTag Local))) n n) (at (through (stage.Name StartTag Local)) pending.Nothing false) b _ tt
+name-wide (stage.Name StartTag Local) pending.Nothing r b (Begun q low high) h =
+    cond-named (at (stage.Name StartTag Local) pending.Nothing r) (has_between (class_of (allowed_at (stage.Name StartTag Local))) low high)
+    (at (stage.Name StartTag Local) q r) b _ tt
+name-wide (stage.Name StartTag Local) pending.Nothing r b (Whole n) h =
+    cond-named (at (stage.Name StartTag Local) pending.Nothing r) (has_between (class_of (allowed_at (stage.Name StartTag Local))) n n)
+    (at (through (stage.Name StartTag Local)) pending.Nothing false) b _ tt
 name-wide (stage.Name StartTag Local) pending.Nothing r b Broken h = tt
-name-wide (stage.Name StartTag Local) p r b (Begun q low high) h = cond-named (at (stage.Name StartTag Local) p r) (has_between (class_of (allowed_at (stage.Name StartTag Local))) low high) (at (stage.Name StartTag Local) q r) b _ tt
-name-wide (stage.Name StartTag Local) p r b (Whole n) h = cond-named (at (stage.Name StartTag Local) p r) (has_between (class_of (allowed_at (stage.Name StartTag Local))) n n) (at (through (stage.Name StartTag Local)) pending.Nothing false) b _ tt
+name-wide (stage.Name StartTag Local) p r b (Begun q low high) h =
+    cond-named (at (stage.Name StartTag Local) p r) (has_between (class_of (allowed_at (stage.Name StartTag Local))) low high)
+    (at (stage.Name StartTag Local) q r) b _ tt
+name-wide (stage.Name StartTag Local) p r b (Whole n) h =
+    cond-named (at (stage.Name StartTag Local) p r) (has_between (class_of (allowed_at (stage.Name StartTag Local))) n n)
+    (at (through (stage.Name StartTag Local)) pending.Nothing false) b _ tt
 name-wide (stage.Name StartTag Local) p r b Broken h = tt
-name-wide (stage.Colon StartTag) pending.Nothing r b (Begun q low high) h = cond-named (at (stage.Colon StartTag) pending.Nothing r) (has_between (class_of (allowed_at (stage.Colon StartTag))) low high) (at (stage.Colon StartTag) q r) b _ tt
-name-wide (stage.Colon StartTag) pending.Nothing r b (Whole n) h = cond-named (at (stage.Colon StartTag) pending.Nothing r) (has_between (class_of (allowed_at (stage.Colon StartTag))) n n) (at (through (stage.Colon StartTag)) pending.Nothing false) b _ tt
+name-wide (stage.Colon StartTag) pending.Nothing r b (Begun q low high) h =
+    cond-named (at (stage.Colon StartTag) pending.Nothing r) (has_between (class_of (allowed_at (stage.Colon StartTag))) low high)
+    (at (stage.Colon StartTag) q r) b _ tt
+name-wide (stage.Colon StartTag) pending.Nothing r b (Whole n) h =
+    cond-named (at (stage.Colon StartTag) pending.Nothing r) (has_between (class_of (allowed_at (stage.Colon StartTag))) n n)
+    (at (through (stage.Colon StartTag)) pending.Nothing false) b _ tt
 name-wide (stage.Colon StartTag) pending.Nothing r b Broken h = tt
-name-wide (stage.Colon StartTag) p r b (Begun q low high) h = cond-named (at (stage.Colon StartTag) p r) (has_between (class_of (allowed_at (stage.Colon StartTag))) low high) (at (stage.Colon StartTag) q r) b _ tt
-name-wide (stage.Colon StartTag) p r b (Whole n) h = cond-named (at (stage.Colon StartTag) p r) (has_between (class_of (allowed_at (stage.Colon StartTag))) n n) (at (through (stage.Colon StartTag)) pending.Nothing false) b _ tt
+name-wide (stage.Colon StartTag) p r b (Begun q low high) h =
+    cond-named (at (stage.Colon StartTag) p r) (has_between (class_of (allowed_at (stage.Colon StartTag))) low high) (at (stage.Colon StartTag) q r) b _ tt
+name-wide (stage.Colon StartTag) p r b (Whole n) h = cond-named (at (stage.Colon StartTag) p r) (has_between (class_of (allowed_at (stage.Colon StartTag))) n n)
+    (at (through (stage.Colon StartTag)) pending.Nothing false) b _ tt
 name-wide (stage.Colon StartTag) p r b Broken h = tt
 name-wide stage.StartLess pending.Nothing r b x h = false-true h
-name-wide stage.StartLess p r b (Begun q low high) h = cond-named (at stage.StartLess p r) (has_between (class_of (allowed_at stage.StartLess)) low high) (at stage.StartLess q r) b _ tt
-name-wide stage.StartLess p r b (Whole n) h = cond-named (at stage.StartLess p r) (has_between (class_of (allowed_at stage.StartLess)) n n) (at (through stage.StartLess) pending.Nothing false) b _ tt
+name-wide stage.StartLess p r b (Begun q low high) h = cond-named (at stage.StartLess p r) (has_between (class_of (allowed_at stage.StartLess)) low high)
+    (at stage.StartLess q r) b _ tt
+name-wide stage.StartLess p r b (Whole n) h =
+    cond-named (at stage.StartLess p r) (has_between (class_of (allowed_at stage.StartLess)) n n) (at (through stage.StartLess) pending.Nothing false) b _ tt
 name-wide stage.StartLess p r b Broken h = tt
 name-wide stage.PrologLess pending.Nothing r b x h = false-true h
-name-wide stage.PrologLess p r b (Begun q low high) h = cond-named (at stage.PrologLess p r) (has_between (class_of (allowed_at stage.PrologLess)) low high) (at stage.PrologLess q r) b _ tt
-name-wide stage.PrologLess p r b (Whole n) h = cond-named (at stage.PrologLess p r) (has_between (class_of (allowed_at stage.PrologLess)) n n) (at (through stage.PrologLess) pending.Nothing false) b _ tt
+name-wide stage.PrologLess p r b (Begun q low high) h = cond-named (at stage.PrologLess p r) (has_between (class_of (allowed_at stage.PrologLess)) low high)
+    (at stage.PrologLess q r) b _ tt
+name-wide stage.PrologLess p r b (Whole n) h =
+    cond-named (at stage.PrologLess p r) (has_between (class_of (allowed_at stage.PrologLess)) n n) (at (through stage.PrologLess) pending.Nothing false) b _ tt
 name-wide stage.PrologLess p r b Broken h = tt
 name-wide stage.Less pending.Nothing r b x h = false-true h
-name-wide stage.Less p r b (Begun q low high) h = cond-named (at stage.Less p r) (has_between (class_of (allowed_at stage.Less)) low high) (at stage.Less q r) b _ tt
-name-wide stage.Less p r b (Whole n) h = cond-named (at stage.Less p r) (has_between (class_of (allowed_at stage.Less)) n n) (at (through stage.Less) pending.Nothing false) b _ tt
+name-wide stage.Less p r b (Begun q low high) h = cond-named (at stage.Less p r) (has_between (class_of (allowed_at stage.Less)) low high) (at stage.Less q r) b
+    _ tt
+name-wide stage.Less p r b (Whole n) h =
+    cond-named (at stage.Less p r) (has_between (class_of (allowed_at stage.Less)) n n) (at (through stage.Less) pending.Nothing false) b _ tt
 name-wide stage.Less p r b Broken h = tt
 name-wide (stage.Text Words) pending.Nothing r b x h = false-true h
 name-wide (stage.Text (Value q)) pending.Nothing r b x h = false-true h
@@ -168,11 +198,15 @@ ends-always st (leads to us) e = λ h. e
 ends-always st (fails f) e = tt
 
 -- a name that goes no further may be an end tag's
-name-ends : (s : Stage) (p : Pending) (r : Bool) (b : ℕ) → is_named (sort_of (at s p r)) ≡ true → calm (at s p r) ≡ true → EndsNamed (at s p r) (turn (at s p r) b)
-name-ends (stage.Name StartTag Prefix) pending.Nothing r b h c = ends-always (at (stage.Name StartTag Prefix) pending.Nothing r) _ (name-ends-at Prefix r (not-returned r c))
-name-ends (stage.Name StartTag Local) pending.Nothing r b h c = ends-always (at (stage.Name StartTag Local) pending.Nothing r) _ (name-ends-at Local r (not-returned r c))
+name-ends : (s : Stage) (p : Pending) (r : Bool) (b : ℕ) → is_named (sort_of (at s p r)) ≡ true → calm (at s p r) ≡ true
+    → EndsNamed (at s p r) (turn (at s p r) b)
+name-ends (stage.Name StartTag Prefix) pending.Nothing r b h c =
+    ends-always (at (stage.Name StartTag Prefix) pending.Nothing r) _ (name-ends-at Prefix r (not-returned r c))
+name-ends (stage.Name StartTag Local) pending.Nothing r b h c =
+    ends-always (at (stage.Name StartTag Local) pending.Nothing r) _ (name-ends-at Local r (not-returned r c))
 name-ends (stage.Colon StartTag) pending.Nothing r b h c =
-    cond_both (nat_lt b 128) _ _ (EndsNamed (at (stage.Colon StartTag) pending.Nothing r)) (λ e. colon-ascii r b (not-returned r c)) (λ e. name-wide (stage.Colon StartTag) pending.Nothing r b (reach pending.Nothing b) h)
+    cond_both (nat_lt b 128) _ _ (EndsNamed (at (stage.Colon StartTag) pending.Nothing r)) (λ e. colon-ascii r b (not-returned r c))
+    (λ e. name-wide (stage.Colon StartTag) pending.Nothing r b (reach pending.Nothing b) h)
 name-ends s (pending.One x) r b h c = name-wide s (pending.One x) r b (reach (pending.One x) b) h
 name-ends s (pending.Two x y) r b h c = name-wide s (pending.Two x y) r b (reach (pending.Two x y) b) h
 name-ends s (pending.Three x y z) r b h c = name-wide s (pending.Three x y z) r b (reach (pending.Three x y z) b) h
@@ -194,7 +228,8 @@ name-ends (stage.Name Attribute u) pending.Nothing r b h c = false-true h
 name-ends (stage.Colon Attribute) pending.Nothing r b h c = false-true h
 name-ends s pending.Nothing r b h c = false-true h
 
-pub name-done : (st to : State) (b : ℕ) (us : List Token) → turn st b ≡ leads to us → has_name us ≡ false → sort_of st ≡ at_name → calm st ≡ true → Ends (twin st)
+pub name-done : (st to : State) (b : ℕ) (us : List Token) → turn st b ≡ leads to us → has_name us ≡ false → sort_of st ≡ at_name → calm st ≡ true
+    → Ends (twin st)
 name-done st to b us e h k c =
     let f : EndsNamed st (leads to us) = subst (EndsNamed st) e (name-ends st.stage st.pending st.returned b (ap is_named k) c) in f h
 
@@ -216,9 +251,11 @@ first-so_far st to b x e c =
     let own = let l : Led st b (leads to (token.TagOpens x ∷ [])) = subst (Led st b) e (turn-led st b c) in l.1 in
     (twin to, subst (λ (y : ℕ). turn end_mark y ≡ leads (twin to) (token.CloseOpens x ∷ [])) (sym own) t, refl)
 
-pub next-so_far : (st to : State) (b x : ℕ) (n : RawName) → turn st b ≡ leads to (token.NameByte x ∷ []) → calm st ≡ true → sort_of st ≡ at_name → SoFar st n → SoFar to (n.0, n.1 ++ x ∷ [])
+pub next-so_far : (st to : State) (b x : ℕ) (n : RawName) → turn st b ≡ leads to (token.NameByte x ∷ []) → calm st ≡ true → sort_of st ≡ at_name → SoFar st n
+    → SoFar to (n.0, n.1 ++ x ∷ [])
 next-so_far st to b x n e c k (s1, f, run) =
-    let t : turn (twin st) b ≡ leads (twin to) (token.NameByte x ∷ []) = subst (λ (o : Outcome). TwinnedNext o (turn (twin st) b)) e (next-twin st b (ap is_named k)) in
+    let t : turn (twin st) b ≡ leads (twin to) (token.NameByte x ∷ []) =
+    subst (λ (o : Outcome). TwinnedNext o (turn (twin st) b)) e (next-twin st b (ap is_named k)) in
     let own = let l : Led st b (leads to (token.NameByte x ∷ [])) = subst (Led st b) e (turn-led st b c) in l.1 in
     (s1, f, run-snoc n.1 s1 (twin st) (twin to) x run (subst (λ (y : ℕ). turn (twin st) y ≡ leads (twin to) (token.NameByte x ∷ [])) (sym own) t))
 
@@ -247,17 +284,20 @@ twin-same (stage.Colon Attribute) p r h = refl
 twin-same s p r h = refl
 
 -- an end tag's name that begins as that of the open element
-pub first-ready : (st to : State) (b x : ℕ) (m : RawName) → turn st b ≡ leads to (token.CloseOpens x ∷ []) → calm st ≡ true → sort_of to ≡ at_ending → x ≡ m.0 → Closable m → CloseReady to m.1
+pub first-ready : (st to : State) (b x : ℕ) (m : RawName) → turn st b ≡ leads to (token.CloseOpens x ∷ []) → calm st ≡ true → sort_of to ≡ at_ending → x ≡ m.0
+    → Closable m → CloseReady to m.1
 unfolding is_ending
 first-ready st to b x m e c k same (s1, f, ready) =
     let t : turn end_mark b ≡ leads (twin to) (token.CloseOpens x ∷ []) = subst (λ (o : Outcome). Twinned o (turn end_mark b)) e (first-twin st b c) in
     let own = let l : Led st b (leads to (token.CloseOpens x ∷ [])) = subst (Led st b) e (turn-led st b c) in l.1 in
-    let g : turn end_mark b ≡ leads s1 (token.CloseOpens m.0 ∷ []) = subst (λ (y : ℕ). turn end_mark y ≡ leads s1 (token.CloseOpens m.0 ∷ [])) (sym same ∙ own) f in
+    let g : turn end_mark b ≡ leads s1 (token.CloseOpens m.0 ∷ []) = subst (λ (y : ℕ). turn end_mark y ≡ leads s1 (token.CloseOpens m.0 ∷ [])) (sym same
+    ∙ own) f in
     let h : s1 ≡ to = leads-same s1 (twin to) _ _ (sym g ∙ t) ∙ twin-same to.stage to.pending to.returned (ap is_ending k) in
     subst (λ (s : State). CloseReady s m.1) h ready
 
 -- and goes on as it
-pub next-ready : (st to : State) (b x y : ℕ) (m : List ℕ) → turn st b ≡ leads to (token.NameByte x ∷ []) → calm st ≡ true → x ≡ y → CloseReady st (y ∷ m) → CloseReady to m
+pub next-ready : (st to : State) (b x y : ℕ) (m : List ℕ) → turn st b ≡ leads to (token.NameByte x ∷ []) → calm st ≡ true → x ≡ y → CloseReady st (y ∷ m)
+    → CloseReady to m
 next-ready st to b x y m e c same (s2, (s1, f, run), ends) =
     let own = let l : Led st b (leads to (token.NameByte x ∷ [])) = subst (Led st b) e (turn-led st b c) in l.1 in
     let g : turn st b ≡ leads s1 (token.NameByte y ∷ []) = subst (λ (z : ℕ). turn st z ≡ leads s1 (token.NameByte y ∷ [])) (sym same ∙ own) f in
@@ -308,7 +348,8 @@ unfolding ascii in_tag
 still-named_return = (refl, named-end true)
 
 -- between two characters
-still-ascii : (s : Stage) (r : Bool) (b : ℕ) → (r ≡ true → Still (leads (at s pending.Nothing false) [])) → Still (settled true (ascii s kinds.Space 10)) → ((k : Kind) → Still (settled false (ascii s k b)))
+still-ascii : (s : Stage) (r : Bool) (b : ℕ) → (r ≡ true → Still (leads (at s pending.Nothing false) [])) → Still (settled true (ascii s kinds.Space 10))
+    → ((k : Kind) → Still (settled false (ascii s k b)))
     → Still (turn_ascii (at s pending.Nothing r) b)
 unfolding turn_ascii ascii_kind
 still-ascii s r b f g h =
@@ -320,22 +361,33 @@ never false e f = false-true f
 
 still-wide : (s : Stage) (p : Pending) (r : Bool) (b : ℕ) (x : Reach) → is_ending (sort_of (at s p r)) ≡ true → Still (turn_wide (at s p r) b x)
 unfolding is_ending turn_wide allowed_at voice through
-still-wide (stage.Name EndTag Prefix) pending.Nothing r b (Begun q low high) h = cond_both (has_between (class_of (allowed_at (stage.Name EndTag Prefix))) low high) _ _ Still (λ e. tt) (λ e. tt)
-still-wide (stage.Name EndTag Prefix) pending.Nothing r b (Whole n) h = cond_both (has_between (class_of (allowed_at (stage.Name EndTag Prefix))) n n) _ _ Still (λ e. tt) (λ e. tt)
+still-wide (stage.Name EndTag Prefix) pending.Nothing r b (Begun q low high) h =
+    cond_both (has_between (class_of (allowed_at (stage.Name EndTag Prefix))) low high) _ _ Still (λ e. tt) (λ e. tt)
+still-wide (stage.Name EndTag Prefix) pending.Nothing r b (Whole n) h =
+    cond_both (has_between (class_of (allowed_at (stage.Name EndTag Prefix))) n n) _ _ Still (λ e. tt) (λ e. tt)
 still-wide (stage.Name EndTag Prefix) pending.Nothing r b Broken h = tt
-still-wide (stage.Name EndTag Prefix) p r b (Begun q low high) h = cond_both (has_between (class_of (allowed_at (stage.Name EndTag Prefix))) low high) _ _ Still (λ e. tt) (λ e. tt)
-still-wide (stage.Name EndTag Prefix) p r b (Whole n) h = cond_both (has_between (class_of (allowed_at (stage.Name EndTag Prefix))) n n) _ _ Still (λ e. tt) (λ e. tt)
+still-wide (stage.Name EndTag Prefix) p r b (Begun q low high) h =
+    cond_both (has_between (class_of (allowed_at (stage.Name EndTag Prefix))) low high) _ _ Still (λ e. tt) (λ e. tt)
+still-wide (stage.Name EndTag Prefix) p r b (Whole n) h = cond_both (has_between (class_of (allowed_at (stage.Name EndTag Prefix))) n n) _ _ Still (λ e. tt)
+    (λ e. tt)
 still-wide (stage.Name EndTag Prefix) p r b Broken h = tt
-still-wide (stage.Name EndTag Local) pending.Nothing r b (Begun q low high) h = cond_both (has_between (class_of (allowed_at (stage.Name EndTag Local))) low high) _ _ Still (λ e. tt) (λ e. tt)
-still-wide (stage.Name EndTag Local) pending.Nothing r b (Whole n) h = cond_both (has_between (class_of (allowed_at (stage.Name EndTag Local))) n n) _ _ Still (λ e. tt) (λ e. tt)
+still-wide (stage.Name EndTag Local) pending.Nothing r b (Begun q low high) h =
+    cond_both (has_between (class_of (allowed_at (stage.Name EndTag Local))) low high) _ _ Still (λ e. tt) (λ e. tt)
+still-wide (stage.Name EndTag Local) pending.Nothing r b (Whole n) h =
+    cond_both (has_between (class_of (allowed_at (stage.Name EndTag Local))) n n) _ _ Still (λ e. tt) (λ e. tt)
 still-wide (stage.Name EndTag Local) pending.Nothing r b Broken h = tt
-still-wide (stage.Name EndTag Local) p r b (Begun q low high) h = cond_both (has_between (class_of (allowed_at (stage.Name EndTag Local))) low high) _ _ Still (λ e. tt) (λ e. tt)
-still-wide (stage.Name EndTag Local) p r b (Whole n) h = cond_both (has_between (class_of (allowed_at (stage.Name EndTag Local))) n n) _ _ Still (λ e. tt) (λ e. tt)
+still-wide (stage.Name EndTag Local) p r b (Begun q low high) h =
+    cond_both (has_between (class_of (allowed_at (stage.Name EndTag Local))) low high) _ _ Still (λ e. tt) (λ e. tt)
+still-wide (stage.Name EndTag Local) p r b (Whole n) h = cond_both (has_between (class_of (allowed_at (stage.Name EndTag Local))) n n) _ _ Still (λ e. tt)
+    (λ e. tt)
 still-wide (stage.Name EndTag Local) p r b Broken h = tt
-still-wide (stage.Colon EndTag) pending.Nothing r b (Begun q low high) h = cond_both (has_between (class_of (allowed_at (stage.Colon EndTag))) low high) _ _ Still (λ e. tt) (λ e. tt)
-still-wide (stage.Colon EndTag) pending.Nothing r b (Whole n) h = cond_both (has_between (class_of (allowed_at (stage.Colon EndTag))) n n) _ _ Still (λ e. tt) (λ e. tt)
+still-wide (stage.Colon EndTag) pending.Nothing r b (Begun q low high) h =
+    cond_both (has_between (class_of (allowed_at (stage.Colon EndTag))) low high) _ _ Still (λ e. tt) (λ e. tt)
+still-wide (stage.Colon EndTag) pending.Nothing r b (Whole n) h =
+    cond_both (has_between (class_of (allowed_at (stage.Colon EndTag))) n n) _ _ Still (λ e. tt) (λ e. tt)
 still-wide (stage.Colon EndTag) pending.Nothing r b Broken h = tt
-still-wide (stage.Colon EndTag) p r b (Begun q low high) h = cond_both (has_between (class_of (allowed_at (stage.Colon EndTag))) low high) _ _ Still (λ e. tt) (λ e. tt)
+still-wide (stage.Colon EndTag) p r b (Begun q low high) h = cond_both (has_between (class_of (allowed_at (stage.Colon EndTag))) low high) _ _ Still (λ e. tt)
+    (λ e. tt)
 still-wide (stage.Colon EndTag) p r b (Whole n) h = cond_both (has_between (class_of (allowed_at (stage.Colon EndTag))) n n) _ _ Still (λ e. tt) (λ e. tt)
 still-wide (stage.Colon EndTag) p r b Broken h = tt
 still-wide stage.EndTagMark pending.Nothing r b x h = false-true h
@@ -386,13 +438,19 @@ still-wide s p r b x h = false-true h
 still : (s : Stage) (p : Pending) (r : Bool) (b : ℕ) → is_ending (sort_of (at s p r)) ≡ true → calm (at s p r) ≡ true → Still (turn (at s p r) b)
 unfolding is_ending
 still (stage.Name EndTag Prefix) pending.Nothing r b h c =
-    cond_both (nat_lt b 128) _ _ Still (λ e. still-ascii (stage.Name EndTag Prefix) r b (never r (not-returned r c)) (still-return Prefix) (λ k. still-name Prefix k b)) (λ e. still-wide (stage.Name EndTag Prefix) pending.Nothing r b (reach pending.Nothing b) h)
+    cond_both (nat_lt b 128) _ _ Still
+    (λ e. still-ascii (stage.Name EndTag Prefix) r b (never r (not-returned r c)) (still-return Prefix) (λ k. still-name Prefix k b))
+    (λ e. still-wide (stage.Name EndTag Prefix) pending.Nothing r b (reach pending.Nothing b) h)
 still (stage.Name EndTag Local) pending.Nothing r b h c =
-    cond_both (nat_lt b 128) _ _ Still (λ e. still-ascii (stage.Name EndTag Local) r b (never r (not-returned r c)) (still-return Local) (λ k. still-name Local k b)) (λ e. still-wide (stage.Name EndTag Local) pending.Nothing r b (reach pending.Nothing b) h)
+    cond_both (nat_lt b 128) _ _ Still
+    (λ e. still-ascii (stage.Name EndTag Local) r b (never r (not-returned r c)) (still-return Local) (λ k. still-name Local k b))
+    (λ e. still-wide (stage.Name EndTag Local) pending.Nothing r b (reach pending.Nothing b) h)
 still (stage.Colon EndTag) pending.Nothing r b h c =
-    cond_both (nat_lt b 128) _ _ Still (λ e. still-ascii (stage.Colon EndTag) r b (never r (not-returned r c)) still-colon_return (λ k. still-colon k b)) (λ e. still-wide (stage.Colon EndTag) pending.Nothing r b (reach pending.Nothing b) h)
+    cond_both (nat_lt b 128) _ _ Still (λ e. still-ascii (stage.Colon EndTag) r b (never r (not-returned r c)) still-colon_return (λ k. still-colon k b))
+    (λ e. still-wide (stage.Colon EndTag) pending.Nothing r b (reach pending.Nothing b) h)
 still stage.EndTagNamed pending.Nothing r b h c =
-    cond_both (nat_lt b 128) _ _ Still (λ e. still-ascii stage.EndTagNamed r b (λ e. (refl, named-end false)) still-named_return (λ k. still-named k b)) (λ e. still-wide stage.EndTagNamed pending.Nothing r b (reach pending.Nothing b) h)
+    cond_both (nat_lt b 128) _ _ Still (λ e. still-ascii stage.EndTagNamed r b (λ e. (refl, named-end false)) still-named_return (λ k. still-named k b))
+    (λ e. still-wide stage.EndTagNamed pending.Nothing r b (reach pending.Nothing b) h)
 still s (pending.One x) r b h c = still-wide s (pending.One x) r b (reach (pending.One x) b) h
 still s (pending.Two x y) r b h c = still-wide s (pending.Two x y) r b (reach (pending.Two x y) b) h
 still s (pending.Three x y z) r b h c = still-wide s (pending.Three x y z) r b (reach (pending.Three x y z) b) h
@@ -414,6 +472,7 @@ still (stage.Name Attribute u) pending.Nothing r b h c = false-true h
 still (stage.Colon Attribute) pending.Nothing r b h c = false-true h
 still s pending.Nothing r b h c = false-true h
 
-pub ending-still : (st to : State) (b : ℕ) → turn st b ≡ leads to [] → sort_of st ≡ at_ending → calm st ≡ true → (is_after_end_name to.stage ≡ true) × (turn to 62 ≡ leads words (token.CloseEnds ∷ []))
+pub ending-still : (st to : State) (b : ℕ) → turn st b ≡ leads to [] → sort_of st ≡ at_ending → calm st ≡ true
+    → (is_after_end_name to.stage ≡ true) × (turn to 62 ≡ leads words (token.CloseEnds ∷ []))
 unfolding is_ending
 ending-still st to b e k c = let f : Still (leads to []) = subst Still e (still st.stage st.pending st.returned b (ap is_ending k) c) in f

@@ -57,12 +57,15 @@ hollow-from : (r : Rules) (st : List RawName) (n : RawName) (ts : List Token) �
 hollow-from r [] n ts m = absurd m
 hollow-from r (x ∷ st) n ts m = m
 
-ends-to : (r : Rules) (st : List RawName) (n : RawName) (k : ℕ) (e : Bool) (ts : List Token) → AfterTag r st n e ts → Leaves r (after_name r st n k (token.TagEnds e)) ts
+ends-to : (r : Rules) (st : List RawName) (n : RawName) (k : ℕ) (e : Bool) (ts : List Token) → AfterTag r st n e ts
+    → Leaves r (after_name r st n k (token.TagEnds e)) ts
 ends-to r st n k true ts m = hollow-to r st n ts m
 ends-to r st n k false ts m = m
 
-attribute-to : (r : Rules) (st : List RawName) (n : RawName) (k : ℕ) (x : RawAttribute) (xs : List RawAttribute) (e : Bool) (ts rest : List Token) → k + length (x ∷ xs) ≤ r.attributes
-    → ts ≡ map token.AttrByte x.name.1 ++ (token.ValueOpens ∷ (map token.Value x.value ++ (token.ValueEnds ∷ (attributes_tokens xs ++ (token.TagEnds e ∷ rest)))))
+attribute-to : (r : Rules) (st : List RawName) (n : RawName) (k : ℕ) (x : RawAttribute) (xs : List RawAttribute) (e : Bool) (ts rest : List Token)
+    → k + length (x ∷ xs) ≤ r.attributes
+    → ts ≡ map token.AttrByte x.name.1
+    ++ (token.ValueOpens ∷ (map token.Value x.value ++ (token.ValueEnds ∷ (attributes_tokens xs ++ (token.TagEnds e ∷ rest)))))
     → AfterTag r st n e rest → Leaves r (after_name r st n k (token.AttrOpens x.name.0)) ts
 attribute-to r st n k x xs e ts rest few is m =
     cond-leaves r (nat_lt k r.attributes) (naming_attribute st n (k + 1)) ts (lt-ltb k r.attributes (omega arith))
@@ -72,13 +75,18 @@ attribute-to r st n k x xs e ts rest few is m =
 tail-to : (r : Rules) (st : List RawName) (n : RawName) (k : ℕ) (F : Token → Nest) → ((b : ℕ) → F (token.AttrOpens b) ≡ after_name r st n k (token.AttrOpens b))
     → ((e : Bool) → F (token.TagEnds e) ≡ after_name r st n k (token.TagEnds e)) → (t : Token) (ts : List Token) → Tail r st n k (t ∷ ts) → Leaves r (F t) ts
 tail-to r st n k F g h t ts ([], e, rest, few, is, m) =
-    subst (λ (u : Token). Leaves r (F u) ts) (sym (token_head t _ ts _ is)) (subst (λ (x : Nest). Leaves r x ts) (sym (h e)) (subst (Leaves r (after_name r st n k (token.TagEnds e))) (sym (token_tail t _ ts _ is)) (ends-to r st n k e rest m)))
+    subst (λ (u : Token). Leaves r (F u) ts) (sym (token_head t _ ts _ is))
+    (subst (λ (x : Nest). Leaves r x ts) (sym (h e))
+    (subst (Leaves r (after_name r st n k (token.TagEnds e))) (sym (token_tail t _ ts _ is)) (ends-to r st n k e rest m)))
 tail-to r st n k F g h t ts (x ∷ xs, e, rest, few, is, m) =
     subst (λ (u : Token). Leaves r (F u) ts) (sym (token_head t (token.AttrOpens x.name.0) ts _ is)) (subst (λ (y : Nest). Leaves r y ts) (sym (g x.name.0))
     (attribute-to r st n k x xs e ts rest few
-    (token_tail t (token.AttrOpens x.name.0) ts _ is ∙ regroup-attribute (map token.AttrByte x.name.1) (map token.Value x.value) (attributes_tokens xs) (token.TagEnds e ∷ rest) token.ValueOpens token.ValueEnds) m))
+    (token_tail t (token.AttrOpens x.name.0) ts _ is
+    ∙ regroup-attribute (map token.AttrByte x.name.1) (map token.Value x.value) (attributes_tokens xs) (token.TagEnds e ∷ rest) token.ValueOpens
+    token.ValueEnds) m))
 
-tail-from : (r : Rules) (st : List RawName) (n : RawName) (k : ℕ) (t : Token) (ts : List Token) → k ≤ r.attributes → Leaves r (after_name r st n k t) ts → Tail r st n k (t ∷ ts)
+tail-from : (r : Rules) (st : List RawName) (n : RawName) (k : ℕ) (t : Token) (ts : List Token) → k ≤ r.attributes → Leaves r (after_name r st n k t) ts
+    → Tail r st n k (t ∷ ts)
 tail-from r st n k (token.TagEnds true) ts room m = ([], true, ts, omega arith, refl, hollow-from r st n ts m)
 tail-from r st n k (token.TagEnds false) ts room m = ([], false, ts, omega arith, refl, m)
 tail-from r st n k (token.AttrOpens b) ts room m =
@@ -89,14 +97,16 @@ tail-from r st n k (token.AttrOpens b) ts room m =
       omega arith,
       ap (λ (l : List Token). token.AttrOpens b ∷ l)
           (is ∙ (ap (λ (l : List Token). map token.AttrByte name ++ (token.ValueOpens ∷ (map token.Value value ++ (token.ValueEnds ∷ l)))) is2
-          ∙ sym (regroup-attribute (map token.AttrByte name) (map token.Value value) (attributes_tokens xs) (token.TagEnds e ∷ rest2) token.ValueOpens token.ValueEnds))),
+          ∙ sym (regroup-attribute (map token.AttrByte name) (map token.Value value) (attributes_tokens xs) (token.TagEnds e ∷ rest2) token.ValueOpens
+          token.ValueEnds))),
       after,
     )
 tail-from r st n k t ts room m = absurd m
 
 -- In the name of a tag.
 
-name-to : (r : Rules) (st : List RawName) (n : RawName) (t : Token) (ts rest : List Token) (k : List ℕ) → t ∷ ts ≡ map token.NameByte k ++ rest → Tail r st (n.0, n.1 ++ k) 0 rest
+name-to : (r : Rules) (st : List RawName) (n : RawName) (t : Token) (ts rest : List Token) (k : List ℕ) → t ∷ ts ≡ map token.NameByte k ++ rest
+    → Tail r st (n.0, n.1 ++ k) 0 rest
     → Leaves r (nest r (naming st n) t) ts
 unfolding nest
 name-to r st n t ts rest [] is m =
@@ -110,37 +120,48 @@ name-from : (r : Rules) (st : List RawName) (n : RawName) (t : Token) (ts : List
 unfolding nest
 name-from r st n (token.NameByte x) ts (k, rest, is, m) =
     (x ∷ k, rest, ap (λ (l : List Token). token.NameByte x ∷ l) is, subst (λ (l : List ℕ). Tail r st (n.0, l) 0 rest) (append_assoc n.1 (x ∷ []) k) m)
-name-from r st n t ts k = ([], t ∷ ts, refl, subst (λ (l : List ℕ). Tail r st (n.0, l) 0 (t ∷ ts)) (sym (append-nil n.1)) (tail-from r st n 0 t ts (omega arith) k))
+name-from r st n t ts k =
+    ([], t ∷ ts, refl, subst (λ (l : List ℕ). Tail r st (n.0, l) 0 (t ∷ ts)) (sym (append-nil n.1)) (tail-from r st n 0 t ts (omega arith) k))
 
-in_tag-to : (r : Rules) (st : List RawName) (n : RawName) (k : ℕ) (t : Token) (ts : List Token) → Tail r st n k (t ∷ ts) → Leaves r (nest r (in_tag st n k) t) ts
+in_tag-to : (r : Rules) (st : List RawName) (n : RawName) (k : ℕ) (t : Token) (ts : List Token) → Tail r st n k (t ∷ ts)
+    → Leaves r (nest r (in_tag st n k) t) ts
 unfolding nest
 in_tag-to r st n k t ts m = tail-to r st n k (nest r (in_tag st n k)) (λ b. refl) (λ e. refl) t ts m
 
-in_tag-from : (r : Rules) (st : List RawName) (n : RawName) (k : ℕ) (t : Token) (ts : List Token) → k ≤ r.attributes → Leaves r (nest r (in_tag st n k) t) ts → Tail r st n k (t ∷ ts)
+in_tag-from : (r : Rules) (st : List RawName) (n : RawName) (k : ℕ) (t : Token) (ts : List Token) → k ≤ r.attributes → Leaves r (nest r (in_tag st n k) t) ts
+    → Tail r st n k (t ∷ ts)
 unfolding nest
 in_tag-from r st n k t ts room m = tail-from r st n k t ts room m
 
 -- In an attribute.
 
-value-to : (r : Rules) (st : List RawName) (n : RawName) (k : ℕ) (t : Token) (ts rest : List Token) (v : List ℕ) → t ∷ ts ≡ map token.Value v ++ (token.ValueEnds ∷ rest) → Tail r st n k rest
+value-to : (r : Rules) (st : List RawName) (n : RawName) (k : ℕ) (t : Token) (ts rest : List Token) (v : List ℕ)
+    → t ∷ ts ≡ map token.Value v ++ (token.ValueEnds ∷ rest) → Tail r st n k rest
     → Leaves r (nest r (in_value st n k) t) ts
 unfolding nest
-value-to r st n k t ts rest [] is m = subst (λ (u : Token). Leaves r (nest r (in_value st n k) u) ts) (sym (token_head t _ ts _ is)) (subst (Tail r st n k) (sym (token_tail t _ ts _ is)) m)
-value-to r st n k t ts rest (c ∷ v) is m = subst (λ (u : Token). Leaves r (nest r (in_value st n k) u) ts) (sym (token_head t _ ts _ is)) (v, rest, token_tail t _ ts _ is, m)
+value-to r st n k t ts rest [] is m =
+    subst (λ (u : Token). Leaves r (nest r (in_value st n k) u) ts) (sym (token_head t _ ts _ is)) (subst (Tail r st n k) (sym (token_tail t _ ts _ is)) m)
+value-to r st n k t ts rest (c ∷ v) is m =
+    subst (λ (u : Token). Leaves r (nest r (in_value st n k) u) ts) (sym (token_head t _ ts _ is)) (v, rest, token_tail t _ ts _ is, m)
 
-value-from : (r : Rules) (st : List RawName) (n : RawName) (k : ℕ) (t : Token) (ts : List Token) → Leaves r (nest r (in_value st n k) t) ts → Leaves r (in_value st n k) (t ∷ ts)
+value-from : (r : Rules) (st : List RawName) (n : RawName) (k : ℕ) (t : Token) (ts : List Token) → Leaves r (nest r (in_value st n k) t) ts
+    → Leaves r (in_value st n k) (t ∷ ts)
 unfolding nest
 value-from r st n k (token.Value c) ts (v, rest, is, m) = (c ∷ v, rest, ap (λ (l : List Token). token.Value c ∷ l) is, m)
 value-from r st n k token.ValueEnds ts m = ([], ts, refl, m)
 value-from r st n k t ts m = absurd m
 
 attribute_name-to : (r : Rules) (st : List RawName) (n : RawName) (k : ℕ) (t : Token) (ts rest : List Token) (m v : List ℕ)
-    → t ∷ ts ≡ map token.AttrByte m ++ (token.ValueOpens ∷ (map token.Value v ++ (token.ValueEnds ∷ rest))) → Tail r st n k rest → Leaves r (nest r (naming_attribute st n k) t) ts
+    → t ∷ ts ≡ map token.AttrByte m ++ (token.ValueOpens ∷ (map token.Value v ++ (token.ValueEnds ∷ rest))) → Tail r st n k rest
+    → Leaves r (nest r (naming_attribute st n k) t) ts
 unfolding nest
-attribute_name-to r st n k t ts rest [] v is m = subst (λ (u : Token). Leaves r (nest r (naming_attribute st n k) u) ts) (sym (token_head t _ ts _ is)) (v, rest, token_tail t _ ts _ is, m)
-attribute_name-to r st n k t ts rest (y ∷ x) v is m = subst (λ (u : Token). Leaves r (nest r (naming_attribute st n k) u) ts) (sym (token_head t _ ts _ is)) (x, v, rest, token_tail t _ ts _ is, m)
+attribute_name-to r st n k t ts rest [] v is m = subst (λ (u : Token). Leaves r (nest r (naming_attribute st n k) u) ts) (sym (token_head t _ ts _ is))
+    (v, rest, token_tail t _ ts _ is, m)
+attribute_name-to r st n k t ts rest (y ∷ x) v is m = subst (λ (u : Token). Leaves r (nest r (naming_attribute st n k) u) ts) (sym (token_head t _ ts _ is))
+    (x, v, rest, token_tail t _ ts _ is, m)
 
-attribute_name-from : (r : Rules) (st : List RawName) (n : RawName) (k : ℕ) (t : Token) (ts : List Token) → Leaves r (nest r (naming_attribute st n k) t) ts → Leaves r (naming_attribute st n k) (t ∷ ts)
+attribute_name-from : (r : Rules) (st : List RawName) (n : RawName) (k : ℕ) (t : Token) (ts : List Token) → Leaves r (nest r (naming_attribute st n k) t) ts
+    → Leaves r (naming_attribute st n k) (t ∷ ts)
 unfolding nest
 attribute_name-from r st n k (token.AttrByte y) ts (m, v, rest, is, x) = (y ∷ m, v, rest, ap (λ (l : List Token). token.AttrByte y ∷ l) is, x)
 attribute_name-from r st n k token.ValueOpens ts (v, rest, is, x) = ([], v, rest, ap (λ (l : List Token). token.ValueOpens ∷ l) is, x)
@@ -148,14 +169,18 @@ attribute_name-from r st n k t ts m = absurd m
 
 -- In the name of an end tag.
 
-closing-to : (r : Rules) (st : List RawName) (m : List ℕ) (t : Token) (ts rest : List Token) → t ∷ ts ≡ map token.NameByte m ++ (token.CloseEnds ∷ rest) → Closes r st rest
+closing-to : (r : Rules) (st : List RawName) (m : List ℕ) (t : Token) (ts rest : List Token) → t ∷ ts ≡ map token.NameByte m ++ (token.CloseEnds ∷ rest)
+    → Closes r st rest
     → Leaves r (nest r (closing st m) t) ts
 unfolding nest
-closing-to r st [] t ts rest is c = subst (λ (u : Token). Leaves r (nest r (closing st []) u) ts) (sym (token_head t _ ts _ is)) (subst (Closes r st) (sym (token_tail t _ ts _ is)) c)
+closing-to r st [] t ts rest is c =
+    subst (λ (u : Token). Leaves r (nest r (closing st []) u) ts) (sym (token_head t _ ts _ is)) (subst (Closes r st) (sym (token_tail t _ ts _ is)) c)
 closing-to r st (x ∷ m) t ts rest is c =
-    subst (λ (u : Token). Leaves r (nest r (closing st (x ∷ m)) u) ts) (sym (token_head t _ ts _ is)) (cond-leaves r (x == x) (closing st m) ts (eq-eqb x x refl) (rest, token_tail t _ ts _ is, c))
+    subst (λ (u : Token). Leaves r (nest r (closing st (x ∷ m)) u) ts) (sym (token_head t _ ts _ is))
+    (cond-leaves r (x == x) (closing st m) ts (eq-eqb x x refl) (rest, token_tail t _ ts _ is, c))
 
-closing-from : (r : Rules) (st : List RawName) (m : List ℕ) (t : Token) (ts : List Token) → Leaves r (nest r (closing st m) t) ts → Leaves r (closing st m) (t ∷ ts)
+closing-from : (r : Rules) (st : List RawName) (m : List ℕ) (t : Token) (ts : List Token) → Leaves r (nest r (closing st m) t) ts
+    → Leaves r (closing st m) (t ∷ ts)
 unfolding nest
 closing-from r st (x ∷ m) (token.NameByte y) ts k =
     let (e, (rest, is, c)) = cond-was r (y == x) (closing st m) ts k in
@@ -165,12 +190,18 @@ closing-from r st m t ts k = absurd k
 
 -- Between tags.
 
-content-to : (r : Rules) (m : RawName) (st : List RawName) (t : Token) (ts rest : List Token) (f : Content) → Keeps r (is_root st) f → levels f + length st ≤ r.depth
+content-to : (r : Rules) (m : RawName) (st : List RawName) (t : Token) (ts rest : List Token) (f : Content) → Keeps r (is_root st) f
+    → levels f + length st ≤ r.depth
     → t ∷ ts ≡ content_tokens f ++ (end_tokens m ++ rest) → Closes r st rest → Leaves r (nest r (inside (m ∷ st)) t) ts
 unfolding nest
 content-to r m st t ts rest nothing g low is c =
     subst (λ (u : Token). Leaves r (nest r (inside (m ∷ st)) u) ts) (sym (token_head t (token.CloseOpens m.0) ts _ is))
-    (cond-leaves r (m.0 == m.0) (closing st m.1) ts (eq-eqb m.0 m.0 refl) (rest, token_tail t (token.CloseOpens m.0) ts _ is ∙ regroup-end (map token.NameByte m.1) rest token.CloseEnds, c))
+    (cond-leaves r (m.0 == m.0) (closing st m.1) ts (eq-eqb m.0 m.0 refl) (
+      rest,
+      token_tail t (token.CloseOpens m.0) ts _ is
+          ∙ regroup-end (map token.NameByte m.1) rest token.CloseEnds,
+      c,
+    ))
 content-to r m st t ts rest (word x f) g low is c =
     subst (λ (u : Token). Leaves r (nest r (inside (m ∷ st)) u) ts) (sym (token_head t (token.Word x) ts _ is))
     (cond-leaves r (may_stand r st x) (inside (m ∷ st)) ts g.0 (f, rest, g.1, low, token_tail t (token.Word x) ts _ is, c))
@@ -180,7 +211,9 @@ content-to r m st t ts rest (element n h f) g low is c =
     (cond-leaves r (nat_lt (length st) r.depth) (naming (m ∷ st) (n.name.0, [])) ts (lt-ltb (length st) r.depth (omega arith)) (
       n.name.1,
       attributes_tokens n.attributes ++ (token.TagEnds false ∷ (content_tokens h ++ (end_tokens n.name ++ (content_tokens f ++ x)))),
-      token_tail t (token.TagOpens n.name.0) ts _ is ∙ regroup-element (map token.NameByte n.name.1) (attributes_tokens n.attributes) (content_tokens h) (end_tokens n.name) (content_tokens f) x (token.TagEnds false),
+      token_tail t (token.TagOpens n.name.0) ts _ is
+          ∙ regroup-element (map token.NameByte n.name.1) (attributes_tokens n.attributes) (content_tokens h) (end_tokens n.name) (content_tokens f) x
+          (token.TagEnds false),
       (
         n.attributes,
         false,
@@ -196,11 +229,13 @@ content-to r m st t ts rest (hollow n f) g low is c =
     (cond-leaves r (nat_lt (length st) r.depth) (naming (m ∷ st) (n.name.0, [])) ts (lt-ltb (length st) r.depth (omega arith)) (
       n.name.1,
       attributes_tokens n.attributes ++ (token.TagEnds true ∷ (content_tokens f ++ x)),
-      token_tail t (token.TagOpens n.name.0) ts _ is ∙ regroup-hollow (map token.NameByte n.name.1) (attributes_tokens n.attributes) (content_tokens f) x (token.TagEnds true),
+      token_tail t (token.TagOpens n.name.0) ts _ is
+          ∙ regroup-hollow (map token.NameByte n.name.1) (attributes_tokens n.attributes) (content_tokens f) x (token.TagEnds true),
       (n.attributes, true, content_tokens f ++ x, (let few = g.0 in omega arith), refl, (f, rest, g.1, omega arith, refl, c)),
     ))
 
-opened : (r : Rules) (m : RawName) (st : List RawName) (b : ℕ) (ts : List Token) → length st < r.depth → Leaves r (naming (m ∷ st) (b, [])) ts → Closes r (m ∷ st) (token.TagOpens b ∷ ts)
+opened : (r : Rules) (m : RawName) (st : List RawName) (b : ℕ) (ts : List Token) → length st < r.depth → Leaves r (naming (m ∷ st) (b, [])) ts
+    → Closes r (m ∷ st) (token.TagOpens b ∷ ts)
 opened r m st b ts room (k, rest, is, (xs, true, rest2, few, is2, (f, r4, g, low, is4, c))) =
     let x : List Token = end_tokens m ++ r4 in (
       hollow (record { name = (b, k); attributes = xs }) f,
@@ -220,12 +255,15 @@ opened r m st b ts room (k, rest, is, (xs, false, rest2, few, is2, (h, r3, g3, l
       omega arith,
       ap (λ (l : List Token). token.TagOpens b ∷ l)
           (is ∙ (ap (λ (l : List Token). map token.NameByte k ++ l)
-          (is2 ∙ ap (λ (l : List Token). attributes_tokens xs ++ (token.TagEnds false ∷ l)) (is3 ∙ ap (λ (l : List Token). content_tokens h ++ (end_tokens (b, k) ++ l)) is4))
-          ∙ sym (regroup-element (map token.NameByte k) (attributes_tokens xs) (content_tokens h) (end_tokens (b, k)) (content_tokens f) x (token.TagEnds false)))),
+          (is2 ∙ ap (λ (l : List Token). attributes_tokens xs ++ (token.TagEnds false ∷ l)) (is3
+          ∙ ap (λ (l : List Token). content_tokens h ++ (end_tokens (b, k) ++ l)) is4))
+          ∙ sym (regroup-element (map token.NameByte k) (attributes_tokens xs) (content_tokens h) (end_tokens (b, k)) (content_tokens f) x
+          (token.TagEnds false)))),
       c,
     )
 
-content-from : (r : Rules) (m : RawName) (st : List RawName) (t : Token) (ts : List Token) → length st ≤ r.depth → Leaves r (nest r (inside (m ∷ st)) t) ts → Closes r (m ∷ st) (t ∷ ts)
+content-from : (r : Rules) (m : RawName) (st : List RawName) (t : Token) (ts : List Token) → length st ≤ r.depth → Leaves r (nest r (inside (m ∷ st)) t) ts
+    → Closes r (m ∷ st) (t ∷ ts)
 unfolding nest
 content-from r m st (token.Word x) ts room k =
     let (e, (f, rest, g, low, is, c)) = cond-was r (may_stand r st x) (inside (m ∷ st)) ts k in
@@ -238,7 +276,8 @@ content-from r m st (token.CloseOpens b) ts room k =
       rest,
       tt,
       omega arith,
-      ap (λ (n : ℕ). token.CloseOpens n ∷ ts) (eqb-true b m.0 e) ∙ ap (λ (l : List Token). token.CloseOpens m.0 ∷ l) (is ∙ sym (regroup-end (map token.NameByte m.1) rest token.CloseEnds)),
+      ap (λ (n : ℕ). token.CloseOpens n ∷ ts) (eqb-true b m.0 e)
+          ∙ ap (λ (l : List Token). token.CloseOpens m.0 ∷ l) (is ∙ sym (regroup-end (map token.NameByte m.1) rest token.CloseEnds)),
       c,
     )
 content-from r m st t ts room k = absurd k
@@ -246,7 +285,8 @@ content-from r m st t ts room k = absurd k
 -- Before the stream's own tag.
 
 root-to : (r : Rules) (root : RawTag) (f : Content) (ts : List Token) → KeepsRoot r root f
-    → ts ≡ (map token.NameByte root.name.1 ++ (attributes_tokens root.attributes ++ token.TagEnds false ∷ [])) ++ (content_tokens f ++ end_tokens root.name) → Leaves r (naming [] (root.name.0, [])) ts
+    → ts ≡ (map token.NameByte root.name.1 ++ (attributes_tokens root.attributes ++ token.TagEnds false ∷ [])) ++ (content_tokens f ++ end_tokens root.name)
+    → Leaves r (naming [] (root.name.0, [])) ts
 root-to r root f ts keeps is =
     let few = keeps.0 in let low = keeps.1 in (
       root.name.1,
@@ -262,30 +302,37 @@ root-from r b ts (k, rest, is, (xs, false, rest2, few, is2, (f, r3, g, low, is3,
   f,
   (omega arith, omega arith, g),
   ap (λ (l : List Token). token.TagOpens b ∷ l)
-      (is ∙ (ap (λ (l : List Token). map token.NameByte k ++ l) (is2 ∙ ap (λ (l : List Token). attributes_tokens xs ++ (token.TagEnds false ∷ l)) (is3 ∙ ap (λ (l : List Token). content_tokens f ++ (end_tokens (b, k) ++ l)) c))
+      (is ∙ (ap (λ (l : List Token). map token.NameByte k ++ l) (is2
+      ∙ ap (λ (l : List Token). attributes_tokens xs ++ (token.TagEnds false ∷ l)) (is3
+      ∙ ap (λ (l : List Token). content_tokens f ++ (end_tokens (b, k) ++ l)) c))
       ∙ sym (regroup-root (map token.NameByte k) (attributes_tokens xs) (content_tokens f) (end_tokens (b, k)) (token.TagEnds false)))),
 )
 
 declared-to : (r : Rules) (t : Token) (ts : List Token) → Leaves r declared (t ∷ ts) → Leaves r (before_root t) ts
 declared-to r t ts (root, f, keeps, is) =
-    subst (λ (u : Token). Leaves r (before_root u) ts) (sym (token_head t (token.TagOpens root.name.0) ts _ is)) (root-to r root f ts keeps (token_tail t (token.TagOpens root.name.0) ts _ is))
+    subst (λ (u : Token). Leaves r (before_root u) ts) (sym (token_head t (token.TagOpens root.name.0) ts _ is))
+    (root-to r root f ts keeps (token_tail t (token.TagOpens root.name.0) ts _ is))
 
 declared-from : (r : Rules) (t : Token) (ts : List Token) → Leaves r (before_root t) ts → Leaves r declared (t ∷ ts)
 declared-from r (token.TagOpens b) ts m = root-from r b ts m
 declared-from r t ts m = absurd m
 
-start-to : (r : Rules) (t : Token) (ts : List Token) (s : Stream) (d : Bool) → s.declared ≡ d → KeepsRoot r s.root s.content → t ∷ ts ≡ stream_tokens s → Leaves r (nest r start t) ts
+start-to : (r : Rules) (t : Token) (ts : List Token) (s : Stream) (d : Bool) → s.declared ≡ d → KeepsRoot r s.root s.content → t ∷ ts ≡ stream_tokens s
+    → Leaves r (nest r start t) ts
 unfolding nest
 start-to r t ts s true e keeps is =
     let is1 : t ∷ ts ≡ token.Declaration ∷ root_tokens s.root s.content = is ∙ ap (λ (d : Bool). stream_tokens (record s { declared = d })) e in
-    subst (λ (u : Token). Leaves r (nest r start u) ts) (sym (token_head t token.Declaration ts (root_tokens s.root s.content) is1)) (s.root, s.content, keeps, token_tail t token.Declaration ts (root_tokens s.root s.content) is1)
+    subst (λ (u : Token). Leaves r (nest r start u) ts) (sym (token_head t token.Declaration ts (root_tokens s.root s.content) is1))
+    (s.root, s.content, keeps, token_tail t token.Declaration ts (root_tokens s.root s.content) is1)
 start-to r t ts s false e keeps is =
     let is1 : t ∷ ts ≡ root_tokens s.root s.content = is ∙ ap (λ (d : Bool). stream_tokens (record s { declared = d })) e in
-    subst (λ (u : Token). Leaves r (nest r start u) ts) (sym (token_head t (token.TagOpens s.root.name.0) ts _ is1)) (root-to r s.root s.content ts keeps (token_tail t (token.TagOpens s.root.name.0) ts _ is1))
+    subst (λ (u : Token). Leaves r (nest r start u) ts) (sym (token_head t (token.TagOpens s.root.name.0) ts _ is1))
+    (root-to r s.root s.content ts keeps (token_tail t (token.TagOpens s.root.name.0) ts _ is1))
 
 start-from : (r : Rules) (t : Token) (ts : List Token) → Leaves r (nest r start t) ts → Leaves r start (t ∷ ts)
 unfolding nest
-start-from r token.Declaration ts (root, f, keeps, is) = (record { declared = true; root = root; content = f }, keeps, ap (λ (l : List Token). token.Declaration ∷ l) is)
+start-from r token.Declaration ts (root, f, keeps, is) =
+    (record { declared = true; root = root; content = f }, keeps, ap (λ (l : List Token). token.Declaration ∷ l) is)
 start-from r t ts m = let (root, f, keeps, is) = declared-from r t ts m in (record { declared = false; root = root; content = f }, keeps, is)
 
 -- Each token.
@@ -351,7 +398,8 @@ room-hollow r [] h = tt
 room-hollow r (m ∷ st) h = omega arith
 
 room-name : (r : Rules) (st : List RawName) (n : RawName) (k : ℕ) (t : Token) → length st ≤ r.depth → Room r (after_name r st n k t)
-room-name r st n k (token.AttrOpens b) h = cond-room r (nat_lt k r.attributes) (naming_attribute st n (k + 1)) (λ e. (h, let low : k < r.attributes = ltb-true k r.attributes e in omega arith))
+room-name r st n k (token.AttrOpens b) h =
+    cond-room r (nat_lt k r.attributes) (naming_attribute st n (k + 1)) (λ e. (h, let low : k < r.attributes = ltb-true k r.attributes e in omega arith))
 room-name r st n k (token.TagEnds true) h = room-hollow r st h
 room-name r st n k (token.TagEnds false) h = h
 room-name r st n k t h = tt
@@ -362,7 +410,8 @@ room-root r t = tt
 
 room-content : (r : Rules) (m : RawName) (st : List RawName) (t : Token) → length st ≤ r.depth → Room r (in_content r m st t)
 room-content r m st (token.Word c) h = cond-room r (may_stand r st c) (inside (m ∷ st)) (λ e. h)
-room-content r m st (token.TagOpens b) h = cond-room r (nat_lt (length st) r.depth) (naming (m ∷ st) (b, [])) (λ e. let low : length st < r.depth = ltb-true (length st) r.depth e in omega arith)
+room-content r m st (token.TagOpens b) h =
+    cond-room r (nat_lt (length st) r.depth) (naming (m ∷ st) (b, [])) (λ e. let low : length st < r.depth = ltb-true (length st) r.depth e in omega arith)
 room-content r m st (token.CloseOpens b) h = cond-room r (b == m.0) (closing st m.1) (λ e. h)
 room-content r m st t h = tt
 

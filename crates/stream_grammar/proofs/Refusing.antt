@@ -63,9 +63,11 @@ Next t ts = (us : List Token) × (ts ≡ t ∷ us)
 next-of : (t : Token) (ts : List Token) (ns : List Sign) → all_said ts ≡ says t ∷ ns → Next t ts
 next-of t ts ns e = let (vs, f, g) = said-split (t ∷ []) ts ns e in (vs, f)
 
-mark-at : (s : Stage) (p : Pending) (r : Bool) (text : List ℕ) (ts : List Token) → is_empty_mark s ≡ true → Left (at s p r) text (all_said ts) → Next (token.TagEnds true) ts
+mark-at : (s : Stage) (p : Pending) (r : Bool) (text : List ℕ) (ts : List Token) → is_empty_mark s ≡ true → Left (at s p r) text (all_said ts)
+    → Next (token.TagEnds true) ts
 unfolding rest_at IsText voice
-mark-at stage.EmptyTagMark p r text ts e (cs, sc, enc, (xs, us, ys, vs, (c, k, is, told), n, f, g)) = next-of (token.TagEnds true) ts vs (g ∙ ap (λ (l : List Sign). l ++ vs) told)
+mark-at stage.EmptyTagMark p r text ts e (cs, sc, enc, (xs, us, ys, vs, (c, k, is, told), n, f, g)) =
+    next-of (token.TagEnds true) ts vs (g ∙ ap (λ (l : List Sign). l ++ vs) told)
 mark-at s p r text ts e l = false-true e
 
 pub mark-tells : (st : State) (text : List ℕ) (ts : List Token) → is_empty_mark st.stage ≡ true → Left st text (all_said ts) → Next (token.TagEnds true) ts
@@ -76,10 +78,12 @@ unfolding IsText
 silent-times P zero cs ms (e, f) = f
 silent-times P (suc n) cs ms (c, xs, us, ys, vs, (d, k, is, told), more, e, f) = f ∙ (ap (λ (l : List Sign). l ++ vs) told ∙ silent-times P n ys vs more)
 
-named-at : (s : Stage) (p : Pending) (r : Bool) (text : List ℕ) (ts : List Token) → is_after_end_name s ≡ true → Left (at s p r) text (all_said ts) → Next token.CloseEnds ts
+named-at : (s : Stage) (p : Pending) (r : Bool) (text : List ℕ) (ts : List Token) → is_after_end_name s ≡ true → Left (at s p r) text (all_said ts)
+    → Next token.CloseEnds ts
 unfolding rest_at IsText voice
 named-at stage.EndTagNamed p r text ts e (cs, sc, enc, (xs, us, ys, vs, (i, spaces), (xs1, us1, ys1, vs1, (c, k, is, told), n, f1, g1), f, g)) =
-    next-of token.CloseEnds ts vs1 (g ∙ (ap (λ (l : List Sign). l ++ vs) (silent-times (λ j d. is_kind kinds.Space j) i xs us spaces) ∙ (g1 ∙ ap (λ (l : List Sign). l ++ vs1) told)))
+    next-of token.CloseEnds ts vs1 (g
+    ∙ (ap (λ (l : List Sign). l ++ vs) (silent-times (λ j d. is_kind kinds.Space j) i xs us spaces) ∙ (g1 ∙ ap (λ (l : List Sign). l ++ vs1) told)))
 named-at s p r text ts e l = false-true e
 
 pub named-tells : (st : State) (text : List ℕ) (ts : List Token) → is_after_end_name st.stage ≡ true → Left st text (all_said ts) → Next token.CloseEnds ts
@@ -127,7 +131,8 @@ speaking-entity : (l : EntityName) → stage_to_space (stage.Reference Words l) 
 speaking-entity entity_name.Empty h = absurd (let bad : true ≡ false = h in cc)
 speaking-entity entity_name.A h =
     speaking-union _ _ (speaking-after kinds.SmallM _ (speaking-expects kinds.SmallP _ (speaking-named 38 refl)))
-    (speaking-union _ _ (speaking-after kinds.SmallP _ (speaking-expects kinds.SmallO _ (speaking-expects kinds.SmallS _ (speaking-named 39 refl)))) (speaking-refused _))
+    (speaking-union _ _ (speaking-after kinds.SmallP _ (speaking-expects kinds.SmallO _ (speaking-expects kinds.SmallS _ (speaking-named 39 refl))))
+    (speaking-refused _))
 speaking-entity entity_name.Am h = speaking-expects kinds.SmallP _ (speaking-named 38 refl)
 speaking-entity entity_name.Amp h = speaking-named 38 refl
 speaking-entity entity_name.Ap h = speaking-expects kinds.SmallO _ (speaking-expects kinds.SmallS _ (speaking-named 39 refl))
@@ -159,7 +164,8 @@ digit-of : (d n : ℕ) → d ≡ n → digit n < 16 → digit d < 16
 digit-of d n e h = subst (λ (x : ℕ). digit x < 16) (sym e) h
 
 decimal-digit : (d : ℕ) → 48 ≤ d → d ≤ 57 → digit d < 10
-decimal-digit d h k = cond_both (nat_lt d 58) (d - 48) (cond (nat_lt d 71) (d - 55) (d - 87)) (λ (n : ℕ). n < 10) (λ e. omega arith) (λ e. absurd (let g = ltb-false d 58 e in omega arith))
+decimal-digit d h k = cond_both (nat_lt d 58) (d - 48) (cond (nat_lt d 71) (d - 55) (d - 87)) (λ (n : ℕ). n < 10) (λ e. omega arith)
+    (λ e. absurd (let g = ltb-false d 58 e in omega arith))
 
 upper-digit : (d : ℕ) → 65 ≤ d → d ≤ 70 → digit d < 16
 upper-digit d h k =
@@ -218,7 +224,8 @@ bounded-ascii b =
     (λ g2. cond_both ((nat_le 71 b && nat_le b 90) || ((nat_le 104 b && nat_le b 122) || (b == 95))) _ _ (Bounded b) (λ e. not-digit b kinds.Letter refl refl)
     (λ g3. cond_both (nat_le 48 b && nat_le b 57) _ _ (Bounded b) (λ e. plain-digit b e)
     (λ g4. cond_both ((b == 45) || (b == 46)) _ _ (Bounded b) (λ e. not-digit b kinds.Mark refl refl)
-    (λ g5. cond_both (nat_le b 31) _ _ (Bounded b) (λ e. not-digit b kinds.Control refl refl) (λ g6. not-digit b kinds.Plain refl refl)))))))))))))))))))))))))))))))))))
+    (λ g5. cond_both (nat_le b 31) _ _ (Bounded b) (λ e. not-digit b kinds.Control refl refl)
+    (λ g6. not-digit b kinds.Plain refl refl)))))))))))))))))))))))))))))))))))
 
 bounded-wide : (c : ℕ) → Bounded c (wide_kind c)
 unfolding wide_kind
@@ -265,12 +272,20 @@ digits-space Hexadecimal v (d ∷ e ∷ ds) are h =
     let grows : 16 * (16 * v + digit d) + digit e ≤ value Hexadecimal v (d ∷ e ∷ ds) = value-grows Hexadecimal (16 * (16 * v + digit d) + digit e) ds in
     zero-hexadecimal v (omega arith)
 
-number-speaks : (base : Base) (v : ℕ) (cs : List ℕ) (ms : List Sign) → begins_space base v ≡ false → IsText (rest_at (stage.Number Words base v)) cs ms → Speaks ms
+number-speaks : (base : Base) (v : ℕ) (cs : List ℕ) (ms : List Sign) → begins_space base v ≡ false → IsText (rest_at (stage.Number Words base v)) cs ms
+    → Speaks ms
 unfolding rest_at IsText
 number-speaks base v cs ms h (xs, us, ys, vs, (ds, e, are, semi, is, xml, told), n, f, g) =
-    inl (value base v ds, vs, false_from_ne_true (is_space (value base v ds)) (λ k. true-false (digits-space base v ds are k) h), g ∙ ap (λ (l : List Sign). l ++ vs) told)
+    inl (
+      value base v ds,
+      vs,
+      false_from_ne_true (is_space (value base v ds)) (λ k. true-false (digits-space base v ds are k) h),
+      g
+          ∙ ap (λ (l : List Sign). l ++ vs) told,
+    )
 
-reference-speaks : (l : EntityName) (cs : List ℕ) (ms : List Sign) → stage_to_space (stage.Reference Words l) ≡ false → IsText (rest_at (stage.Reference Words l)) cs ms → Speaks ms
+reference-speaks : (l : EntityName) (cs : List ℕ) (ms : List Sign) → stage_to_space (stage.Reference Words l) ≡ false
+    → IsText (rest_at (stage.Reference Words l)) cs ms → Speaks ms
 unfolding rest_at
 reference-speaks l cs ms h m = speaking-front (rest_of_entity l Words) content (speaking-entity l h) cs ms m
 
@@ -303,9 +318,11 @@ worded-cdata_bracketed One n true cs ms h (ns, e, m) = inl (93, says (token.Word
 worded-cdata_bracketed Many n true cs ms h (ns, e, m) = inl (93, says (token.Word 93) ∷ (says (token.Word n) ∷ ns), refl, e)
 worded-cdata_bracketed b n false cs ms h m = absurd m
 
-wide-speaks : (s : Stage) (p : Pending) (r : Bool) (b : ℕ) (text cs : List ℕ) (ms : List Sign) → Worded s → is_live_stage s ≡ true → First p b text cs → IsText (rest_at s) (lines r cs) ms → Speaks ms
+wide-speaks : (s : Stage) (p : Pending) (r : Bool) (b : ℕ) (text cs : List ℕ) (ms : List Sign) → Worded s → is_live_stage s ≡ true → First p b text cs
+    → IsText (rest_at s) (lines r cs) ms → Speaks ms
 wide-speaks s p r b text cs ms w live f m =
-    let m1 : IsText (rest_at s) (f.n ∷ lines false f.es) ms = subst (λ (l : List ℕ). IsText (rest_at s) l ms) (ap (lines r) f.is ∙ high-line r f.n f.es f.high) m in
+    let m1 : IsText (rest_at s) (f.n ∷ lines false f.es) ms = subst (λ (l : List ℕ). IsText (rest_at s) l ms) (ap (lines r) f.is
+    ∙ high-line r f.n f.es f.high) m in
     w f.n (has_between (class_of (allowed_at s)) f.n f.n) (lines false f.es) ms (wide-space f.n f.high)
     (subst (λ t. Leaves s t (lines false f.es) ms) (high-next s f.n f.high) (step-to s f.n (lines false f.es) ms live m1))
 
@@ -313,7 +330,8 @@ abbrev Unheard : Stage → Type 0
 Unheard s = (bs : List ℕ) → heard (voice s) bs ≡ []
 
 -- within a character of words
-within-speaks : (s : Stage) (p : Pending) (r : Bool) (text : List ℕ) (ms : List Sign) → Worded s → Unheard s → is_live_stage s ≡ true → is_begun p ≡ true → is_nothing p ≡ false → Left (at s p r) text ms → Speaks ms
+within-speaks : (s : Stage) (p : Pending) (r : Bool) (text : List ℕ) (ms : List Sign) → Worded s → Unheard s → is_live_stage s ≡ true → is_begun p ≡ true
+    → is_nothing p ≡ false → Left (at s p r) text ms → Speaks ms
 within-speaks s pending.Nothing r text ms w u live begun h l = absurd (let bad : true ≡ false = h in cc)
 within-speaks s (pending.One x) r text ms w u live begun h (cs, sc, enc, m) =
     let f = first_character-in pending.Nothing x text cs refl (λ e. let k = (between-parts 194 244 x begun).0 in omega arith) sc enc in
@@ -323,7 +341,8 @@ within-speaks s (pending.Two x y) r text ms w u live begun h (cs, sc, enc, m) =
     wide-speaks s (pending.One x) r y text cs ms w live f (subst (λ (l : List Token). IsText (rest_at s) (lines r cs) (all_said l ++ ms)) (u (x ∷ y ∷ [])) m)
 within-speaks s (pending.Three x y z) r text ms w u live begun h (cs, sc, enc, m) =
     let f = first_character-in (pending.Two x y) z text cs (begun-two x y z begun) (λ e. absurd (let bad : x ∷ y ∷ [] ≡ [] = e in cc)) sc enc in
-    wide-speaks s (pending.Two x y) r z text cs ms w live f (subst (λ (l : List Token). IsText (rest_at s) (lines r cs) (all_said l ++ ms)) (u (x ∷ y ∷ z ∷ [])) m)
+    wide-speaks s (pending.Two x y) r z text cs ms w live f
+    (subst (λ (l : List Token). IsText (rest_at s) (lines r cs) (all_said l ++ ms)) (u (x ∷ y ∷ z ∷ [])) m)
 
 speaks-token : (ts : List Token) → Speaks (all_said ts) → (c : ℕ) × (is_space c ≡ false) × Next (token.Word c) ts
 speaks-token ts (inl (c, ns, e, f)) = (c, e, next-of (token.Word c) ts ns f)
@@ -362,7 +381,8 @@ no-wait (pending.One x) e h = no-met (reach_first x) e
 no-wait (pending.Two x y) e h = no-met (reach_second x y) e
 no-wait (pending.Three x y z) e h = no-met (reach_third x y z) e
 
-gap-at : (s : Stage) (p : Pending) (r : Bool) (text : List ℕ) (ms : List Sign) → is_content (sort_of (at s p r)) ≡ true → is_live_stage s ≡ true → is_begun p ≡ true → is_awaited (class_of (allowed_at s)) p ≡ true
+gap-at : (s : Stage) (p : Pending) (r : Bool) (text : List ℕ) (ms : List Sign) → is_content (sort_of (at s p r)) ≡ true → is_live_stage s ≡ true
+    → is_begun p ≡ true → is_awaited (class_of (allowed_at s)) p ≡ true
     → (is_nothing p && stage_to_space s) ≡ false → Left (at s p r) text ms → Speaks ms
 unfolding is_content allowed_at through
 gap-at (stage.Reference Words l) pending.Nothing r text ms k live begun waits h left =
@@ -382,10 +402,14 @@ gap-at (stage.Fixed w i) pending.Nothing r text ms k live begun waits h left = a
 gap-at (stage.Reference (Value q) l) pending.Nothing r text ms k live begun waits h left = false-true k
 gap-at (stage.Number (Value q) base v) pending.Nothing r text ms k live begun waits h left = false-true k
 gap-at s pending.Nothing r text ms k live begun waits h left = absurd (let bad : true ≡ false = h in cc)
-gap-at (stage.Text Words) (pending.One x) r text ms k live begun waits h left = within-speaks (stage.Text Words) (pending.One x) r text ms worded-text unheard-text live begun refl left
-gap-at (stage.Bracketed b) (pending.One x) r text ms k live begun waits h left = within-speaks (stage.Bracketed b) (pending.One x) r text ms (worded-bracketed b) (unheard-bracketed b) live begun refl left
-gap-at stage.Cdata (pending.One x) r text ms k live begun waits h left = within-speaks stage.Cdata (pending.One x) r text ms worded-cdata unheard-cdata live begun refl left
-gap-at (stage.CdataBracketed b) (pending.One x) r text ms k live begun waits h left = within-speaks (stage.CdataBracketed b) (pending.One x) r text ms (worded-cdata_bracketed b) (unheard-cdata_bracketed b) live begun refl left
+gap-at (stage.Text Words) (pending.One x) r text ms k live begun waits h left =
+    within-speaks (stage.Text Words) (pending.One x) r text ms worded-text unheard-text live begun refl left
+gap-at (stage.Bracketed b) (pending.One x) r text ms k live begun waits h left =
+    within-speaks (stage.Bracketed b) (pending.One x) r text ms (worded-bracketed b) (unheard-bracketed b) live begun refl left
+gap-at stage.Cdata (pending.One x) r text ms k live begun waits h left =
+    within-speaks stage.Cdata (pending.One x) r text ms worded-cdata unheard-cdata live begun refl left
+gap-at (stage.CdataBracketed b) (pending.One x) r text ms k live begun waits h left =
+    within-speaks (stage.CdataBracketed b) (pending.One x) r text ms (worded-cdata_bracketed b) (unheard-cdata_bracketed b) live begun refl left
 gap-at (stage.Text (Value q)) (pending.One x) r text ms k live begun waits h left = false-true k
 gap-at (stage.Name StartTag u) (pending.One x) r text ms k live begun waits h left = false-true k
 gap-at (stage.Colon StartTag) (pending.One x) r text ms k live begun waits h left = false-true k
@@ -399,10 +423,14 @@ gap-at stage.Less (pending.One x) r text ms k live begun waits h left = false-tr
 gap-at stage.EndTagMark (pending.One x) r text ms k live begun waits h left = false-true k
 gap-at stage.InTag (pending.One x) r text ms k live begun waits h left = false-true k
 gap-at s (pending.One x) r text ms k live begun waits h left = absurd (no-wait (pending.One x) waits refl)
-gap-at (stage.Text Words) (pending.Two x y) r text ms k live begun waits h left = within-speaks (stage.Text Words) (pending.Two x y) r text ms worded-text unheard-text live begun refl left
-gap-at (stage.Bracketed b) (pending.Two x y) r text ms k live begun waits h left = within-speaks (stage.Bracketed b) (pending.Two x y) r text ms (worded-bracketed b) (unheard-bracketed b) live begun refl left
-gap-at stage.Cdata (pending.Two x y) r text ms k live begun waits h left = within-speaks stage.Cdata (pending.Two x y) r text ms worded-cdata unheard-cdata live begun refl left
-gap-at (stage.CdataBracketed b) (pending.Two x y) r text ms k live begun waits h left = within-speaks (stage.CdataBracketed b) (pending.Two x y) r text ms (worded-cdata_bracketed b) (unheard-cdata_bracketed b) live begun refl left
+gap-at (stage.Text Words) (pending.Two x y) r text ms k live begun waits h left =
+    within-speaks (stage.Text Words) (pending.Two x y) r text ms worded-text unheard-text live begun refl left
+gap-at (stage.Bracketed b) (pending.Two x y) r text ms k live begun waits h left =
+    within-speaks (stage.Bracketed b) (pending.Two x y) r text ms (worded-bracketed b) (unheard-bracketed b) live begun refl left
+gap-at stage.Cdata (pending.Two x y) r text ms k live begun waits h left =
+    within-speaks stage.Cdata (pending.Two x y) r text ms worded-cdata unheard-cdata live begun refl left
+gap-at (stage.CdataBracketed b) (pending.Two x y) r text ms k live begun waits h left =
+    within-speaks (stage.CdataBracketed b) (pending.Two x y) r text ms (worded-cdata_bracketed b) (unheard-cdata_bracketed b) live begun refl left
 gap-at (stage.Text (Value q)) (pending.Two x y) r text ms k live begun waits h left = false-true k
 gap-at (stage.Name StartTag u) (pending.Two x y) r text ms k live begun waits h left = false-true k
 gap-at (stage.Colon StartTag) (pending.Two x y) r text ms k live begun waits h left = false-true k
@@ -416,10 +444,14 @@ gap-at stage.Less (pending.Two x y) r text ms k live begun waits h left = false-
 gap-at stage.EndTagMark (pending.Two x y) r text ms k live begun waits h left = false-true k
 gap-at stage.InTag (pending.Two x y) r text ms k live begun waits h left = false-true k
 gap-at s (pending.Two x y) r text ms k live begun waits h left = absurd (no-wait (pending.Two x y) waits refl)
-gap-at (stage.Text Words) (pending.Three x y z) r text ms k live begun waits h left = within-speaks (stage.Text Words) (pending.Three x y z) r text ms worded-text unheard-text live begun refl left
-gap-at (stage.Bracketed b) (pending.Three x y z) r text ms k live begun waits h left = within-speaks (stage.Bracketed b) (pending.Three x y z) r text ms (worded-bracketed b) (unheard-bracketed b) live begun refl left
-gap-at stage.Cdata (pending.Three x y z) r text ms k live begun waits h left = within-speaks stage.Cdata (pending.Three x y z) r text ms worded-cdata unheard-cdata live begun refl left
-gap-at (stage.CdataBracketed b) (pending.Three x y z) r text ms k live begun waits h left = within-speaks (stage.CdataBracketed b) (pending.Three x y z) r text ms (worded-cdata_bracketed b) (unheard-cdata_bracketed b) live begun refl left
+gap-at (stage.Text Words) (pending.Three x y z) r text ms k live begun waits h left =
+    within-speaks (stage.Text Words) (pending.Three x y z) r text ms worded-text unheard-text live begun refl left
+gap-at (stage.Bracketed b) (pending.Three x y z) r text ms k live begun waits h left =
+    within-speaks (stage.Bracketed b) (pending.Three x y z) r text ms (worded-bracketed b) (unheard-bracketed b) live begun refl left
+gap-at stage.Cdata (pending.Three x y z) r text ms k live begun waits h left =
+    within-speaks stage.Cdata (pending.Three x y z) r text ms worded-cdata unheard-cdata live begun refl left
+gap-at (stage.CdataBracketed b) (pending.Three x y z) r text ms k live begun waits h left =
+    within-speaks (stage.CdataBracketed b) (pending.Three x y z) r text ms (worded-cdata_bracketed b) (unheard-cdata_bracketed b) live begun refl left
 gap-at (stage.Text (Value q)) (pending.Three x y z) r text ms k live begun waits h left = false-true k
 gap-at (stage.Name StartTag u) (pending.Three x y z) r text ms k live begun waits h left = false-true k
 gap-at (stage.Colon StartTag) (pending.Three x y z) r text ms k live begun waits h left = false-true k
@@ -434,7 +466,8 @@ gap-at stage.EndTagMark (pending.Three x y z) r text ms k live begun waits h lef
 gap-at stage.InTag (pending.Three x y z) r text ms k live begun waits h left = false-true k
 gap-at s (pending.Three x y z) r text ms k live begun waits h left = absurd (no-wait (pending.Three x y z) waits refl)
 
-pub gap-tells : (st : State) (text : List ℕ) (ts : List Token) → sort_of st ≡ at_content → is_live st ≡ true → comes_to_space st ≡ false → Left st text (all_said ts) → (c : ℕ) × (is_space c ≡ false) × Next (token.Word c) ts
+pub gap-tells : (st : State) (text : List ℕ) (ts : List Token) → sort_of st ≡ at_content → is_live st ≡ true → comes_to_space st ≡ false
+    → Left st text (all_said ts) → (c : ℕ) × (is_space c ≡ false) × Next (token.Word c) ts
 unfolding is_content
 gap-tells st text ts k live h l =
     let (a1, b1, c1) = live-parts st live in speaks-token ts (gap-at st.stage st.pending st.returned text (all_said ts) (ap is_content k) a1 b1 c1 h l)

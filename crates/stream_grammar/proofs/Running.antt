@@ -27,7 +27,8 @@ Way st to us = (bs : List ℕ) × (run st bs ≡ leads to us)
 abbrev pub Ways : Stage → State → List Token → Type 0
 Ways s to us = (r : Bool) → Way (at s pending.Nothing r) to us
 
-pub both : (s : Stage) (to : State) (us : List Token) (bs : List ℕ) → run (at s pending.Nothing true) bs ≡ leads to us → run (at s pending.Nothing false) bs ≡ leads to us → Ways s to us
+pub both : (s : Stage) (to : State) (us : List Token) (bs : List ℕ) → run (at s pending.Nothing true) bs ≡ leads to us
+    → run (at s pending.Nothing false) bs ≡ leads to us → Ways s to us
 both s to us bs e f true = (bs, e)
 both s to us bs e f false = (bs, f)
 

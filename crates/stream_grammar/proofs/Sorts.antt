@@ -163,7 +163,8 @@ opens_tag t = false
 -- what is known of a turn: its sort, its byte, that the twin of what opens a tag opens an end tag, and where the end of a tag leads; that only
 -- a `<` leads to where a tag opens, and that it opens only there
 abbrev pub Known : Stage → Kind → ℕ → Turn → Type 0
-Known s k c t = (turn_moves (sort s) t ≡ true) × (turn_own c t ≡ c) × (where_opens t (ascii stage.EndTagMark k c) ≡ where_opens t (twin_turn t)) × (where_ends t (to_words t) ≡ where_ends t t)
+Known s k c t = (turn_moves (sort s) t ≡ true) × (turn_own c t ≡ c) × (where_opens t (ascii stage.EndTagMark k c) ≡ where_opens t (twin_turn t))
+    × (where_ends t (to_words t) ≡ where_ends t t)
     × ((not (to_less t) || is_less_kind k) ≡ true) × ((not (opens_tag t) || is_less s) ≡ true)
 
 moves-Start : (k : Kind) (c : ℕ) → Known stage.Start k c (ascii stage.Start k c)
@@ -441,14 +442,18 @@ moves-Hash (Value q) k c = (refl, refl, refl, refl, refl, refl)
 
 moves-HashX : (p : Context) (k : Kind) (c : ℕ) → Known (stage.HashX p) k c (ascii (stage.HashX p) k c)
 unfolding ascii in_declaration in_reference in_number in_name in_tag
-moves-HashX Words k c = cond_both (is_digit Hexadecimal k) (goes (stage.Number Words Hexadecimal (digit c))) (stops NotWellFormed) (Known (stage.HashX Words) k c) (λ e. (refl, refl, refl, refl, refl, refl)) (λ e. (refl, refl, refl, refl, refl, refl))
-moves-HashX (Value q) k c = cond_both (is_digit Hexadecimal k) (goes (stage.Number (Value q) Hexadecimal (digit c))) (stops NotWellFormed) (Known (stage.HashX (Value q)) k c) (λ e. (refl, refl, refl, refl, refl, refl)) (λ e. (refl, refl, refl, refl, refl, refl))
+moves-HashX Words k c = cond_both (is_digit Hexadecimal k) (goes (stage.Number Words Hexadecimal (digit c))) (stops NotWellFormed)
+    (Known (stage.HashX Words) k c) (λ e. (refl, refl, refl, refl, refl, refl)) (λ e. (refl, refl, refl, refl, refl, refl))
+moves-HashX (Value q) k c = cond_both (is_digit Hexadecimal k) (goes (stage.Number (Value q) Hexadecimal (digit c))) (stops NotWellFormed)
+    (Known (stage.HashX (Value q)) k c) (λ e. (refl, refl, refl, refl, refl, refl)) (λ e. (refl, refl, refl, refl, refl, refl))
 
-moves-grown : (p : Context) (base : Base) (v n : ℕ) (k : Kind) (c : ℕ) (t : Bool) → may_move (text_sort p) [] (text_sort p) ≡ true → Known (stage.Number p base v) k c (cond t (goes (stage.Number p base n)) (stops NotWellFormed))
+moves-grown : (p : Context) (base : Base) (v n : ℕ) (k : Kind) (c : ℕ) (t : Bool) → may_move (text_sort p) [] (text_sort p) ≡ true
+    → Known (stage.Number p base v) k c (cond t (goes (stage.Number p base n)) (stops NotWellFormed))
 moves-grown p base v n k c true h = (h, refl, refl, refl, refl, refl)
 moves-grown p base v n k c false h = (refl, refl, refl, refl, refl, refl)
 
-moves-ended : (p : Context) (base : Base) (v : ℕ) (k : Kind) (c : ℕ) (t : Bool) → Known (stage.Number p base v) k c (cond t (tells_and_goes (text_token p v ∷ []) (stage.Text p)) (stops NotWellFormed))
+moves-ended : (p : Context) (base : Base) (v : ℕ) (k : Kind) (c : ℕ) (t : Bool)
+    → Known (stage.Number p base v) k c (cond t (tells_and_goes (text_token p v ∷ []) (stage.Text p)) (stops NotWellFormed))
 moves-ended Words base v k c true = (refl, refl, refl, refl, refl, refl)
 moves-ended (Value q) base v k c true = (refl, refl, refl, refl, refl, refl)
 moves-ended p base v k c false = (refl, refl, refl, refl, refl, refl)
@@ -460,7 +465,8 @@ still-context (Value q) = refl
 moves-Number : (p : Context) (base : Base) (v : ℕ) (k : Kind) (c : ℕ) → Known (stage.Number p base v) k c (ascii (stage.Number p base v) k c)
 unfolding ascii in_number
 moves-Number p base v kinds.Semicolon c = moves-ended p base v kinds.Semicolon c (is_xml v)
-moves-Number p base v k c = moves-grown p base v (base_of base * v + digit c) k c (is_digit base k && nat_lt (base_of base * v + digit c) 0x110000) (still-context p)
+moves-Number p base v k c = moves-grown p base v (base_of base * v + digit c) k c (is_digit base k && nat_lt (base_of base * v + digit c) 0x110000)
+    (still-context p)
 
 moves-end : (w : Literal) → may_move (fixed_sort w) [] (sort (fixed_end w)) ≡ true
 moves-end literal.Xml = refl
@@ -481,11 +487,13 @@ unfolding ascii in_fixed
 moves-Fixed w at k c =
     cond_both (is_fixed w (get_or (letters w) at 0) c) _ (stops (fixed_fault w)) (Known (stage.Fixed w at) k c)
     (λ e. (
-      cond_both (nat_lt (at + 1) (length (letters w))) (stage.Fixed w (at + 1)) (fixed_end w) (λ s. may_move (fixed_sort w) [] (sort s) ≡ true) (λ g. moves-fixed w) (λ g. moves-end w),
+      cond_both (nat_lt (at + 1) (length (letters w))) (stage.Fixed w (at + 1)) (fixed_end w) (λ s. may_move (fixed_sort w) [] (sort s) ≡ true)
+          (λ g. moves-fixed w) (λ g. moves-end w),
       refl,
       refl,
       refl,
-      cond_both (nat_lt (at + 1) (length (letters w))) (stage.Fixed w (at + 1)) (fixed_end w) (λ s. (not (is_less s) || is_less_kind k) ≡ true) (λ g. refl) (λ g. moves-less w k),
+      cond_both (nat_lt (at + 1) (length (letters w))) (stage.Fixed w (at + 1)) (fixed_end w) (λ s. (not (is_less s) || is_less_kind k) ≡ true) (λ g. refl)
+          (λ g. moves-less w k),
       refl,
     ))
     (λ e. (refl, refl, refl, refl, refl, refl))
@@ -552,7 +560,8 @@ returns-Fixed : (w : Literal) (at : ℕ) → turn_returns (ascii (stage.Fixed w 
 unfolding ascii in_fixed
 returns-Fixed w at =
     cond_both (is_fixed w (get_or (letters w) at 0) 10) _ (stops (fixed_fault w)) (λ u. turn_returns u ≡ true)
-    (λ e. cond_both (nat_lt (at + 1) (length (letters w))) (stage.Fixed w (at + 1)) (fixed_end w) (λ s. may_return s ≡ true) (λ g. refl) (λ g. returns-end w)) (λ e. refl)
+    (λ e. cond_both (nat_lt (at + 1) (length (letters w))) (stage.Fixed w (at + 1)) (fixed_end w) (λ s. may_return s ≡ true) (λ g. refl) (λ g. returns-end w))
+    (λ e. refl)
 
 pub returns-space : (s : Stage) → turn_returns (ascii s kinds.Space 10) ≡ true
 unfolding ascii in_declaration in_reference in_number in_name in_tag

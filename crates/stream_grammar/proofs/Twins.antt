@@ -73,20 +73,24 @@ ascii-first s r b =
     cond_both (r && b == 10) _ _ (λ (o : Outcome). Twinned o (turn_ascii end_mark b)) (λ e. tt)
     (λ f. cond_both (b == 13) _ _ (λ (o : Outcome). Twinned o (turn_ascii end_mark b))
     (λ e. no-opening true (ascii s kinds.Space 10) _ (returns-space s))
-    (λ g. subst (Twinned (settled false (ascii s (ascii_kind b) b))) (sym (cond-false _ _ _ g)) (twinned-turn (ascii s (ascii_kind b) b) (ascii stage.EndTagMark (ascii_kind b) b) (moves-ascii s (ascii_kind b) b).2)))
+    (λ g. subst (Twinned (settled false (ascii s (ascii_kind b) b))) (sym (cond-false _ _ _ g))
+    (twinned-turn (ascii s (ascii_kind b) b) (ascii stage.EndTagMark (ascii_kind b) b) (moves-ascii s (ascii_kind b) b).2)))
 
 -- what a byte of a character from 128 on tells, and where it leads, beside an end tag's
 abbrev IsFirst : Stage → Pending → Type 0
 IsFirst s p = (r : Bool) (b low high n : ℕ) (q : Pending) (o : Outcome) → calm (at s p r) ≡ true → has_between (class_of (allowed_at s)) low high ≡ true
-    → Twinned (leads (at s q r) (byte_told (voice s) p b)) o × Twinned (leads (at (through s) pending.Nothing false) (byte_told (voice s) p b ++ end_told (voice s) n)) o
+    → Twinned (leads (at s q r) (byte_told (voice s) p b)) o
+    × Twinned (leads (at (through s) pending.Nothing false) (byte_told (voice s) p b ++ end_told (voice s) n)) o
 
 abbrev begun_twin : Stage → Pending → Reach → ℕ → Outcome → Type 0
 begun_twin s p x b o = (r : Bool) → calm (at s p r) ≡ true → Twinned (turn_wide (at s p r) b x) o
 
 both-first : (s : Stage) (p : Pending) (x : Reach) (b : ℕ) (o : Outcome) → IsFirst s p → begun_twin s p x b o
 unfolding turn_wide
-both-first s p (Begun q low high) b o f = λ r h. cond_both (has_between (class_of (allowed_at s)) low high) _ _ (λ (y : Outcome). Twinned y o) (λ e. (f r b low high 0 q o h e).0) (λ e. tt)
-both-first s p (Whole n) b o f = λ r h. cond_both (has_between (class_of (allowed_at s)) n n) _ _ (λ (y : Outcome). Twinned y o) (λ e. (f r b n n n pending.Nothing o h e).1) (λ e. tt)
+both-first s p (Begun q low high) b o f = λ r h. cond_both (has_between (class_of (allowed_at s)) low high) _ _ (λ (y : Outcome). Twinned y o)
+    (λ e. (f r b low high 0 q o h e).0) (λ e. tt)
+both-first s p (Whole n) b o f =
+    λ r h. cond_both (has_between (class_of (allowed_at s)) n n) _ _ (λ (y : Outcome). Twinned y o) (λ e. (f r b n n n pending.Nothing o h e).1) (λ e. tt)
 both-first s p Broken b o f = λ r h. tt
 
 is-first-more : (s : Stage) (p : Pending) → is_nothing p ≡ false → IsFirst s p
@@ -115,68 +119,99 @@ is-first-more (stage.Colon EndTag) p e = λ r b low high n q o h f. (tt, tt)
 is-first-more (stage.Colon Attribute) p e = λ r b low high n q o h f. (tt, tt)
 is-first-more s p e = λ r b low high n q o h f. false-true f
 
-begun-first : (s : Stage) (r : Bool) (b : ℕ) (q : Pending) (t : Bool) (f g : LexFault) (u : Token) → u ≡ token.TagOpens b ⊎ (u ≡ token.CloseOpens b) → twin_stage s ≡ stage.EndTagMark → (not r || false) ≡ true
+begun-first : (s : Stage) (r : Bool) (b : ℕ) (q : Pending) (t : Bool) (f g : LexFault) (u : Token) → u ≡ token.TagOpens b ⊎ (u ≡ token.CloseOpens b)
+    → twin_stage s ≡ stage.EndTagMark → (not r || false) ≡ true
     → Twinned (cond t (leads (at s q r) (u ∷ [])) (fails f)) (cond t (leads (at stage.EndTagMark q false) (token.CloseOpens b ∷ [])) (fails g))
 begun-first s r b q true f g u k e h =
     let same : leads (at stage.EndTagMark q false) (token.CloseOpens b ∷ []) ≡ leads (twin (at s q r)) (token.CloseOpens b ∷ []) =
-    ap (λ (x : Bool). leads (at stage.EndTagMark q x) (token.CloseOpens b ∷ [])) (sym (not-returned r h)) ∙ ap (λ (x : Stage). leads (at x q r) (token.CloseOpens b ∷ [])) (sym e) in
+    ap (λ (x : Bool). leads (at stage.EndTagMark q x) (token.CloseOpens b ∷ [])) (sym (not-returned r h))
+    ∙ ap (λ (x : Stage). leads (at x q r) (token.CloseOpens b ∷ [])) (sym e) in
     elim k [
       | inl i ↦ subst (λ (v : Token). Twinned (leads (at s q r) (v ∷ [])) (leads (at stage.EndTagMark q false) (token.CloseOpens b ∷ []))) (sym i) same
       | inr i ↦ subst (λ (v : Token). Twinned (leads (at s q r) (v ∷ [])) (leads (at stage.EndTagMark q false) (token.CloseOpens b ∷ []))) (sym i) same
     ]
 begun-first s r b q false f g u k e h = tt
 
-whole-first : (s : Stage) (b : ℕ) (t : Bool) (f g : LexFault) (u : Token) → u ≡ token.TagOpens b ⊎ (u ≡ token.CloseOpens b) → twin_stage s ≡ stage.Name EndTag Prefix
-    → Twinned (cond t (leads (at s pending.Nothing false) (u ∷ [])) (fails f)) (cond t (leads (at (stage.Name EndTag Prefix) pending.Nothing false) (token.CloseOpens b ∷ [])) (fails g))
+whole-first : (s : Stage) (b : ℕ) (t : Bool) (f g : LexFault) (u : Token) → u ≡ token.TagOpens b ⊎ (u ≡ token.CloseOpens b)
+    → twin_stage s ≡ stage.Name EndTag Prefix
+    → Twinned (cond t (leads (at s pending.Nothing false) (u ∷ [])) (fails f))
+    (cond t (leads (at (stage.Name EndTag Prefix) pending.Nothing false) (token.CloseOpens b ∷ [])) (fails g))
 whole-first s b true f g u k e =
-    let same : leads (at (stage.Name EndTag Prefix) pending.Nothing false) (token.CloseOpens b ∷ []) ≡ leads (twin (at s pending.Nothing false)) (token.CloseOpens b ∷ []) =
+    let same : leads (at (stage.Name EndTag Prefix) pending.Nothing false) (token.CloseOpens b ∷ [])
+    ≡ leads (twin (at s pending.Nothing false)) (token.CloseOpens b ∷ []) =
     ap (λ (x : Stage). leads (at x pending.Nothing false) (token.CloseOpens b ∷ [])) (sym e) in
     elim k [
-      | inl i ↦ subst (λ (v : Token). Twinned (leads (at s pending.Nothing false) (v ∷ [])) (leads (at (stage.Name EndTag Prefix) pending.Nothing false) (token.CloseOpens b ∷ []))) (sym i) same
-      | inr i ↦ subst (λ (v : Token). Twinned (leads (at s pending.Nothing false) (v ∷ [])) (leads (at (stage.Name EndTag Prefix) pending.Nothing false) (token.CloseOpens b ∷ []))) (sym i) same
+      | inl i ↦ subst (λ (v : Token). Twinned (leads (at s pending.Nothing false) (v ∷ []))
+          (leads (at (stage.Name EndTag Prefix) pending.Nothing false) (token.CloseOpens b ∷ []))) (sym i) same
+      | inr i ↦ subst (λ (v : Token). Twinned (leads (at s pending.Nothing false) (v ∷ []))
+          (leads (at (stage.Name EndTag Prefix) pending.Nothing false) (token.CloseOpens b ∷ []))) (sym i) same
     ]
 whole-first s b false f g u k e = tt
 
 -- before any byte of it, at a stage that a tag's name may come from
-mark-first : (s : Stage) (r : Bool) (b : ℕ) (x : Reach) → may_return s ≡ false → calm (at s pending.Nothing r) ≡ true → Twinned (turn_wide (at s pending.Nothing r) b x) (turn_wide end_mark b x)
+mark-first : (s : Stage) (r : Bool) (b : ℕ) (x : Reach) → may_return s ≡ false → calm (at s pending.Nothing r) ≡ true
+    → Twinned (turn_wide (at s pending.Nothing r) b x) (turn_wide end_mark b x)
 unfolding turn_wide allowed_at voice through
-mark-first stage.StartLess r b (Begun q low high) e h = begun-first stage.StartLess r b q (has_between (class_of (allowed_at stage.StartLess)) low high) _ _ (token.TagOpens b) (inl refl) refl h
-mark-first stage.StartLess r b (Whole n) e h = whole-first (through stage.StartLess) b (has_between (class_of (allowed_at stage.StartLess)) n n) _ _ (token.TagOpens b) (inl refl) refl
+mark-first stage.StartLess r b (Begun q low high) e h = begun-first stage.StartLess r b q (has_between (class_of (allowed_at stage.StartLess)) low high) _ _
+    (token.TagOpens b) (inl refl) refl h
+mark-first stage.StartLess r b (Whole n) e h = whole-first (through stage.StartLess) b (has_between (class_of (allowed_at stage.StartLess)) n n) _ _
+    (token.TagOpens b) (inl refl) refl
 mark-first stage.StartLess r b Broken e h = tt
-mark-first stage.PrologLess r b (Begun q low high) e h = begun-first stage.PrologLess r b q (has_between (class_of (allowed_at stage.PrologLess)) low high) _ _ (token.TagOpens b) (inl refl) refl h
-mark-first stage.PrologLess r b (Whole n) e h = whole-first (through stage.PrologLess) b (has_between (class_of (allowed_at stage.PrologLess)) n n) _ _ (token.TagOpens b) (inl refl) refl
+mark-first stage.PrologLess r b (Begun q low high) e h = begun-first stage.PrologLess r b q (has_between (class_of (allowed_at stage.PrologLess)) low high) _ _
+    (token.TagOpens b) (inl refl) refl h
+mark-first stage.PrologLess r b (Whole n) e h = whole-first (through stage.PrologLess) b (has_between (class_of (allowed_at stage.PrologLess)) n n) _ _
+    (token.TagOpens b) (inl refl) refl
 mark-first stage.PrologLess r b Broken e h = tt
-mark-first stage.Less r b (Begun q low high) e h = begun-first stage.Less r b q (has_between (class_of (allowed_at stage.Less)) low high) _ _ (token.TagOpens b) (inl refl) refl h
-mark-first stage.Less r b (Whole n) e h = whole-first (through stage.Less) b (has_between (class_of (allowed_at stage.Less)) n n) _ _ (token.TagOpens b) (inl refl) refl
+mark-first stage.Less r b (Begun q low high) e h = begun-first stage.Less r b q (has_between (class_of (allowed_at stage.Less)) low high) _ _ (token.TagOpens b)
+    (inl refl) refl h
+mark-first stage.Less r b (Whole n) e h = whole-first (through stage.Less) b (has_between (class_of (allowed_at stage.Less)) n n) _ _ (token.TagOpens b)
+    (inl refl) refl
 mark-first stage.Less r b Broken e h = tt
-mark-first stage.EndTagMark r b (Begun q low high) e h = begun-first stage.EndTagMark r b q (has_between (class_of (allowed_at stage.EndTagMark)) low high) _ _ (token.CloseOpens b) (inr refl) refl h
-mark-first stage.EndTagMark r b (Whole n) e h = whole-first (through stage.EndTagMark) b (has_between (class_of (allowed_at stage.EndTagMark)) n n) _ _ (token.CloseOpens b) (inr refl) refl
+mark-first stage.EndTagMark r b (Begun q low high) e h = begun-first stage.EndTagMark r b q (has_between (class_of (allowed_at stage.EndTagMark)) low high) _ _
+    (token.CloseOpens b) (inr refl) refl h
+mark-first stage.EndTagMark r b (Whole n) e h = whole-first (through stage.EndTagMark) b (has_between (class_of (allowed_at stage.EndTagMark)) n n) _ _
+    (token.CloseOpens b) (inr refl) refl
 mark-first stage.EndTagMark r b Broken e h = tt
-mark-first (stage.Name StartTag Prefix) r b (Begun q low high) e h = both-first (stage.Name StartTag Prefix) pending.Nothing (Begun q low high) b _ (λ r b low high n q o h f. (tt, tt)) r h
-mark-first (stage.Name StartTag Prefix) r b (Whole n) e h = both-first (stage.Name StartTag Prefix) pending.Nothing (Whole n) b _ (λ r b low high n q o h f. (tt, tt)) r h
+mark-first (stage.Name StartTag Prefix) r b (Begun q low high) e h =
+    both-first (stage.Name StartTag Prefix) pending.Nothing (Begun q low high) b _ (λ r b low high n q o h f. (tt, tt)) r h
+mark-first (stage.Name StartTag Prefix) r b (Whole n) e h =
+    both-first (stage.Name StartTag Prefix) pending.Nothing (Whole n) b _ (λ r b low high n q o h f. (tt, tt)) r h
 mark-first (stage.Name StartTag Prefix) r b Broken e h = tt
-mark-first (stage.Name StartTag Local) r b (Begun q low high) e h = both-first (stage.Name StartTag Local) pending.Nothing (Begun q low high) b _ (λ r b low high n q o h f. (tt, tt)) r h
-mark-first (stage.Name StartTag Local) r b (Whole n) e h = both-first (stage.Name StartTag Local) pending.Nothing (Whole n) b _ (λ r b low high n q o h f. (tt, tt)) r h
+mark-first (stage.Name StartTag Local) r b (Begun q low high) e h =
+    both-first (stage.Name StartTag Local) pending.Nothing (Begun q low high) b _ (λ r b low high n q o h f. (tt, tt)) r h
+mark-first (stage.Name StartTag Local) r b (Whole n) e h =
+    both-first (stage.Name StartTag Local) pending.Nothing (Whole n) b _ (λ r b low high n q o h f. (tt, tt)) r h
 mark-first (stage.Name StartTag Local) r b Broken e h = tt
-mark-first (stage.Name EndTag Prefix) r b (Begun q low high) e h = both-first (stage.Name EndTag Prefix) pending.Nothing (Begun q low high) b _ (λ r b low high n q o h f. (tt, tt)) r h
-mark-first (stage.Name EndTag Prefix) r b (Whole n) e h = both-first (stage.Name EndTag Prefix) pending.Nothing (Whole n) b _ (λ r b low high n q o h f. (tt, tt)) r h
+mark-first (stage.Name EndTag Prefix) r b (Begun q low high) e h =
+    both-first (stage.Name EndTag Prefix) pending.Nothing (Begun q low high) b _ (λ r b low high n q o h f. (tt, tt)) r h
+mark-first (stage.Name EndTag Prefix) r b (Whole n) e h =
+    both-first (stage.Name EndTag Prefix) pending.Nothing (Whole n) b _ (λ r b low high n q o h f. (tt, tt)) r h
 mark-first (stage.Name EndTag Prefix) r b Broken e h = tt
-mark-first (stage.Name EndTag Local) r b (Begun q low high) e h = both-first (stage.Name EndTag Local) pending.Nothing (Begun q low high) b _ (λ r b low high n q o h f. (tt, tt)) r h
-mark-first (stage.Name EndTag Local) r b (Whole n) e h = both-first (stage.Name EndTag Local) pending.Nothing (Whole n) b _ (λ r b low high n q o h f. (tt, tt)) r h
+mark-first (stage.Name EndTag Local) r b (Begun q low high) e h =
+    both-first (stage.Name EndTag Local) pending.Nothing (Begun q low high) b _ (λ r b low high n q o h f. (tt, tt)) r h
+mark-first (stage.Name EndTag Local) r b (Whole n) e h = both-first (stage.Name EndTag Local) pending.Nothing (Whole n) b _ (λ r b low high n q o h f. (tt, tt))
+    r h
 mark-first (stage.Name EndTag Local) r b Broken e h = tt
-mark-first (stage.Name Attribute Prefix) r b (Begun q low high) e h = both-first (stage.Name Attribute Prefix) pending.Nothing (Begun q low high) b _ (λ r b low high n q o h f. (tt, tt)) r h
-mark-first (stage.Name Attribute Prefix) r b (Whole n) e h = both-first (stage.Name Attribute Prefix) pending.Nothing (Whole n) b _ (λ r b low high n q o h f. (tt, tt)) r h
+mark-first (stage.Name Attribute Prefix) r b (Begun q low high) e h =
+    both-first (stage.Name Attribute Prefix) pending.Nothing (Begun q low high) b _ (λ r b low high n q o h f. (tt, tt)) r h
+mark-first (stage.Name Attribute Prefix) r b (Whole n) e h =
+    both-first (stage.Name Attribute Prefix) pending.Nothing (Whole n) b _ (λ r b low high n q o h f. (tt, tt)) r h
 mark-first (stage.Name Attribute Prefix) r b Broken e h = tt
-mark-first (stage.Name Attribute Local) r b (Begun q low high) e h = both-first (stage.Name Attribute Local) pending.Nothing (Begun q low high) b _ (λ r b low high n q o h f. (tt, tt)) r h
-mark-first (stage.Name Attribute Local) r b (Whole n) e h = both-first (stage.Name Attribute Local) pending.Nothing (Whole n) b _ (λ r b low high n q o h f. (tt, tt)) r h
+mark-first (stage.Name Attribute Local) r b (Begun q low high) e h =
+    both-first (stage.Name Attribute Local) pending.Nothing (Begun q low high) b _ (λ r b low high n q o h f. (tt, tt)) r h
+mark-first (stage.Name Attribute Local) r b (Whole n) e h =
+    both-first (stage.Name Attribute Local) pending.Nothing (Whole n) b _ (λ r b low high n q o h f. (tt, tt)) r h
 mark-first (stage.Name Attribute Local) r b Broken e h = tt
-mark-first (stage.Colon StartTag) r b (Begun q low high) e h = both-first (stage.Colon StartTag) pending.Nothing (Begun q low high) b _ (λ r b low high n q o h f. (tt, tt)) r h
+mark-first (stage.Colon StartTag) r b (Begun q low high) e h =
+    both-first (stage.Colon StartTag) pending.Nothing (Begun q low high) b _ (λ r b low high n q o h f. (tt, tt)) r h
 mark-first (stage.Colon StartTag) r b (Whole n) e h = both-first (stage.Colon StartTag) pending.Nothing (Whole n) b _ (λ r b low high n q o h f. (tt, tt)) r h
 mark-first (stage.Colon StartTag) r b Broken e h = tt
-mark-first (stage.Colon EndTag) r b (Begun q low high) e h = both-first (stage.Colon EndTag) pending.Nothing (Begun q low high) b _ (λ r b low high n q o h f. (tt, tt)) r h
+mark-first (stage.Colon EndTag) r b (Begun q low high) e h =
+    both-first (stage.Colon EndTag) pending.Nothing (Begun q low high) b _ (λ r b low high n q o h f. (tt, tt)) r h
 mark-first (stage.Colon EndTag) r b (Whole n) e h = both-first (stage.Colon EndTag) pending.Nothing (Whole n) b _ (λ r b low high n q o h f. (tt, tt)) r h
 mark-first (stage.Colon EndTag) r b Broken e h = tt
-mark-first (stage.Colon Attribute) r b (Begun q low high) e h = both-first (stage.Colon Attribute) pending.Nothing (Begun q low high) b _ (λ r b low high n q o h f. (tt, tt)) r h
+mark-first (stage.Colon Attribute) r b (Begun q low high) e h =
+    both-first (stage.Colon Attribute) pending.Nothing (Begun q low high) b _ (λ r b low high n q o h f. (tt, tt)) r h
 mark-first (stage.Colon Attribute) r b (Whole n) e h = both-first (stage.Colon Attribute) pending.Nothing (Whole n) b _ (λ r b low high n q o h f. (tt, tt)) r h
 mark-first (stage.Colon Attribute) r b Broken e h = tt
 mark-first s r b x e h = absurd (let bad : true ≡ false = e in cc)
@@ -206,7 +241,8 @@ is-first-none (stage.Colon EndTag) e = λ r b low high n q o h f. false-true e
 is-first-none (stage.Colon Attribute) e = λ r b low high n q o h f. false-true e
 is-first-none s e = λ r b low high n q o h f. false-true f
 
-wide-first : (s : Stage) (r : Bool) (b : ℕ) (x : Reach) (t : Bool) → may_return s ≡ t → calm (at s pending.Nothing r) ≡ true → Twinned (turn_wide (at s pending.Nothing r) b x) (turn_wide end_mark b x)
+wide-first : (s : Stage) (r : Bool) (b : ℕ) (x : Reach) (t : Bool) → may_return s ≡ t → calm (at s pending.Nothing r) ≡ true
+    → Twinned (turn_wide (at s pending.Nothing r) b x) (turn_wide end_mark b x)
 wide-first s r b x true e h = both-first s pending.Nothing x b (turn_wide end_mark b x) (is-first-none s e) r h
 wide-first s r b x false e h = mark-first s r b x e h
 
@@ -215,12 +251,15 @@ first-twin st b h = led st.stage st.pending st.returned b h
   where
     led : (s : Stage) (p : Pending) (r : Bool) (b : ℕ) → calm (at s p r) ≡ true → Twinned (turn (at s p r) b) (turn end_mark b)
     led s pending.Nothing r b h =
-        cond_both (nat_lt b 128) (turn_ascii (at s pending.Nothing r) b) (turn_wide (at s pending.Nothing r) b (reach pending.Nothing b)) (λ (o : Outcome). Twinned o (turn end_mark b))
+        cond_both (nat_lt b 128) (turn_ascii (at s pending.Nothing r) b) (turn_wide (at s pending.Nothing r) b (reach pending.Nothing b))
+        (λ (o : Outcome). Twinned o (turn end_mark b))
         (λ e. subst (Twinned (turn_ascii (at s pending.Nothing r) b)) (sym (cond-true _ _ _ e)) (ascii-first s r b))
-        (λ e. subst (Twinned (turn_wide (at s pending.Nothing r) b (reach pending.Nothing b))) (sym (cond-false _ _ _ e)) (wide-first s r b (reach pending.Nothing b) (may_return s) refl h))
+        (λ e. subst (Twinned (turn_wide (at s pending.Nothing r) b (reach pending.Nothing b))) (sym (cond-false _ _ _ e))
+        (wide-first s r b (reach pending.Nothing b) (may_return s) refl h))
     led s (pending.One x) r b h = both-first s (pending.One x) (reach (pending.One x) b) b (turn end_mark b) (is-first-more s (pending.One x) refl) r h
     led s (pending.Two x y) r b h = both-first s (pending.Two x y) (reach (pending.Two x y) b) b (turn end_mark b) (is-first-more s (pending.Two x y) refl) r h
-    led s (pending.Three x y z) r b h = both-first s (pending.Three x y z) (reach (pending.Three x y z) b) b (turn end_mark b) (is-first-more s (pending.Three x y z) refl) r h
+    led s (pending.Three x y z) r b h =
+        both-first s (pending.Three x y z) (reach (pending.Three x y z) b) b (turn end_mark b) (is-first-more s (pending.Three x y z) refl) r h
 
 -- The further bytes.
 
@@ -252,7 +291,8 @@ turn-next (tells_and_goes ts t) u h = tt
 turn-next (goes t) u h = tt
 turn-next (stops f) u h = tt
 
-name-next : (s : Stage) (k : Kind) (c : ℕ) → is_named (sort s) ≡ true → where_names (ascii s k c) (ascii (twin_stage s) k c) ≡ where_names (ascii s k c) (twin_turn (ascii s k c))
+name-next : (s : Stage) (k : Kind) (c : ℕ) → is_named (sort s) ≡ true
+    → where_names (ascii s k c) (ascii (twin_stage s) k c) ≡ where_names (ascii s k c) (twin_turn (ascii s k c))
 unfolding ascii in_name
 name-next (stage.Name StartTag Prefix) kinds.Space c h = refl
 name-next (stage.Name StartTag Prefix) k c h = refl
@@ -278,51 +318,76 @@ name-next (stage.Name Attribute p) k c h = false-true h
 name-next (stage.Colon Attribute) k c h = false-true h
 name-next s k c h = false-true h
 
-ascii-next : (s : Stage) (r : Bool) (b : ℕ) → is_named (sort s) ≡ true → TwinnedNext (turn_ascii (at s pending.Nothing r) b) (turn_ascii (at (twin_stage s) pending.Nothing r) b)
+ascii-next : (s : Stage) (r : Bool) (b : ℕ) → is_named (sort s) ≡ true
+    → TwinnedNext (turn_ascii (at s pending.Nothing r) b) (turn_ascii (at (twin_stage s) pending.Nothing r) b)
 unfolding turn_ascii ascii_kind
 ascii-next s r b h =
     let u : Outcome = turn_ascii (at (twin_stage s) pending.Nothing r) b in
     cond_both (r && b == 10) _ _ (λ (o : Outcome). TwinnedNext o u) (λ e. tt)
     (λ f. cond_both (b == 13) _ _ (λ (o : Outcome). TwinnedNext o u)
     (λ e. no-next true (ascii s kinds.Space 10) u (returns-space s))
-    (λ g. subst (TwinnedNext (settled false (ascii s (ascii_kind b) b))) (sym (cond-false _ _ _ f ∙ cond-false _ _ _ g)) (turn-next (ascii s (ascii_kind b) b) (ascii (twin_stage s) (ascii_kind b) b) (name-next s (ascii_kind b) b h))))
+    (λ g. subst (TwinnedNext (settled false (ascii s (ascii_kind b) b))) (sym (cond-false _ _ _ f ∙ cond-false _ _ _ g))
+    (turn-next (ascii s (ascii_kind b) b) (ascii (twin_stage s) (ascii_kind b) b) (name-next s (ascii_kind b) b h))))
 
 -- a name's byte of a character from 128 on
-both-next : (t : Bool) (to to1 : State) (b : ℕ) (f g : LexFault) → to1 ≡ twin to → TwinnedNext (cond t (leads to (token.NameByte b ∷ [])) (fails f)) (cond t (leads to1 (token.NameByte b ∷ [])) (fails g))
+both-next : (t : Bool) (to to1 : State) (b : ℕ) (f g : LexFault) → to1 ≡ twin to
+    → TwinnedNext (cond t (leads to (token.NameByte b ∷ [])) (fails f)) (cond t (leads to1 (token.NameByte b ∷ [])) (fails g))
 both-next true to to1 b f g e = ap (λ (x : State). leads x (token.NameByte b ∷ [])) e
 both-next false to to1 b f g e = tt
 
-wide-next : (s : Stage) (p : Pending) (r : Bool) (b : ℕ) (x : Reach) → is_named (sort_of (at s p r)) ≡ true → TwinnedNext (turn_wide (at s p r) b x) (turn_wide (at (twin_stage s) p r) b x)
+wide-next : (s : Stage) (p : Pending) (r : Bool) (b : ℕ) (x : Reach) → is_named (sort_of (at s p r)) ≡ true
+    → TwinnedNext (turn_wide (at s p r) b x) (turn_wide (at (twin_stage s) p r) b x)
 unfolding turn_wide allowed_at voice through
-wide-next (stage.Name StartTag Prefix) pending.Nothing r b (Begun q low high) h = both-next (has_between (class_of (allowed_at (stage.Name StartTag Prefix))) low high) (at (stage.Name StartTag Prefix) q r) _ b _ _ refl
-wide-next (stage.Name StartTag Prefix) pending.Nothing r b (Whole n) h = both-next (has_between (class_of (allowed_at (stage.Name StartTag Prefix))) n n) (at (through (stage.Name StartTag Prefix)) pending.Nothing false) _ b _ _ refl
+wide-next (stage.Name StartTag Prefix) pending.Nothing r b (Begun q low high) h =
+    both-next (has_between (class_of (allowed_at (stage.Name StartTag Prefix))) low high) (at (stage.Name StartTag Prefix) q r) _ b _ _ refl
+wide-next (stage.Name StartTag Prefix) pending.Nothing r b (Whole n) h =
+    both-next (has_between (class_of (allowed_at (stage.Name StartTag Prefix))) n n) (at (through (stage.Name StartTag Prefix)) pending.Nothing false) _ b _ _
+    refl
 wide-next (stage.Name StartTag Prefix) pending.Nothing r b Broken h = tt
-wide-next (stage.Name StartTag Prefix) p r b (Begun q low high) h = both-next (has_between (class_of (allowed_at (stage.Name StartTag Prefix))) low high) (at (stage.Name StartTag Prefix) q r) _ b _ _ refl
-wide-next (stage.Name StartTag Prefix) p r b (Whole n) h = both-next (has_between (class_of (allowed_at (stage.Name StartTag Prefix))) n n) (at (through (stage.Name StartTag Prefix)) pending.Nothing false) _ b _ _ refl
+wide-next (stage.Name StartTag Prefix) p r b (Begun q low high) h =
+    both-next (has_between (class_of (allowed_at (stage.Name StartTag Prefix))) low high) (at (stage.Name StartTag Prefix) q r) _ b _ _ refl
+wide-next (stage.Name StartTag Prefix) p r b (Whole n) h =
+    both-next (has_between (class_of (allowed_at (stage.Name StartTag Prefix))) n n) (at (through (stage.Name StartTag Prefix)) pending.Nothing false) _ b _ _
+    refl
 wide-next (stage.Name StartTag Prefix) p r b Broken h = tt
-wide-next (stage.Name StartTag Local) pending.Nothing r b (Begun q low high) h = both-next (has_between (class_of (allowed_at (stage.Name StartTag Local))) low high) (at (stage.Name StartTag Local) q r) _ b _ _ refl
-wide-next (stage.Name StartTag Local) pending.Nothing r b (Whole n) h = both-next (has_between (class_of (allowed_at (stage.Name StartTag Local))) n n) (at (through (stage.Name StartTag Local)) pending.Nothing false) _ b _ _ refl
+wide-next (stage.Name StartTag Local) pending.Nothing r b (Begun q low high) h =
+    both-next (has_between (class_of (allowed_at (stage.Name StartTag Local))) low high) (at (stage.Name StartTag Local) q r) _ b _ _ refl
+wide-next (stage.Name StartTag Local) pending.Nothing r b (Whole n) h =
+    both-next (has_between (class_of (allowed_at (stage.Name StartTag Local))) n n) (at (through (stage.Name StartTag Local)) pending.Nothing false) _ b _ _
+    refl
 wide-next (stage.Name StartTag Local) pending.Nothing r b Broken h = tt
-wide-next (stage.Name StartTag Local) p r b (Begun q low high) h = both-next (has_between (class_of (allowed_at (stage.Name StartTag Local))) low high) (at (stage.Name StartTag Local) q r) _ b _ _ refl
-wide-next (stage.Name StartTag Local) p r b (Whole n) h = both-next (has_between (class_of (allowed_at (stage.Name StartTag Local))) n n) (at (through (stage.Name StartTag Local)) pending.Nothing false) _ b _ _ refl
+wide-next (stage.Name StartTag Local) p r b (Begun q low high) h =
+    both-next (has_between (class_of (allowed_at (stage.Name StartTag Local))) low high) (at (stage.Name StartTag Local) q r) _ b _ _ refl
+wide-next (stage.Name StartTag Local) p r b (Whole n) h =
+    both-next (has_between (class_of (allowed_at (stage.Name StartTag Local))) n n) (at (through (stage.Name StartTag Local)) pending.Nothing false) _ b _ _
+    refl
 wide-next (stage.Name StartTag Local) p r b Broken h = tt
-wide-next (stage.Colon StartTag) pending.Nothing r b (Begun q low high) h = both-next (has_between (class_of (allowed_at (stage.Colon StartTag))) low high) (at (stage.Colon StartTag) q r) _ b _ _ refl
-wide-next (stage.Colon StartTag) pending.Nothing r b (Whole n) h = both-next (has_between (class_of (allowed_at (stage.Colon StartTag))) n n) (at (through (stage.Colon StartTag)) pending.Nothing false) _ b _ _ refl
+wide-next (stage.Colon StartTag) pending.Nothing r b (Begun q low high) h =
+    both-next (has_between (class_of (allowed_at (stage.Colon StartTag))) low high) (at (stage.Colon StartTag) q r) _ b _ _ refl
+wide-next (stage.Colon StartTag) pending.Nothing r b (Whole n) h =
+    both-next (has_between (class_of (allowed_at (stage.Colon StartTag))) n n) (at (through (stage.Colon StartTag)) pending.Nothing false) _ b _ _ refl
 wide-next (stage.Colon StartTag) pending.Nothing r b Broken h = tt
-wide-next (stage.Colon StartTag) p r b (Begun q low high) h = both-next (has_between (class_of (allowed_at (stage.Colon StartTag))) low high) (at (stage.Colon StartTag) q r) _ b _ _ refl
-wide-next (stage.Colon StartTag) p r b (Whole n) h = both-next (has_between (class_of (allowed_at (stage.Colon StartTag))) n n) (at (through (stage.Colon StartTag)) pending.Nothing false) _ b _ _ refl
+wide-next (stage.Colon StartTag) p r b (Begun q low high) h =
+    both-next (has_between (class_of (allowed_at (stage.Colon StartTag))) low high) (at (stage.Colon StartTag) q r) _ b _ _ refl
+wide-next (stage.Colon StartTag) p r b (Whole n) h =
+    both-next (has_between (class_of (allowed_at (stage.Colon StartTag))) n n) (at (through (stage.Colon StartTag)) pending.Nothing false) _ b _ _ refl
 wide-next (stage.Colon StartTag) p r b Broken h = tt
 wide-next stage.StartLess pending.Nothing r b x h = false-true h
-wide-next stage.StartLess p r b (Begun q low high) h = both-next (has_between (class_of (allowed_at stage.StartLess)) low high) (at stage.StartLess q r) _ b _ _ refl
-wide-next stage.StartLess p r b (Whole n) h = both-next (has_between (class_of (allowed_at stage.StartLess)) n n) (at (through stage.StartLess) pending.Nothing false) _ b _ _ refl
+wide-next stage.StartLess p r b (Begun q low high) h = both-next (has_between (class_of (allowed_at stage.StartLess)) low high) (at stage.StartLess q r) _ b _ _
+    refl
+wide-next stage.StartLess p r b (Whole n) h =
+    both-next (has_between (class_of (allowed_at stage.StartLess)) n n) (at (through stage.StartLess) pending.Nothing false) _ b _ _ refl
 wide-next stage.StartLess p r b Broken h = tt
 wide-next stage.PrologLess pending.Nothing r b x h = false-true h
-wide-next stage.PrologLess p r b (Begun q low high) h = both-next (has_between (class_of (allowed_at stage.PrologLess)) low high) (at stage.PrologLess q r) _ b _ _ refl
-wide-next stage.PrologLess p r b (Whole n) h = both-next (has_between (class_of (allowed_at stage.PrologLess)) n n) (at (through stage.PrologLess) pending.Nothing false) _ b _ _ refl
+wide-next stage.PrologLess p r b (Begun q low high) h = both-next (has_between (class_of (allowed_at stage.PrologLess)) low high) (at stage.PrologLess q r) _ b
+    _ _ refl
+wide-next stage.PrologLess p r b (Whole n) h =
+    both-next (has_between (class_of (allowed_at stage.PrologLess)) n n) (at (through stage.PrologLess) pending.Nothing false) _ b _ _ refl
 wide-next stage.PrologLess p r b Broken h = tt
 wide-next stage.Less pending.Nothing r b x h = false-true h
 wide-next stage.Less p r b (Begun q low high) h = both-next (has_between (class_of (allowed_at stage.Less)) low high) (at stage.Less q r) _ b _ _ refl
-wide-next stage.Less p r b (Whole n) h = both-next (has_between (class_of (allowed_at stage.Less)) n n) (at (through stage.Less) pending.Nothing false) _ b _ _ refl
+wide-next stage.Less p r b (Whole n) h = both-next (has_between (class_of (allowed_at stage.Less)) n n) (at (through stage.Less) pending.Nothing false) _ b _ _
+    refl
 wide-next stage.Less p r b Broken h = tt
 wide-next (stage.Text Words) pending.Nothing r b x h = false-true h
 wide-next (stage.Text Words) p r b x h = false-true h
@@ -383,9 +448,11 @@ next-twin st b h = led st.stage st.pending st.returned b h
     led : (s : Stage) (p : Pending) (r : Bool) (b : ℕ) → is_named (sort_of (at s p r)) ≡ true → TwinnedNext (turn (at s p r) b) (turn (at (twin_stage s) p r) b)
     led s pending.Nothing r b h =
         let u : Outcome = turn (at (twin_stage s) pending.Nothing r) b in
-        cond_both (nat_lt b 128) (turn_ascii (at s pending.Nothing r) b) (turn_wide (at s pending.Nothing r) b (reach pending.Nothing b)) (λ (o : Outcome). TwinnedNext o u)
+        cond_both (nat_lt b 128) (turn_ascii (at s pending.Nothing r) b) (turn_wide (at s pending.Nothing r) b (reach pending.Nothing b))
+        (λ (o : Outcome). TwinnedNext o u)
         (λ e. subst (TwinnedNext (turn_ascii (at s pending.Nothing r) b)) (sym (cond-true _ _ _ e)) (ascii-next s r b h))
-        (λ e. subst (TwinnedNext (turn_wide (at s pending.Nothing r) b (reach pending.Nothing b))) (sym (cond-false _ _ _ e)) (wide-next s pending.Nothing r b (reach pending.Nothing b) h))
+        (λ e. subst (TwinnedNext (turn_wide (at s pending.Nothing r) b (reach pending.Nothing b))) (sym (cond-false _ _ _ e))
+        (wide-next s pending.Nothing r b (reach pending.Nothing b) h))
     led s (pending.One x) r b h = wide-next s (pending.One x) r b (reach (pending.One x) b) h
     led s (pending.Two x y) r b h = wide-next s (pending.Two x y) r b (reach (pending.Two x y) b) h
     led s (pending.Three x y z) r b h = wide-next s (pending.Three x y z) r b (reach (pending.Three x y z) b) h
@@ -427,7 +494,8 @@ ascii-ends s r b =
 
 abbrev IsEnd : Stage → Pending → Type 0
 IsEnd s p = (r : Bool) (b low high n : ℕ) (q : Pending) → has_between (class_of (allowed_at s)) low high ≡ true
-    → EndsSo (leads (at s q r) (byte_told (voice s) p b)) × EndsSo (leads (at (through s) pending.Nothing false) (byte_told (voice s) p b ++ end_told (voice s) n))
+    → EndsSo (leads (at s q r) (byte_told (voice s) p b))
+    × EndsSo (leads (at (through s) pending.Nothing false) (byte_told (voice s) p b ++ end_told (voice s) n))
 
 is-end : (s : Stage) (p : Pending) → IsEnd s p
 unfolding allowed_at voice through

@@ -62,75 +62,116 @@ too-far n m h e = let k : n < m = ltb-true n m e in omega arith
 
 fixed-begins : (i : ℕ) (w : Literal) → is_begin (sort (stage.Fixed w i)) ≡ true → is_live_stage (stage.Fixed w i) ≡ true → Begins (stage.Fixed w i)
 unfolding turn_ascii ascii_kind ascii in_fixed in_declaration in_reference in_number in_name in_tag allowed_at
-fixed-begins zero literal.Xml h live = (true, both (stage.Fixed literal.Xml 0) words (declaration_tokens true ++ tag_told) (codes "xml version='1.0'?><a>") refl refl)
-fixed-begins zero (literal.Name Version) h live = (true, both (stage.Fixed (literal.Name Version) 0) words (declaration_tokens true ++ tag_told) (codes "ersion='1.0'?><a>") refl refl)
-fixed-begins zero (literal.Name Encoding) h live = (true, both (stage.Fixed (literal.Name Encoding) 0) words (declaration_tokens true ++ tag_told) (codes "ncoding='utf-8'?><a>") refl refl)
-fixed-begins zero (literal.Name Standalone) h live = (true, both (stage.Fixed (literal.Name Standalone) 0) words (declaration_tokens true ++ tag_told) (codes "tandalone='no'?><a>") refl refl)
-fixed-begins zero (literal.Major Double) h live = (true, both (stage.Fixed (literal.Major Double) 0) words (declaration_tokens true ++ tag_told) (codes "1.0\"?><a>") refl refl)
-fixed-begins zero (literal.Charset Double) h live = (true, both (stage.Fixed (literal.Charset Double) 0) words (declaration_tokens true ++ tag_told) (codes "utf-8\"?><a>") refl refl)
-fixed-begins zero (literal.Yes Double) h live = (true, both (stage.Fixed (literal.Yes Double) 0) words (declaration_tokens true ++ tag_told) (codes "es\"?><a>") refl refl)
-fixed-begins zero (literal.No Double) h live = (true, both (stage.Fixed (literal.No Double) 0) words (declaration_tokens true ++ tag_told) (codes "o\"?><a>") refl refl)
-fixed-begins zero (literal.Major Single) h live = (true, both (stage.Fixed (literal.Major Single) 0) words (declaration_tokens true ++ tag_told) (codes "1.0'?><a>") refl refl)
-fixed-begins zero (literal.Charset Single) h live = (true, both (stage.Fixed (literal.Charset Single) 0) words (declaration_tokens true ++ tag_told) (codes "utf-8'?><a>") refl refl)
-fixed-begins zero (literal.Yes Single) h live = (true, both (stage.Fixed (literal.Yes Single) 0) words (declaration_tokens true ++ tag_told) (codes "es'?><a>") refl refl)
-fixed-begins zero (literal.No Single) h live = (true, both (stage.Fixed (literal.No Single) 0) words (declaration_tokens true ++ tag_told) (codes "o'?><a>") refl refl)
+fixed-begins zero literal.Xml h live =
+    (true, both (stage.Fixed literal.Xml 0) words (declaration_tokens true ++ tag_told) (codes "xml version='1.0'?><a>") refl refl)
+fixed-begins zero (literal.Name Version) h live =
+    (true, both (stage.Fixed (literal.Name Version) 0) words (declaration_tokens true ++ tag_told) (codes "ersion='1.0'?><a>") refl refl)
+fixed-begins zero (literal.Name Encoding) h live =
+    (true, both (stage.Fixed (literal.Name Encoding) 0) words (declaration_tokens true ++ tag_told) (codes "ncoding='utf-8'?><a>") refl refl)
+fixed-begins zero (literal.Name Standalone) h live =
+    (true, both (stage.Fixed (literal.Name Standalone) 0) words (declaration_tokens true ++ tag_told) (codes "tandalone='no'?><a>") refl refl)
+fixed-begins zero (literal.Major Double) h live =
+    (true, both (stage.Fixed (literal.Major Double) 0) words (declaration_tokens true ++ tag_told) (codes "1.0\"?><a>") refl refl)
+fixed-begins zero (literal.Charset Double) h live =
+    (true, both (stage.Fixed (literal.Charset Double) 0) words (declaration_tokens true ++ tag_told) (codes "utf-8\"?><a>") refl refl)
+fixed-begins zero (literal.Yes Double) h live =
+    (true, both (stage.Fixed (literal.Yes Double) 0) words (declaration_tokens true ++ tag_told) (codes "es\"?><a>") refl refl)
+fixed-begins zero (literal.No Double) h live =
+    (true, both (stage.Fixed (literal.No Double) 0) words (declaration_tokens true ++ tag_told) (codes "o\"?><a>") refl refl)
+fixed-begins zero (literal.Major Single) h live =
+    (true, both (stage.Fixed (literal.Major Single) 0) words (declaration_tokens true ++ tag_told) (codes "1.0'?><a>") refl refl)
+fixed-begins zero (literal.Charset Single) h live =
+    (true, both (stage.Fixed (literal.Charset Single) 0) words (declaration_tokens true ++ tag_told) (codes "utf-8'?><a>") refl refl)
+fixed-begins zero (literal.Yes Single) h live =
+    (true, both (stage.Fixed (literal.Yes Single) 0) words (declaration_tokens true ++ tag_told) (codes "es'?><a>") refl refl)
+fixed-begins zero (literal.No Single) h live =
+    (true, both (stage.Fixed (literal.No Single) 0) words (declaration_tokens true ++ tag_told) (codes "o'?><a>") refl refl)
 fixed-begins zero literal.Cdata h live = false-true h
-fixed-begins (suc zero) literal.Xml h live = (true, both (stage.Fixed literal.Xml 1) words (declaration_tokens true ++ tag_told) (codes "ml version='1.0'?><a>") refl refl)
-fixed-begins (suc zero) (literal.Name Version) h live = (true, both (stage.Fixed (literal.Name Version) 1) words (declaration_tokens true ++ tag_told) (codes "rsion='1.0'?><a>") refl refl)
-fixed-begins (suc zero) (literal.Name Encoding) h live = (true, both (stage.Fixed (literal.Name Encoding) 1) words (declaration_tokens true ++ tag_told) (codes "coding='utf-8'?><a>") refl refl)
-fixed-begins (suc zero) (literal.Name Standalone) h live = (true, both (stage.Fixed (literal.Name Standalone) 1) words (declaration_tokens true ++ tag_told) (codes "andalone='no'?><a>") refl refl)
-fixed-begins (suc zero) (literal.Major Double) h live = (true, both (stage.Fixed (literal.Major Double) 1) words (declaration_tokens true ++ tag_told) (codes ".0\"?><a>") refl refl)
-fixed-begins (suc zero) (literal.Charset Double) h live = (true, both (stage.Fixed (literal.Charset Double) 1) words (declaration_tokens true ++ tag_told) (codes "tf-8\"?><a>") refl refl)
-fixed-begins (suc zero) (literal.Yes Double) h live = (true, both (stage.Fixed (literal.Yes Double) 1) words (declaration_tokens true ++ tag_told) (codes "s\"?><a>") refl refl)
+fixed-begins (suc zero) literal.Xml h live =
+    (true, both (stage.Fixed literal.Xml 1) words (declaration_tokens true ++ tag_told) (codes "ml version='1.0'?><a>") refl refl)
+fixed-begins (suc zero) (literal.Name Version) h live =
+    (true, both (stage.Fixed (literal.Name Version) 1) words (declaration_tokens true ++ tag_told) (codes "rsion='1.0'?><a>") refl refl)
+fixed-begins (suc zero) (literal.Name Encoding) h live =
+    (true, both (stage.Fixed (literal.Name Encoding) 1) words (declaration_tokens true ++ tag_told) (codes "coding='utf-8'?><a>") refl refl)
+fixed-begins (suc zero) (literal.Name Standalone) h live =
+    (true, both (stage.Fixed (literal.Name Standalone) 1) words (declaration_tokens true ++ tag_told) (codes "andalone='no'?><a>") refl refl)
+fixed-begins (suc zero) (literal.Major Double) h live =
+    (true, both (stage.Fixed (literal.Major Double) 1) words (declaration_tokens true ++ tag_told) (codes ".0\"?><a>") refl refl)
+fixed-begins (suc zero) (literal.Charset Double) h live =
+    (true, both (stage.Fixed (literal.Charset Double) 1) words (declaration_tokens true ++ tag_told) (codes "tf-8\"?><a>") refl refl)
+fixed-begins (suc zero) (literal.Yes Double) h live =
+    (true, both (stage.Fixed (literal.Yes Double) 1) words (declaration_tokens true ++ tag_told) (codes "s\"?><a>") refl refl)
 fixed-begins (suc zero) (literal.No Double) h live = false-true live
-fixed-begins (suc zero) (literal.Major Single) h live = (true, both (stage.Fixed (literal.Major Single) 1) words (declaration_tokens true ++ tag_told) (codes ".0'?><a>") refl refl)
-fixed-begins (suc zero) (literal.Charset Single) h live = (true, both (stage.Fixed (literal.Charset Single) 1) words (declaration_tokens true ++ tag_told) (codes "tf-8'?><a>") refl refl)
-fixed-begins (suc zero) (literal.Yes Single) h live = (true, both (stage.Fixed (literal.Yes Single) 1) words (declaration_tokens true ++ tag_told) (codes "s'?><a>") refl refl)
+fixed-begins (suc zero) (literal.Major Single) h live =
+    (true, both (stage.Fixed (literal.Major Single) 1) words (declaration_tokens true ++ tag_told) (codes ".0'?><a>") refl refl)
+fixed-begins (suc zero) (literal.Charset Single) h live =
+    (true, both (stage.Fixed (literal.Charset Single) 1) words (declaration_tokens true ++ tag_told) (codes "tf-8'?><a>") refl refl)
+fixed-begins (suc zero) (literal.Yes Single) h live =
+    (true, both (stage.Fixed (literal.Yes Single) 1) words (declaration_tokens true ++ tag_told) (codes "s'?><a>") refl refl)
 fixed-begins (suc zero) (literal.No Single) h live = false-true live
 fixed-begins (suc zero) literal.Cdata h live = false-true h
-fixed-begins (suc (suc zero)) literal.Xml h live = (true, both (stage.Fixed literal.Xml 2) words (declaration_tokens true ++ tag_told) (codes "l version='1.0'?><a>") refl refl)
-fixed-begins (suc (suc zero)) (literal.Name Version) h live = (true, both (stage.Fixed (literal.Name Version) 2) words (declaration_tokens true ++ tag_told) (codes "sion='1.0'?><a>") refl refl)
-fixed-begins (suc (suc zero)) (literal.Name Encoding) h live = (true, both (stage.Fixed (literal.Name Encoding) 2) words (declaration_tokens true ++ tag_told) (codes "oding='utf-8'?><a>") refl refl)
-fixed-begins (suc (suc zero)) (literal.Name Standalone) h live = (true, both (stage.Fixed (literal.Name Standalone) 2) words (declaration_tokens true ++ tag_told) (codes "ndalone='no'?><a>") refl refl)
+fixed-begins (suc (suc zero)) literal.Xml h live =
+    (true, both (stage.Fixed literal.Xml 2) words (declaration_tokens true ++ tag_told) (codes "l version='1.0'?><a>") refl refl)
+fixed-begins (suc (suc zero)) (literal.Name Version) h live =
+    (true, both (stage.Fixed (literal.Name Version) 2) words (declaration_tokens true ++ tag_told) (codes "sion='1.0'?><a>") refl refl)
+fixed-begins (suc (suc zero)) (literal.Name Encoding) h live =
+    (true, both (stage.Fixed (literal.Name Encoding) 2) words (declaration_tokens true ++ tag_told) (codes "oding='utf-8'?><a>") refl refl)
+fixed-begins (suc (suc zero)) (literal.Name Standalone) h live =
+    (true, both (stage.Fixed (literal.Name Standalone) 2) words (declaration_tokens true ++ tag_told) (codes "ndalone='no'?><a>") refl refl)
 fixed-begins (suc (suc zero)) (literal.Major Double) h live = false-true live
-fixed-begins (suc (suc zero)) (literal.Charset Double) h live = (true, both (stage.Fixed (literal.Charset Double) 2) words (declaration_tokens true ++ tag_told) (codes "f-8\"?><a>") refl refl)
+fixed-begins (suc (suc zero)) (literal.Charset Double) h live =
+    (true, both (stage.Fixed (literal.Charset Double) 2) words (declaration_tokens true ++ tag_told) (codes "f-8\"?><a>") refl refl)
 fixed-begins (suc (suc zero)) (literal.Yes Double) h live = false-true live
 fixed-begins (suc (suc zero)) (literal.No Double) h live = false-true live
 fixed-begins (suc (suc zero)) (literal.Major Single) h live = false-true live
-fixed-begins (suc (suc zero)) (literal.Charset Single) h live = (true, both (stage.Fixed (literal.Charset Single) 2) words (declaration_tokens true ++ tag_told) (codes "f-8'?><a>") refl refl)
+fixed-begins (suc (suc zero)) (literal.Charset Single) h live =
+    (true, both (stage.Fixed (literal.Charset Single) 2) words (declaration_tokens true ++ tag_told) (codes "f-8'?><a>") refl refl)
 fixed-begins (suc (suc zero)) (literal.Yes Single) h live = false-true live
 fixed-begins (suc (suc zero)) (literal.No Single) h live = false-true live
 fixed-begins (suc (suc zero)) literal.Cdata h live = false-true h
 fixed-begins (suc (suc (suc zero))) literal.Xml h live = false-true live
-fixed-begins (suc (suc (suc zero))) (literal.Name Version) h live = (true, both (stage.Fixed (literal.Name Version) 3) words (declaration_tokens true ++ tag_told) (codes "ion='1.0'?><a>") refl refl)
-fixed-begins (suc (suc (suc zero))) (literal.Name Encoding) h live = (true, both (stage.Fixed (literal.Name Encoding) 3) words (declaration_tokens true ++ tag_told) (codes "ding='utf-8'?><a>") refl refl)
-fixed-begins (suc (suc (suc zero))) (literal.Name Standalone) h live = (true, both (stage.Fixed (literal.Name Standalone) 3) words (declaration_tokens true ++ tag_told) (codes "dalone='no'?><a>") refl refl)
+fixed-begins (suc (suc (suc zero))) (literal.Name Version) h live =
+    (true, both (stage.Fixed (literal.Name Version) 3) words (declaration_tokens true ++ tag_told) (codes "ion='1.0'?><a>") refl refl)
+fixed-begins (suc (suc (suc zero))) (literal.Name Encoding) h live =
+    (true, both (stage.Fixed (literal.Name Encoding) 3) words (declaration_tokens true ++ tag_told) (codes "ding='utf-8'?><a>") refl refl)
+fixed-begins (suc (suc (suc zero))) (literal.Name Standalone) h live =
+    (true, both (stage.Fixed (literal.Name Standalone) 3) words (declaration_tokens true ++ tag_told) (codes "dalone='no'?><a>") refl refl)
 fixed-begins (suc (suc (suc zero))) (literal.Major Double) h live = false-true live
-fixed-begins (suc (suc (suc zero))) (literal.Charset Double) h live = (true, both (stage.Fixed (literal.Charset Double) 3) words (declaration_tokens true ++ tag_told) (codes "-8\"?><a>") refl refl)
+fixed-begins (suc (suc (suc zero))) (literal.Charset Double) h live =
+    (true, both (stage.Fixed (literal.Charset Double) 3) words (declaration_tokens true ++ tag_told) (codes "-8\"?><a>") refl refl)
 fixed-begins (suc (suc (suc zero))) (literal.Yes Double) h live = false-true live
 fixed-begins (suc (suc (suc zero))) (literal.No Double) h live = false-true live
 fixed-begins (suc (suc (suc zero))) (literal.Major Single) h live = false-true live
-fixed-begins (suc (suc (suc zero))) (literal.Charset Single) h live = (true, both (stage.Fixed (literal.Charset Single) 3) words (declaration_tokens true ++ tag_told) (codes "-8'?><a>") refl refl)
+fixed-begins (suc (suc (suc zero))) (literal.Charset Single) h live =
+    (true, both (stage.Fixed (literal.Charset Single) 3) words (declaration_tokens true ++ tag_told) (codes "-8'?><a>") refl refl)
 fixed-begins (suc (suc (suc zero))) (literal.Yes Single) h live = false-true live
 fixed-begins (suc (suc (suc zero))) (literal.No Single) h live = false-true live
 fixed-begins (suc (suc (suc zero))) literal.Cdata h live = false-true h
 fixed-begins (suc (suc (suc (suc zero)))) literal.Xml h live = false-true live
-fixed-begins (suc (suc (suc (suc zero)))) (literal.Name Version) h live = (true, both (stage.Fixed (literal.Name Version) 4) words (declaration_tokens true ++ tag_told) (codes "on='1.0'?><a>") refl refl)
-fixed-begins (suc (suc (suc (suc zero)))) (literal.Name Encoding) h live = (true, both (stage.Fixed (literal.Name Encoding) 4) words (declaration_tokens true ++ tag_told) (codes "ing='utf-8'?><a>") refl refl)
-fixed-begins (suc (suc (suc (suc zero)))) (literal.Name Standalone) h live = (true, both (stage.Fixed (literal.Name Standalone) 4) words (declaration_tokens true ++ tag_told) (codes "alone='no'?><a>") refl refl)
+fixed-begins (suc (suc (suc (suc zero)))) (literal.Name Version) h live =
+    (true, both (stage.Fixed (literal.Name Version) 4) words (declaration_tokens true ++ tag_told) (codes "on='1.0'?><a>") refl refl)
+fixed-begins (suc (suc (suc (suc zero)))) (literal.Name Encoding) h live =
+    (true, both (stage.Fixed (literal.Name Encoding) 4) words (declaration_tokens true ++ tag_told) (codes "ing='utf-8'?><a>") refl refl)
+fixed-begins (suc (suc (suc (suc zero)))) (literal.Name Standalone) h live =
+    (true, both (stage.Fixed (literal.Name Standalone) 4) words (declaration_tokens true ++ tag_told) (codes "alone='no'?><a>") refl refl)
 fixed-begins (suc (suc (suc (suc zero)))) (literal.Major Double) h live = false-true live
-fixed-begins (suc (suc (suc (suc zero)))) (literal.Charset Double) h live = (true, both (stage.Fixed (literal.Charset Double) 4) words (declaration_tokens true ++ tag_told) (codes "8\"?><a>") refl refl)
+fixed-begins (suc (suc (suc (suc zero)))) (literal.Charset Double) h live =
+    (true, both (stage.Fixed (literal.Charset Double) 4) words (declaration_tokens true ++ tag_told) (codes "8\"?><a>") refl refl)
 fixed-begins (suc (suc (suc (suc zero)))) (literal.Yes Double) h live = false-true live
 fixed-begins (suc (suc (suc (suc zero)))) (literal.No Double) h live = false-true live
 fixed-begins (suc (suc (suc (suc zero)))) (literal.Major Single) h live = false-true live
-fixed-begins (suc (suc (suc (suc zero)))) (literal.Charset Single) h live = (true, both (stage.Fixed (literal.Charset Single) 4) words (declaration_tokens true ++ tag_told) (codes "8'?><a>") refl refl)
+fixed-begins (suc (suc (suc (suc zero)))) (literal.Charset Single) h live =
+    (true, both (stage.Fixed (literal.Charset Single) 4) words (declaration_tokens true ++ tag_told) (codes "8'?><a>") refl refl)
 fixed-begins (suc (suc (suc (suc zero)))) (literal.Yes Single) h live = false-true live
 fixed-begins (suc (suc (suc (suc zero)))) (literal.No Single) h live = false-true live
 fixed-begins (suc (suc (suc (suc zero)))) literal.Cdata h live = false-true h
 fixed-begins (suc (suc (suc (suc (suc zero))))) literal.Xml h live = false-true live
-fixed-begins (suc (suc (suc (suc (suc zero))))) (literal.Name Version) h live = (true, both (stage.Fixed (literal.Name Version) 5) words (declaration_tokens true ++ tag_told) (codes "n='1.0'?><a>") refl refl)
-fixed-begins (suc (suc (suc (suc (suc zero))))) (literal.Name Encoding) h live = (true, both (stage.Fixed (literal.Name Encoding) 5) words (declaration_tokens true ++ tag_told) (codes "ng='utf-8'?><a>") refl refl)
-fixed-begins (suc (suc (suc (suc (suc zero))))) (literal.Name Standalone) h live = (true, both (stage.Fixed (literal.Name Standalone) 5) words (declaration_tokens true ++ tag_told) (codes "lone='no'?><a>") refl refl)
+fixed-begins (suc (suc (suc (suc (suc zero))))) (literal.Name Version) h live =
+    (true, both (stage.Fixed (literal.Name Version) 5) words (declaration_tokens true ++ tag_told) (codes "n='1.0'?><a>") refl refl)
+fixed-begins (suc (suc (suc (suc (suc zero))))) (literal.Name Encoding) h live =
+    (true, both (stage.Fixed (literal.Name Encoding) 5) words (declaration_tokens true ++ tag_told) (codes "ng='utf-8'?><a>") refl refl)
+fixed-begins (suc (suc (suc (suc (suc zero))))) (literal.Name Standalone) h live =
+    (true, both (stage.Fixed (literal.Name Standalone) 5) words (declaration_tokens true ++ tag_told) (codes "lone='no'?><a>") refl refl)
 fixed-begins (suc (suc (suc (suc (suc zero))))) (literal.Major Double) h live = false-true live
 fixed-begins (suc (suc (suc (suc (suc zero))))) (literal.Charset Double) h live = false-true live
 fixed-begins (suc (suc (suc (suc (suc zero))))) (literal.Yes Double) h live = false-true live
@@ -142,8 +183,10 @@ fixed-begins (suc (suc (suc (suc (suc zero))))) (literal.No Single) h live = fal
 fixed-begins (suc (suc (suc (suc (suc zero))))) literal.Cdata h live = false-true h
 fixed-begins (suc (suc (suc (suc (suc (suc zero)))))) literal.Xml h live = false-true live
 fixed-begins (suc (suc (suc (suc (suc (suc zero)))))) (literal.Name Version) h live = false-true live
-fixed-begins (suc (suc (suc (suc (suc (suc zero)))))) (literal.Name Encoding) h live = (true, both (stage.Fixed (literal.Name Encoding) 6) words (declaration_tokens true ++ tag_told) (codes "g='utf-8'?><a>") refl refl)
-fixed-begins (suc (suc (suc (suc (suc (suc zero)))))) (literal.Name Standalone) h live = (true, both (stage.Fixed (literal.Name Standalone) 6) words (declaration_tokens true ++ tag_told) (codes "one='no'?><a>") refl refl)
+fixed-begins (suc (suc (suc (suc (suc (suc zero)))))) (literal.Name Encoding) h live =
+    (true, both (stage.Fixed (literal.Name Encoding) 6) words (declaration_tokens true ++ tag_told) (codes "g='utf-8'?><a>") refl refl)
+fixed-begins (suc (suc (suc (suc (suc (suc zero)))))) (literal.Name Standalone) h live =
+    (true, both (stage.Fixed (literal.Name Standalone) 6) words (declaration_tokens true ++ tag_told) (codes "one='no'?><a>") refl refl)
 fixed-begins (suc (suc (suc (suc (suc (suc zero)))))) (literal.Major Double) h live = false-true live
 fixed-begins (suc (suc (suc (suc (suc (suc zero)))))) (literal.Charset Double) h live = false-true live
 fixed-begins (suc (suc (suc (suc (suc (suc zero)))))) (literal.Yes Double) h live = false-true live
@@ -156,7 +199,8 @@ fixed-begins (suc (suc (suc (suc (suc (suc zero)))))) literal.Cdata h live = fal
 fixed-begins (suc (suc (suc (suc (suc (suc (suc zero))))))) literal.Xml h live = false-true live
 fixed-begins (suc (suc (suc (suc (suc (suc (suc zero))))))) (literal.Name Version) h live = false-true live
 fixed-begins (suc (suc (suc (suc (suc (suc (suc zero))))))) (literal.Name Encoding) h live = false-true live
-fixed-begins (suc (suc (suc (suc (suc (suc (suc zero))))))) (literal.Name Standalone) h live = (true, both (stage.Fixed (literal.Name Standalone) 7) words (declaration_tokens true ++ tag_told) (codes "ne='no'?><a>") refl refl)
+fixed-begins (suc (suc (suc (suc (suc (suc (suc zero))))))) (literal.Name Standalone) h live =
+    (true, both (stage.Fixed (literal.Name Standalone) 7) words (declaration_tokens true ++ tag_told) (codes "ne='no'?><a>") refl refl)
 fixed-begins (suc (suc (suc (suc (suc (suc (suc zero))))))) (literal.Major Double) h live = false-true live
 fixed-begins (suc (suc (suc (suc (suc (suc (suc zero))))))) (literal.Charset Double) h live = false-true live
 fixed-begins (suc (suc (suc (suc (suc (suc (suc zero))))))) (literal.Yes Double) h live = false-true live
@@ -169,7 +213,8 @@ fixed-begins (suc (suc (suc (suc (suc (suc (suc zero))))))) literal.Cdata h live
 fixed-begins (suc (suc (suc (suc (suc (suc (suc (suc zero)))))))) literal.Xml h live = false-true live
 fixed-begins (suc (suc (suc (suc (suc (suc (suc (suc zero)))))))) (literal.Name Version) h live = false-true live
 fixed-begins (suc (suc (suc (suc (suc (suc (suc (suc zero)))))))) (literal.Name Encoding) h live = false-true live
-fixed-begins (suc (suc (suc (suc (suc (suc (suc (suc zero)))))))) (literal.Name Standalone) h live = (true, both (stage.Fixed (literal.Name Standalone) 8) words (declaration_tokens true ++ tag_told) (codes "e='no'?><a>") refl refl)
+fixed-begins (suc (suc (suc (suc (suc (suc (suc (suc zero)))))))) (literal.Name Standalone) h live =
+    (true, both (stage.Fixed (literal.Name Standalone) 8) words (declaration_tokens true ++ tag_told) (codes "e='no'?><a>") refl refl)
 fixed-begins (suc (suc (suc (suc (suc (suc (suc (suc zero)))))))) (literal.Major Double) h live = false-true live
 fixed-begins (suc (suc (suc (suc (suc (suc (suc (suc zero)))))))) (literal.Charset Double) h live = false-true live
 fixed-begins (suc (suc (suc (suc (suc (suc (suc (suc zero)))))))) (literal.Yes Double) h live = false-true live
@@ -179,18 +224,30 @@ fixed-begins (suc (suc (suc (suc (suc (suc (suc (suc zero)))))))) (literal.Chars
 fixed-begins (suc (suc (suc (suc (suc (suc (suc (suc zero)))))))) (literal.Yes Single) h live = false-true live
 fixed-begins (suc (suc (suc (suc (suc (suc (suc (suc zero)))))))) (literal.No Single) h live = false-true live
 fixed-begins (suc (suc (suc (suc (suc (suc (suc (suc zero)))))))) literal.Cdata h live = false-true h
-fixed-begins (suc (suc (suc (suc (suc (suc (suc (suc (suc i))))))))) literal.Xml h live = absurd (too-far (suc (suc (suc (suc (suc (suc (suc (suc (suc i))))))))) 3 (omega arith) live)
-fixed-begins (suc (suc (suc (suc (suc (suc (suc (suc (suc i))))))))) (literal.Name Version) h live = absurd (too-far (suc (suc (suc (suc (suc (suc (suc (suc (suc i))))))))) 6 (omega arith) live)
-fixed-begins (suc (suc (suc (suc (suc (suc (suc (suc (suc i))))))))) (literal.Name Encoding) h live = absurd (too-far (suc (suc (suc (suc (suc (suc (suc (suc (suc i))))))))) 7 (omega arith) live)
-fixed-begins (suc (suc (suc (suc (suc (suc (suc (suc (suc i))))))))) (literal.Name Standalone) h live = absurd (too-far (suc (suc (suc (suc (suc (suc (suc (suc (suc i))))))))) 9 (omega arith) live)
-fixed-begins (suc (suc (suc (suc (suc (suc (suc (suc (suc i))))))))) (literal.Major Double) h live = absurd (too-far (suc (suc (suc (suc (suc (suc (suc (suc (suc i))))))))) 2 (omega arith) live)
-fixed-begins (suc (suc (suc (suc (suc (suc (suc (suc (suc i))))))))) (literal.Charset Double) h live = absurd (too-far (suc (suc (suc (suc (suc (suc (suc (suc (suc i))))))))) 5 (omega arith) live)
-fixed-begins (suc (suc (suc (suc (suc (suc (suc (suc (suc i))))))))) (literal.Yes Double) h live = absurd (too-far (suc (suc (suc (suc (suc (suc (suc (suc (suc i))))))))) 2 (omega arith) live)
-fixed-begins (suc (suc (suc (suc (suc (suc (suc (suc (suc i))))))))) (literal.No Double) h live = absurd (too-far (suc (suc (suc (suc (suc (suc (suc (suc (suc i))))))))) 1 (omega arith) live)
-fixed-begins (suc (suc (suc (suc (suc (suc (suc (suc (suc i))))))))) (literal.Major Single) h live = absurd (too-far (suc (suc (suc (suc (suc (suc (suc (suc (suc i))))))))) 2 (omega arith) live)
-fixed-begins (suc (suc (suc (suc (suc (suc (suc (suc (suc i))))))))) (literal.Charset Single) h live = absurd (too-far (suc (suc (suc (suc (suc (suc (suc (suc (suc i))))))))) 5 (omega arith) live)
-fixed-begins (suc (suc (suc (suc (suc (suc (suc (suc (suc i))))))))) (literal.Yes Single) h live = absurd (too-far (suc (suc (suc (suc (suc (suc (suc (suc (suc i))))))))) 2 (omega arith) live)
-fixed-begins (suc (suc (suc (suc (suc (suc (suc (suc (suc i))))))))) (literal.No Single) h live = absurd (too-far (suc (suc (suc (suc (suc (suc (suc (suc (suc i))))))))) 1 (omega arith) live)
+fixed-begins (suc (suc (suc (suc (suc (suc (suc (suc (suc i))))))))) literal.Xml h live =
+    absurd (too-far (suc (suc (suc (suc (suc (suc (suc (suc (suc i))))))))) 3 (omega arith) live)
+fixed-begins (suc (suc (suc (suc (suc (suc (suc (suc (suc i))))))))) (literal.Name Version) h live =
+    absurd (too-far (suc (suc (suc (suc (suc (suc (suc (suc (suc i))))))))) 6 (omega arith) live)
+fixed-begins (suc (suc (suc (suc (suc (suc (suc (suc (suc i))))))))) (literal.Name Encoding) h live =
+    absurd (too-far (suc (suc (suc (suc (suc (suc (suc (suc (suc i))))))))) 7 (omega arith) live)
+fixed-begins (suc (suc (suc (suc (suc (suc (suc (suc (suc i))))))))) (literal.Name Standalone) h live =
+    absurd (too-far (suc (suc (suc (suc (suc (suc (suc (suc (suc i))))))))) 9 (omega arith) live)
+fixed-begins (suc (suc (suc (suc (suc (suc (suc (suc (suc i))))))))) (literal.Major Double) h live =
+    absurd (too-far (suc (suc (suc (suc (suc (suc (suc (suc (suc i))))))))) 2 (omega arith) live)
+fixed-begins (suc (suc (suc (suc (suc (suc (suc (suc (suc i))))))))) (literal.Charset Double) h live =
+    absurd (too-far (suc (suc (suc (suc (suc (suc (suc (suc (suc i))))))))) 5 (omega arith) live)
+fixed-begins (suc (suc (suc (suc (suc (suc (suc (suc (suc i))))))))) (literal.Yes Double) h live =
+    absurd (too-far (suc (suc (suc (suc (suc (suc (suc (suc (suc i))))))))) 2 (omega arith) live)
+fixed-begins (suc (suc (suc (suc (suc (suc (suc (suc (suc i))))))))) (literal.No Double) h live =
+    absurd (too-far (suc (suc (suc (suc (suc (suc (suc (suc (suc i))))))))) 1 (omega arith) live)
+fixed-begins (suc (suc (suc (suc (suc (suc (suc (suc (suc i))))))))) (literal.Major Single) h live =
+    absurd (too-far (suc (suc (suc (suc (suc (suc (suc (suc (suc i))))))))) 2 (omega arith) live)
+fixed-begins (suc (suc (suc (suc (suc (suc (suc (suc (suc i))))))))) (literal.Charset Single) h live =
+    absurd (too-far (suc (suc (suc (suc (suc (suc (suc (suc (suc i))))))))) 5 (omega arith) live)
+fixed-begins (suc (suc (suc (suc (suc (suc (suc (suc (suc i))))))))) (literal.Yes Single) h live =
+    absurd (too-far (suc (suc (suc (suc (suc (suc (suc (suc (suc i))))))))) 2 (omega arith) live)
+fixed-begins (suc (suc (suc (suc (suc (suc (suc (suc (suc i))))))))) (literal.No Single) h live =
+    absurd (too-far (suc (suc (suc (suc (suc (suc (suc (suc (suc i))))))))) 1 (omega arith) live)
 fixed-begins (suc (suc (suc (suc (suc (suc (suc (suc (suc i))))))))) literal.Cdata h live = false-true h
 
 pub begins-way : (s : Stage) → is_begin (sort s) ≡ true → is_live_stage s ≡ true → Begins s
@@ -203,15 +260,20 @@ begins-way stage.XmlSeen h live = (true, both stage.XmlSeen words (declaration_t
 begins-way stage.XmlSpace h live = (true, both stage.XmlSpace words (declaration_tokens true ++ tag_told) (codes "version='1.0'?><a>") refl refl)
 begins-way stage.DeclarationMark h live = (true, both stage.DeclarationMark words (declaration_tokens true ++ tag_told) (codes "><a>") refl refl)
 begins-way (stage.InfoName Version) h live = (true, both (stage.InfoName Version) words (declaration_tokens true ++ tag_told) (codes "='1.0'?><a>") refl refl)
-begins-way (stage.InfoEquals Version) h live = (true, both (stage.InfoEquals Version) words (declaration_tokens true ++ tag_told) (codes "'1.0'?><a>") refl refl)
+begins-way (stage.InfoEquals Version) h live =
+    (true, both (stage.InfoEquals Version) words (declaration_tokens true ++ tag_told) (codes "'1.0'?><a>") refl refl)
 begins-way (stage.InfoEnds Version) h live = (true, both (stage.InfoEnds Version) words (declaration_tokens true ++ tag_told) (codes "?><a>") refl refl)
 begins-way (stage.InfoSpace Version) h live = (true, both (stage.InfoSpace Version) words (declaration_tokens true ++ tag_told) (codes "?><a>") refl refl)
-begins-way (stage.InfoName Encoding) h live = (true, both (stage.InfoName Encoding) words (declaration_tokens true ++ tag_told) (codes "='utf-8'?><a>") refl refl)
-begins-way (stage.InfoEquals Encoding) h live = (true, both (stage.InfoEquals Encoding) words (declaration_tokens true ++ tag_told) (codes "'utf-8'?><a>") refl refl)
+begins-way (stage.InfoName Encoding) h live =
+    (true, both (stage.InfoName Encoding) words (declaration_tokens true ++ tag_told) (codes "='utf-8'?><a>") refl refl)
+begins-way (stage.InfoEquals Encoding) h live =
+    (true, both (stage.InfoEquals Encoding) words (declaration_tokens true ++ tag_told) (codes "'utf-8'?><a>") refl refl)
 begins-way (stage.InfoEnds Encoding) h live = (true, both (stage.InfoEnds Encoding) words (declaration_tokens true ++ tag_told) (codes "?><a>") refl refl)
 begins-way (stage.InfoSpace Encoding) h live = (true, both (stage.InfoSpace Encoding) words (declaration_tokens true ++ tag_told) (codes "?><a>") refl refl)
-begins-way (stage.InfoName Standalone) h live = (true, both (stage.InfoName Standalone) words (declaration_tokens true ++ tag_told) (codes "='no'?><a>") refl refl)
-begins-way (stage.InfoEquals Standalone) h live = (true, both (stage.InfoEquals Standalone) words (declaration_tokens true ++ tag_told) (codes "'no'?><a>") refl refl)
+begins-way (stage.InfoName Standalone) h live =
+    (true, both (stage.InfoName Standalone) words (declaration_tokens true ++ tag_told) (codes "='no'?><a>") refl refl)
+begins-way (stage.InfoEquals Standalone) h live =
+    (true, both (stage.InfoEquals Standalone) words (declaration_tokens true ++ tag_told) (codes "'no'?><a>") refl refl)
 begins-way (stage.InfoEnds Standalone) h live = (true, both (stage.InfoEnds Standalone) words (declaration_tokens true ++ tag_told) (codes "?><a>") refl refl)
 begins-way (stage.InfoSpace Standalone) h live = (true, both (stage.InfoSpace Standalone) words (declaration_tokens true ++ tag_told) (codes "?><a>") refl refl)
 begins-way (stage.MinorFirst Double) h live = (true, both (stage.MinorFirst Double) words (declaration_tokens true ++ tag_told) (codes "0\"?><a>") refl refl)

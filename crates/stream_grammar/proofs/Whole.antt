@@ -54,7 +54,8 @@ use Rattle.stream_grammar.proofs.Finishing.{Done, step-to, run-to, closing-done,
 
 -- A byte after which the frame is open.
 
-sound-step : (r : Rules) (st to : State) (n : Nest) (b : ℕ) (us : List Token) → IsSound r st n → turn st b ≡ leads to us → IsOpen (nest_all r n us) → goes_with r to (nest_all r n us) ≡ true → IsSound r to (nest_all r n us)
+sound-step : (r : Rules) (st to : State) (n : Nest) (b : ℕ) (us : List Token) → IsSound r st n → turn st b ≡ leads to us → IsOpen (nest_all r n us)
+    → goes_with r to (nest_all r n us) ≡ true → IsSound r to (nest_all r n us)
 sound-step r st to n b us s e o g =
     let l : Led st b (leads to us) = subst (Led st b) e (turn-led st b s.calm_is) in record {
       live = subst LeadsLive e (any-live st b s.live);
@@ -67,14 +68,18 @@ sound-step r st to n b us s e o g =
 
 -- Between two characters.
 
-named-closable : (h : Half) (ret : Bool) (n : RawName) → calm (at (stage.Name StartTag h) pending.Nothing ret) ≡ true → SoFar (at (stage.Name StartTag h) pending.Nothing ret) n → Closable n
-named-closable h ret n c g = so_far-closable (at (stage.Name StartTag h) pending.Nothing ret) n g (name-done (at (stage.Name StartTag h) pending.Nothing ret) words 62 (token.TagEnds false ∷ []) (name-turn h ret) refl refl c)
+named-closable : (h : Half) (ret : Bool) (n : RawName) → calm (at (stage.Name StartTag h) pending.Nothing ret) ≡ true
+    → SoFar (at (stage.Name StartTag h) pending.Nothing ret) n → Closable n
+named-closable h ret n c g =
+    so_far-closable (at (stage.Name StartTag h) pending.Nothing ret) n g
+    (name-done (at (stage.Name StartTag h) pending.Nothing ret) words 62 (token.TagEnds false ∷ []) (name-turn h ret) refl refl c)
 
 nest-named : (r : Rules) (s : List RawName) (n : RawName) → nest_all r (naming s n) (token.TagEnds false ∷ []) ≡ inside (n ∷ s)
 unfolding nest
 nest-named r s n = refl
 
-whole-name : (r : Rules) (h : Half) (ret : Bool) (s : List RawName) (n : RawName) → IsSound r (at (stage.Name StartTag h) pending.Nothing ret) (naming s n) → SoFar (at (stage.Name StartTag h) pending.Nothing ret) n
+whole-name : (r : Rules) (h : Half) (ret : Bool) (s : List RawName) (n : RawName) → IsSound r (at (stage.Name StartTag h) pending.Nothing ret) (naming s n)
+    → SoFar (at (stage.Name StartTag h) pending.Nothing ret) n
     → Done r (at (stage.Name StartTag h) pending.Nothing ret) (naming s n)
 whole-name r h ret s n k g =
     run-to r (at (stage.Name StartTag h) pending.Nothing ret) words (naming s n) (inside (n ∷ s)) _ k.live (name-way h ret) (nest-named r s n) tt k.room
@@ -96,7 +101,8 @@ so_far-of : (r : Rules) (st : State) (s : List RawName) (n : RawName) → Fits s
 so_far-of r st s n (inl (k, g), a) e = g
 so_far-of r st s n (inr (k, g), a) e = absurd (let bad : true ≡ false = ap is_named (sym e ∙ k) in cc)
 
-colon-done : (r : Rules) (ret : Bool) (s : List RawName) (n : RawName) → IsSound r (at (stage.Colon StartTag) pending.Nothing ret) (naming s n) → Done r (at (stage.Colon StartTag) pending.Nothing ret) (naming s n)
+colon-done : (r : Rules) (ret : Bool) (s : List RawName) (n : RawName) → IsSound r (at (stage.Colon StartTag) pending.Nothing ret) (naming s n)
+    → Done r (at (stage.Colon StartTag) pending.Nothing ret) (naming s n)
 colon-done r ret s n k =
     let st : State = at (stage.Colon StartTag) pending.Nothing ret in
     let to : State = at (stage.Name StartTag Local) pending.Nothing false in
@@ -104,10 +110,13 @@ colon-done r ret s n k =
     let n1 : RawName = (n.0, n.1 ++ 97 ∷ []) in
     let f = nest-byte r s n 97 in
     let sound : IsSound r to (naming s n1) =
-    subst (IsSound r to) f (sound-step r st to (naming s n) 97 (token.NameByte 97 ∷ []) k e (subst IsOpen (sym f) tt) (subst (λ (x : Nest). goes_with r to x ≡ true) (sym f) (goes-name r s n1 Local))) in
-    step-to r st to (naming s n) (naming s n1) 97 (token.NameByte 97 ∷ []) k.live e f tt k.room (whole-name r Local false s n1 sound (so_far-of r to s n1 sound.fits refl))
+    subst (IsSound r to) f (sound-step r st to (naming s n) 97 (token.NameByte 97 ∷ []) k e (subst IsOpen (sym f) tt)
+    (subst (λ (x : Nest). goes_with r to x ≡ true) (sym f) (goes-name r s n1 Local))) in
+    step-to r st to (naming s n) (naming s n1) 97 (token.NameByte 97 ∷ []) k.live e f tt k.room
+    (whole-name r Local false s n1 sound (so_far-of r to s n1 sound.fits refl))
 
-name-stage : (s : Stage) (r : Rules) (ret : Bool) (st : List RawName) (n : RawName) → IsSound r (at s pending.Nothing ret) (naming st n) → sort s ≡ at_name → SoFar (at s pending.Nothing ret) n → Done r (at s pending.Nothing ret) (naming st n)
+name-stage : (s : Stage) (r : Rules) (ret : Bool) (st : List RawName) (n : RawName) → IsSound r (at s pending.Nothing ret) (naming st n) → sort s ≡ at_name
+    → SoFar (at s pending.Nothing ret) n → Done r (at s pending.Nothing ret) (naming st n)
 name-stage (stage.Name StartTag h) r ret st n k e g = whole-name r h ret st n k g
 name-stage (stage.Colon StartTag) r ret st n k e g = colon-done r ret st n k
 name-stage (stage.Text Words) r ret st n k e g = false-true (ap is_named e)
@@ -144,13 +153,16 @@ nest-prolog : (r : Rules) → nest_all r declared tag_told ≡ inside ((97, []) 
 unfolding nest
 nest-prolog r = refl
 
-start-done : (r : Rules) (s : Stage) (ret : Bool) → is_live (at s pending.Nothing ret) ≡ true → is_begin (sort s) ≡ true → Done r (at s pending.Nothing ret) start
+start-done : (r : Rules) (s : Stage) (ret : Bool) → is_live (at s pending.Nothing ret) ≡ true → is_begin (sort s) ≡ true
+    → Done r (at s pending.Nothing ret) start
 start-done r s ret live k =
     let (d, w) = begins-way s k (live-parts (at s pending.Nothing ret) live).0 in
     run-to r (at s pending.Nothing ret) words start (inside ((97, []) ∷ [])) _ live (w ret) (nest-begin r d) tt tt (a-done r)
 
-declared-done : (r : Rules) (s : Stage) (ret : Bool) → is_live (at s pending.Nothing ret) ≡ true → is_prolog (sort s) ≡ true → Done r (at s pending.Nothing ret) declared
-declared-done r s ret live k = run-to r (at s pending.Nothing ret) words declared (inside ((97, []) ∷ [])) _ live (prolog-way s k ret) (nest-prolog r) tt tt (a-done r)
+declared-done : (r : Rules) (s : Stage) (ret : Bool) → is_live (at s pending.Nothing ret) ≡ true → is_prolog (sort s) ≡ true
+    → Done r (at s pending.Nothing ret) declared
+declared-done r s ret live k = run-to r (at s pending.Nothing ret) words declared (inside ((97, []) ∷ [])) _ live (prolog-way s k ret) (nest-prolog r) tt tt
+    (a-done r)
 
 -- an end tag's name
 ending-done : (r : Rules) (st : State) (s : List RawName) (m : List ℕ) → IsSound r st (closing s m) → Done r st (closing s m)
@@ -184,7 +196,8 @@ between-done r s ret lost k = absurd k.opens
 -- Within a character: a further byte of one that may come.
 
 abbrev Goes : Stage → Pending → Bool → Type 0
-Goes s p ret = (b : ℕ) × (to : State) × (us : List Token) × (turn (at s p ret) b ≡ leads to us) × ((to ≡ at (through s) pending.Nothing false) ⊎ ((q : Pending) × (to ≡ at s q ret) × (bytes_of q ≡ bytes_of p ++ b ∷ [])))
+Goes s p ret = (b : ℕ) × (to : State) × (us : List Token) × (turn (at s p ret) b ≡ leads to us)
+    × ((to ≡ at (through s) pending.Nothing false) ⊎ ((q : Pending) × (to ≡ at s q ret) × (bytes_of q ≡ bytes_of p ++ b ∷ [])))
 
 scalar-top : (n : ℕ) → IsScalar n → n < 1114112
 scalar-top n s = elim (scalar_cases n s) [ inl k ↦ omega arith | inr k ↦ k.1 ]
@@ -201,7 +214,8 @@ no-bytes (pending.One x) e f = cons_not_nil x [] f
 no-bytes (pending.Two x y) e f = cons_not_nil x (y ∷ []) f
 no-bytes (pending.Three x y z) e f = cons_not_nil x (y ∷ z ∷ []) f
 
-reached-goes : (s : Stage) (p : Pending) (ret : Bool) (d n : ℕ) (y : Reach) → reach p d ≡ y → is_nothing p ≡ false → has_between (class_of (allowed_at s)) n n ≡ true → Within y n → Goes s p ret
+reached-goes : (s : Stage) (p : Pending) (ret : Bool) (d n : ℕ) (y : Reach) → reach p d ≡ y → is_nothing p ≡ false
+    → has_between (class_of (allowed_at s)) n n ≡ true → Within y n → Goes s p ret
 unfolding turn_wide
 reached-goes s p ret d n (Whole m) e k is w = (
   d,
@@ -219,7 +233,8 @@ reached-goes s p ret d n (Begun q low high) e k is w = (
 )
 reached-goes s p ret d n Broken e k is w = absurd w
 
-met-goes : (s : Stage) (p0 p : Pending) (ret : Bool) (b : ℕ) (x : Reach) → reach p0 b ≡ x → is_begun p0 ≡ true → is_begun p ≡ true → is_nothing p ≡ false → bytes_of p ≡ bytes_of p0 ++ b ∷ [] → is_met (class_of (allowed_at s)) x ≡ true → Goes s p ret
+met-goes : (s : Stage) (p0 p : Pending) (ret : Bool) (b : ℕ) (x : Reach) → reach p0 b ≡ x → is_begun p0 ≡ true → is_begun p ≡ true → is_nothing p ≡ false
+    → bytes_of p ≡ bytes_of p0 ++ b ∷ [] → is_met (class_of (allowed_at s)) x ≡ true → Goes s p ret
 met-goes s p0 p ret b (Whole n) e begun0 begun k longer met = false-true met
 met-goes s p0 p ret b Broken e begun0 begun k longer met = false-true met
 met-goes s p0 p ret b (Begun q low high) e begun0 begun k longer met =
@@ -227,15 +242,19 @@ met-goes s p0 p ret b (Begun q low high) e begun0 begun k longer met =
     let (n, above, below, is) = has_between-has (class_of (allowed_at s)) low high (proper-class (allowed_at s)) spelt.1 met in
     let (rest, enc, left) = reach-starts p0 b n begun0 (subst (λ (y : Reach). Within y n) (sym e) (above, below)) in
     let (d, ds, f) = let y : IsRest (Begun q low high) rest = subst (λ (z : Reach). IsRest z rest) e left in y in
-    let bytes : encode_utf8 n ++ [] ≡ bytes_of p ++ (d ∷ ds) = append-nil (encode_utf8 n) ∙ (enc ∙ (ap (λ (l : List ℕ). l ++ rest) (sym longer) ∙ ap (λ (l : List ℕ). bytes_of p ++ l) f)) in
+    let bytes : encode_utf8 n ++ [] ≡ bytes_of p ++ (d ∷ ds) = append-nil (encode_utf8 n)
+    ∙ (enc ∙ (ap (λ (l : List ℕ). l ++ rest) (sym longer) ∙ ap (λ (l : List ℕ). bytes_of p ++ l) f)) in
     let within : Within (reach p d) n = reach-within p d n [] ds begun (λ z. absurd (no-bytes p k z)) (scalar-top n (class-scalar (allowed_at s) n is)) bytes in
     reached-goes s p ret d n (reach p d) refl k is within
 
-character-goes : (s : Stage) (p : Pending) (ret : Bool) → is_begun p ≡ true → is_awaited (class_of (allowed_at s)) p ≡ true → is_nothing p ≡ false → Goes s p ret
+character-goes : (s : Stage) (p : Pending) (ret : Bool) → is_begun p ≡ true → is_awaited (class_of (allowed_at s)) p ≡ true → is_nothing p ≡ false
+    → Goes s p ret
 character-goes s pending.Nothing ret begun waits k = absurd (let bad : true ≡ false = k in cc)
 character-goes s (pending.One x) ret begun waits k = met-goes s pending.Nothing (pending.One x) ret x (reach_first x) refl refl begun k refl waits
-character-goes s (pending.Two x y) ret begun waits k = met-goes s (pending.One x) (pending.Two x y) ret y (reach_second x y) refl (begun-symbol x y begun) begun k refl waits
-character-goes s (pending.Three x y z) ret begun waits k = met-goes s (pending.Two x y) (pending.Three x y z) ret z (reach_third x y z) refl (begun-two x y z begun) begun k refl waits
+character-goes s (pending.Two x y) ret begun waits k = met-goes s (pending.One x) (pending.Two x y) ret y (reach_second x y) refl (begun-symbol x y begun) begun
+    k refl waits
+character-goes s (pending.Three x y z) ret begun waits k =
+    met-goes s (pending.Two x y) (pending.Three x y z) ret z (reach_third x y z) refl (begun-two x y z begun) begun k refl waits
 
 -- The nesting stays as it is.
 
@@ -256,7 +275,8 @@ no-wait (pending.One x) e h = no-met (reach_first x) e
 no-wait (pending.Two x y) e h = no-met (reach_second x y) e
 no-wait (pending.Three x y z) e h = no-met (reach_third x y z) e
 
-inner-sort : (s : Stage) (p : Pending) (ret : Bool) → is_awaited (class_of (allowed_at s)) p ≡ true → is_nothing p ≡ false → is_inner (sort_of (at s p ret)) ≡ true
+inner-sort : (s : Stage) (p : Pending) (ret : Bool) → is_awaited (class_of (allowed_at s)) p ≡ true → is_nothing p ≡ false
+    → is_inner (sort_of (at s p ret)) ≡ true
 unfolding allowed_at through
 inner-sort s pending.Nothing ret w k = absurd (let bad : true ≡ false = k in cc)
 inner-sort (stage.Text Words) p ret w k = refl
@@ -284,10 +304,12 @@ within-sort s (pending.One x) ret e = refl
 within-sort s (pending.Two x y) ret e = refl
 within-sort s (pending.Three x y z) ret e = refl
 
-words-stay : (r : Rules) (m : RawName) (s : List RawName) (us : List Token) → may_move at_content us at_content ≡ true → ((c : ℕ) → may_stand r s c ≡ true) → nest_all r (inside (m ∷ s)) us ≡ inside (m ∷ s)
+words-stay : (r : Rules) (m : RawName) (s : List RawName) (us : List Token) → may_move at_content us at_content ≡ true → ((c : ℕ) → may_stand r s c ≡ true)
+    → nest_all r (inside (m ∷ s)) us ≡ inside (m ∷ s)
 unfolding nest
 words-stay r m s [] h f = refl
-words-stay r m s (token.Word c ∷ us) h f = ap (λ (n : Nest). nest_all r n us) (cond-true (may_stand r s c) (inside (m ∷ s)) lost (f c)) ∙ words-stay r m s us h f
+words-stay r m s (token.Word c ∷ us) h f = ap (λ (n : Nest). nest_all r n us) (cond-true (may_stand r s c) (inside (m ∷ s)) lost (f c))
+    ∙ words-stay r m s us h f
 words-stay r m s (u ∷ []) h f = false-true h
 words-stay r m s (u ∷ v ∷ us) h f = false-true h
 
@@ -299,13 +321,15 @@ or-true false = refl
 abbrev Stays : Rules → State → Nest → List Token → Type 0
 Stays r to n us = (n1 : Nest) × (nest_all r n us ≡ n1) × IsOpen n1 × (goes_with r to n1 ≡ true)
 
-loose-of : (r : Rules) (s : Stage) (p : Pending) (ret : Bool) (m : RawName) → is_nothing p ≡ false → goes_with r (at s p ret) (inside (m ∷ [])) ≡ true → r.loose ≡ true
+loose-of : (r : Rules) (s : Stage) (p : Pending) (ret : Bool) (m : RawName) → is_nothing p ≡ false → goes_with r (at s p ret) (inside (m ∷ [])) ≡ true
+    → r.loose ≡ true
 loose-of r s pending.Nothing ret m k g = absurd (let bad : true ≡ false = k in cc)
 loose-of r s (pending.One x) ret m k g = g
 loose-of r s (pending.Two x y) ret m k g = g
 loose-of r s (pending.Three x y z) ret m k g = g
 
-content-stays : (r : Rules) (s : Stage) (p : Pending) (ret : Bool) (to : State) (m : RawName) (st : List RawName) (us : List Token) → is_nothing p ≡ false → goes_with r (at s p ret) (inside (m ∷ st)) ≡ true
+content-stays : (r : Rules) (s : Stage) (p : Pending) (ret : Bool) (to : State) (m : RawName) (st : List RawName) (us : List Token) → is_nothing p ≡ false
+    → goes_with r (at s p ret) (inside (m ∷ st)) ≡ true
     → may_move at_content us at_content ≡ true → Stays r to (inside (m ∷ st)) us
 content-stays r s p ret to m [] us k g h =
     let loose = loose-of r s p ret m k g in (
@@ -326,7 +350,8 @@ goes-named : (r : Rules) (to : State) (st : List RawName) (n : RawName) → sort
 goes-named r to [] n e = mark-sort to.stage to.pending to.returned (ap is_named e)
 goes-named r to (m ∷ st) n e = refl
 
-name-stays : (r : Rules) (to : State) (st : List RawName) (n : RawName) (us : List Token) → sort_of to ≡ at_name → may_move at_name us at_name ≡ true → Stays r to (naming st n) us
+name-stays : (r : Rules) (to : State) (st : List RawName) (n : RawName) (us : List Token) → sort_of to ≡ at_name → may_move at_name us at_name ≡ true
+    → Stays r to (naming st n) us
 unfolding nest
 name-stays r to st n (token.NameByte x ∷ []) e h = (naming st (n.0, n.1 ++ x ∷ []), refl, tt, goes-named r to st (n.0, n.1 ++ x ∷ []) e)
 name-stays r to st n [] e h = false-true h
@@ -334,7 +359,8 @@ name-stays r to st n (u ∷ []) e h = false-true h
 name-stays r to st n (token.NameByte x ∷ v ∷ us) e h = false-true h
 name-stays r to st n (u ∷ v ∷ us) e h = false-true h
 
-attribute-stays : (r : Rules) (to : State) (st : List RawName) (n : RawName) (i : ℕ) (us : List Token) → may_move at_attribute us at_attribute ≡ true → Stays r to (naming_attribute st n i) us
+attribute-stays : (r : Rules) (to : State) (st : List RawName) (n : RawName) (i : ℕ) (us : List Token) → may_move at_attribute us at_attribute ≡ true
+    → Stays r to (naming_attribute st n i) us
 unfolding nest
 attribute-stays r to st n i [] h = (naming_attribute st n i, refl, tt, refl)
 attribute-stays r to st n i (token.AttrByte x ∷ []) h = (naming_attribute st n i, refl, tt, refl)
@@ -342,7 +368,8 @@ attribute-stays r to st n i (u ∷ []) h = false-true h
 attribute-stays r to st n i (token.AttrByte x ∷ v ∷ us) h = false-true h
 attribute-stays r to st n i (u ∷ v ∷ us) h = false-true h
 
-value-stays : (r : Rules) (to : State) (st : List RawName) (n : RawName) (i : ℕ) (us : List Token) → may_move at_value us at_value ≡ true → Stays r to (in_value st n i) us
+value-stays : (r : Rules) (to : State) (st : List RawName) (n : RawName) (i : ℕ) (us : List Token) → may_move at_value us at_value ≡ true
+    → Stays r to (in_value st n i) us
 unfolding nest
 value-stays r to st n i [] h = (in_value st n i, refl, tt, refl)
 value-stays r to st n i (token.Value x ∷ []) h = (in_value st n i, refl, tt, refl)
@@ -354,7 +381,8 @@ abbrev IsClosing : Nest → Type 0
 IsClosing (closing s m) = Unit {0}
 IsClosing n = ⊥
 
-stays : (r : Rules) (s : Stage) (p : Pending) (ret : Bool) (to : State) (n : Nest) (us : List Token) → IsSound r (at s p ret) n → is_nothing p ≡ false → (IsClosing n → ⊥) → sort_of to ≡ sort_of (at s p ret)
+stays : (r : Rules) (s : Stage) (p : Pending) (ret : Bool) (to : State) (n : Nest) (us : List Token) → IsSound r (at s p ret) n → is_nothing p ≡ false
+    → (IsClosing n → ⊥) → sort_of to ≡ sort_of (at s p ret)
     → may_move (sort_of (at s p ret)) us (sort_of to) ≡ true → is_inner (sort_of (at s p ret)) ≡ true → Stays r to n us
 stays r s p ret to start us k e c same m i = absurd (outer k.fits)
   where
@@ -364,17 +392,21 @@ stays r s p ret to start us k e c same m i = absurd (outer k.fits)
 stays r s p ret to declared us k e c same m i = absurd (let bad : false ≡ true = sym (ap is_inner k.fits) ∙ i in cc)
 stays r s p ret to (inside []) us k e c same m i = absurd k.opens
 stays r s p ret to (inside (x ∷ st)) us k e c same m i =
-    content-stays r s p ret to x st us e k.goes (subst (λ (y : Sort). may_move y us y ≡ true) k.fits.0 (subst (λ (y : Sort). may_move (sort_of (at s p ret)) us y ≡ true) same m))
+    content-stays r s p ret to x st us e k.goes
+    (subst (λ (y : Sort). may_move y us y ≡ true) k.fits.0 (subst (λ (y : Sort). may_move (sort_of (at s p ret)) us y ≡ true) same m))
 stays r s p ret to (naming st n) us k e c same m i = by k.fits
   where
     by : Fits (at s p ret) (naming st n) → Stays r to (naming st n) us
-    by (inl (f, g), a) = name-stays r to st n us (same ∙ f) (subst (λ (y : Sort). may_move y us y ≡ true) f (subst (λ (y : Sort). may_move (sort_of (at s p ret)) us y ≡ true) same m))
+    by (inl (f, g), a) = name-stays r to st n us (same
+        ∙ f) (subst (λ (y : Sort). may_move y us y ≡ true) f (subst (λ (y : Sort). may_move (sort_of (at s p ret)) us y ≡ true) same m))
     by (inr (f, g), a) = absurd (let bad : false ≡ true = sym (ap is_inner f) ∙ i in cc)
 stays r s p ret to (in_tag st n j) us k e c same m i = absurd (let bad : false ≡ true = sym (ap is_inner k.fits.0) ∙ i in cc)
 stays r s p ret to (naming_attribute st n j) us k e c same m i =
-    attribute-stays r to st n j us (subst (λ (y : Sort). may_move y us y ≡ true) k.fits.0 (subst (λ (y : Sort). may_move (sort_of (at s p ret)) us y ≡ true) same m))
+    attribute-stays r to st n j us
+    (subst (λ (y : Sort). may_move y us y ≡ true) k.fits.0 (subst (λ (y : Sort). may_move (sort_of (at s p ret)) us y ≡ true) same m))
 stays r s p ret to (in_value st n j) us k e c same m i =
-    value-stays r to st n j us (subst (λ (y : Sort). may_move y us y ≡ true) k.fits.0 (subst (λ (y : Sort). may_move (sort_of (at s p ret)) us y ≡ true) same m))
+    value-stays r to st n j us
+    (subst (λ (y : Sort). may_move y us y ≡ true) k.fits.0 (subst (λ (y : Sort). may_move (sort_of (at s p ret)) us y ≡ true) same m))
 stays r s p ret to (closing st m1) us k e c same m i = absurd (c tt)
 stays r s p ret to lost us k e c same m i = absurd k.opens
 
@@ -398,13 +430,15 @@ few-bytes (pending.One x) h = omega arith
 few-bytes (pending.Two x y) h = omega arith
 few-bytes (pending.Three x y z) h = omega arith
 
-character-step : (r : Rules) (s : Stage) (p : Pending) (ret : Bool) (n : Nest) (b : ℕ) (to : State) (us : List Token) → IsSound r (at s p ret) n → is_nothing p ≡ false → (IsClosing n → ⊥) → turn (at s p ret) b ≡ leads to us
+character-step : (r : Rules) (s : Stage) (p : Pending) (ret : Bool) (n : Nest) (b : ℕ) (to : State) (us : List Token) → IsSound r (at s p ret) n
+    → is_nothing p ≡ false → (IsClosing n → ⊥) → turn (at s p ret) b ≡ leads to us
     → sort_of to ≡ sort_of (at s p ret) → ((n1 : Nest) → IsSound r to n1 → Done r to n1) → Done r (at s p ret) n
 character-step r s p ret n b to us k e c f same go =
     let parts = live-parts (at s p ret) k.live in
     let l : Led (at s p ret) b (leads to us) = subst (Led (at s p ret) b) f (turn-led (at s p ret) b k.calm_is) in
     let (n1, g, o, w) = stays r s p ret to n us k e c same l.0 (inner-sort s p ret parts.2 e) in
-    let sound : IsSound r to n1 = subst (IsSound r to) g (sound-step r (at s p ret) to n b us k f (subst IsOpen (sym g) o) (subst (λ (x : Nest). goes_with r to x ≡ true) (sym g) w)) in
+    let sound : IsSound r to n1 =
+    subst (IsSound r to) g (sound-step r (at s p ret) to n b us k f (subst IsOpen (sym g) o) (subst (λ (x : Nest). goes_with r to x ≡ true) (sym g) w)) in
     step-to r (at s p ret) to n n1 b us k.live f g k.opens k.room (go n1 sound)
 
 within-step : (r : Rules) (s : Stage) (p : Pending) (ret : Bool) (n : Nest) → IsSound r (at s p ret) n → is_nothing p ≡ false → (IsClosing n → ⊥) → Goes s p ret
@@ -419,7 +453,8 @@ within-step r s p ret n k e c (b, to, us, f, inr (q, g, l)) go =
 longer : (p q : Pending) (b i : ℕ) → bytes_of q ≡ bytes_of p ++ b ∷ [] → 4 ≤ length (bytes_of p) + suc i → 4 ≤ length (bytes_of q) + i
 longer p q b i e h = let f : length (bytes_of q) ≡ length (bytes_of p) + 1 = ap (length {A = ℕ}) e ∙ length-append (bytes_of p) (b ∷ []) in omega arith
 
-within-done : (i : ℕ) (r : Rules) (s : Stage) (p : Pending) (ret : Bool) (n : Nest) → 4 ≤ length (bytes_of p) + i → is_nothing p ≡ false → IsSound r (at s p ret) n → Done r (at s p ret) n
+within-done : (i : ℕ) (r : Rules) (s : Stage) (p : Pending) (ret : Bool) (n : Nest) → 4 ≤ length (bytes_of p) + i → is_nothing p ≡ false
+    → IsSound r (at s p ret) n → Done r (at s p ret) n
 within-done zero r s p ret n h e k = absurd (few-bytes p h)
 within-done (suc i) r s p ret (closing st m) h e k = ending-done r (at s p ret) st m k
 within-done (suc i) r s p ret n h e k =
@@ -455,7 +490,9 @@ spells-follows r bytes s (text, after, e, sp, (t, short, keeps)) =
 
 pub follows-spells : (r : Rules) (bytes : List ℕ) → Follows r first_frame bytes → (s : Stream) × Spells r bytes s
 follows-spells r bytes (text, after, ts, e, sp, l, (s, keeps, is), t) =
-    let short : IsShortest text (stream_tokens s) = λ xs ys f h. t xs ys f (subst (λ (x : List Token). Left (at stage.Start pending.Nothing false) xs (all_said x)) (sym is) (first-left xs (stream_tokens s) h)) in
+    let short : IsShortest text (stream_tokens s) =
+    λ xs ys f h. t xs ys f (subst (λ (x : List Token). Left (at stage.Start pending.Nothing false) xs (all_said x)) (sym is)
+    (first-left xs (stream_tokens s) h)) in
     (s, (text, after, e, sp, (subst (Reads text) is (left-first text ts l), short, keeps)))
 
 open-ends : (r : Rules) (f : Frame) → is_broken f ≡ false → Sound r f → (more : List ℕ) × Follows r f more

@@ -83,12 +83,14 @@ less-returns stage.PrologLess h k = false-true k
 less-returns stage.Less h k = false-true k
 less-returns s h k = false-true h
 
-low-opens : (s : Stage) (r : Bool) (b : ℕ) → b < 128 → is_less s ≡ true → calm (at s pending.Nothing r) ≡ true → OpensBy b (turn_ascii (at s pending.Nothing r) b)
+low-opens : (s : Stage) (r : Bool) (b : ℕ) → b < 128 → is_less s ≡ true → calm (at s pending.Nothing r) ≡ true
+    → OpensBy b (turn_ascii (at s pending.Nothing r) b)
 unfolding turn_ascii low_fits
 low-opens s r b low h c =
     cond_both (r && b == 10) _ _ (OpensBy b)
     (λ e. absurd (less-returns s h (calm-was r s c (and_parts r (b == 10) e).0)))
-    (λ f. cond_both (b == 13) _ _ (OpensBy b) (λ e. return-fits s b h) (λ e. settled-fits (ascii s (ascii_kind b) b) false b (under 128 (low_fits s) (less-fits s h) b low)))
+    (λ f. cond_both (b == 13) _ _ (OpensBy b) (λ e. return-fits s b h)
+    (λ e. settled-fits (ascii s (ascii_kind b) b) false b (under 128 (low_fits s) (less-fits s h) b low)))
 
 high-begins : (b : ℕ) → 128 ≤ b → begins_tag b ≡ true
 high-begins b h = grind (arith, nat_tests, h)
@@ -96,12 +98,18 @@ high-begins b h = grind (arith, nat_tests, h)
 high-opens : (s : Stage) (r : Bool) (b : ℕ) (x : Reach) → 128 ≤ b → is_less s ≡ true → OpensBy b (turn_wide (at s pending.Nothing r) b x)
 unfolding turn_wide voice
 high-opens s r b Broken high h = tt
-high-opens stage.StartLess r b (Begun q i j) high h = cond_both (has_between (class_of (allowed_at stage.StartLess)) i j) _ _ (OpensBy b) (λ e. sym (high-begins b high)) (λ e. tt)
-high-opens stage.PrologLess r b (Begun q i j) high h = cond_both (has_between (class_of (allowed_at stage.PrologLess)) i j) _ _ (OpensBy b) (λ e. sym (high-begins b high)) (λ e. tt)
-high-opens stage.Less r b (Begun q i j) high h = cond_both (has_between (class_of (allowed_at stage.Less)) i j) _ _ (OpensBy b) (λ e. sym (high-begins b high)) (λ e. tt)
-high-opens stage.StartLess r b (Whole n) high h = cond_both (has_between (class_of (allowed_at stage.StartLess)) n n) _ _ (OpensBy b) (λ e. sym (high-begins b high)) (λ e. tt)
-high-opens stage.PrologLess r b (Whole n) high h = cond_both (has_between (class_of (allowed_at stage.PrologLess)) n n) _ _ (OpensBy b) (λ e. sym (high-begins b high)) (λ e. tt)
-high-opens stage.Less r b (Whole n) high h = cond_both (has_between (class_of (allowed_at stage.Less)) n n) _ _ (OpensBy b) (λ e. sym (high-begins b high)) (λ e. tt)
+high-opens stage.StartLess r b (Begun q i j) high h =
+    cond_both (has_between (class_of (allowed_at stage.StartLess)) i j) _ _ (OpensBy b) (λ e. sym (high-begins b high)) (λ e. tt)
+high-opens stage.PrologLess r b (Begun q i j) high h =
+    cond_both (has_between (class_of (allowed_at stage.PrologLess)) i j) _ _ (OpensBy b) (λ e. sym (high-begins b high)) (λ e. tt)
+high-opens stage.Less r b (Begun q i j) high h = cond_both (has_between (class_of (allowed_at stage.Less)) i j) _ _ (OpensBy b) (λ e. sym (high-begins b high))
+    (λ e. tt)
+high-opens stage.StartLess r b (Whole n) high h =
+    cond_both (has_between (class_of (allowed_at stage.StartLess)) n n) _ _ (OpensBy b) (λ e. sym (high-begins b high)) (λ e. tt)
+high-opens stage.PrologLess r b (Whole n) high h =
+    cond_both (has_between (class_of (allowed_at stage.PrologLess)) n n) _ _ (OpensBy b) (λ e. sym (high-begins b high)) (λ e. tt)
+high-opens stage.Less r b (Whole n) high h = cond_both (has_between (class_of (allowed_at stage.Less)) n n) _ _ (OpensBy b) (λ e. sym (high-begins b high))
+    (λ e. tt)
 high-opens s r b x high h = false-true h
 
 pub less-opens : (st : State) (b : ℕ) → calm st ≡ true → after_less st ≡ true → OpensBy b (turn st b)
@@ -109,8 +117,10 @@ less-opens st b c h = by st.stage st.pending st.returned c h
   where
     by : (s : Stage) (p : Pending) (r : Bool) → calm (at s p r) ≡ true → after_less (at s p r) ≡ true → OpensBy b (turn (at s p r) b)
     by s pending.Nothing r c h = elim (cases_lt b 128) [
-      | inl low ↦ cond_both (nat_lt b 128) (turn_ascii (at s pending.Nothing r) b) (turn_wide (at s pending.Nothing r) b (reach pending.Nothing b)) (OpensBy b) (λ e. low-opens s r b low h c) (λ e. absurd (let bad : 128 ≤ b = grind (arith, nat_tests, e) in omega arith))
-      | inr high ↦ cond_both (nat_lt b 128) (turn_ascii (at s pending.Nothing r) b) (turn_wide (at s pending.Nothing r) b (reach pending.Nothing b)) (OpensBy b) (λ e. absurd (let k : b < 128 = ltb-true b 128 e in omega arith)) (λ e. high-opens s r b (reach pending.Nothing b) high h)
+      | inl low ↦ cond_both (nat_lt b 128) (turn_ascii (at s pending.Nothing r) b) (turn_wide (at s pending.Nothing r) b (reach pending.Nothing b)) (OpensBy b)
+          (λ e. low-opens s r b low h c) (λ e. absurd (let bad : 128 ≤ b = grind (arith, nat_tests, e) in omega arith))
+      | inr high ↦ cond_both (nat_lt b 128) (turn_ascii (at s pending.Nothing r) b) (turn_wide (at s pending.Nothing r) b (reach pending.Nothing b)) (OpensBy b)
+          (λ e. absurd (let k : b < 128 = ltb-true b 128 e in omega arith)) (λ e. high-opens s r b (reach pending.Nothing b) high h)
     ]
     by s (pending.One x) r c h = false-true h
     by s (pending.Two x y) r c h = false-true h

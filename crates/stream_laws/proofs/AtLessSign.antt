@@ -93,7 +93,8 @@ fixed-none w i = none-at (letters w) i (letters-none w)
 
 sixty-Fixed : (w : Literal) (i : ℕ) → sixty_fits (stage.Fixed w i) (ascii (stage.Fixed w i) kinds.Less 60) ≡ true
 unfolding ascii in_fixed sixty_fits
-sixty-Fixed w i = cond_both (is_fixed w (get_or (letters w) i 0) 60) _ (stops (fixed_fault w)) (λ (t : Turn). sixty_fits (stage.Fixed w i) t ≡ true) (λ e. absurd (let bad : false ≡ true = sym (fixed-none w i) ∙ e in cc)) (λ e. refl)
+sixty-Fixed w i = cond_both (is_fixed w (get_or (letters w) i 0) 60) _ (stops (fixed_fault w)) (λ (t : Turn). sixty_fits (stage.Fixed w i) t ≡ true)
+    (λ e. absurd (let bad : false ≡ true = sym (fixed-none w i) ∙ e in cc)) (λ e. refl)
 
 sixty-stage : (s : Stage) → sixty_fits s (ascii s kinds.Less 60) ≡ true
 unfolding sixty_fits leads_to tells_at is_gap ascii in_declaration in_reference in_number in_name in_tag
@@ -261,4 +262,5 @@ by-sixty st = by st.stage st.pending st.returned
     by s pending.Nothing r = plain-sixty s r
     by s (pending.One x) r = broken-sixty (at s (pending.One x) r) (reach (pending.One x) 60) (low-broken (pending.One x) 60 (omega arith) refl)
     by s (pending.Two x y) r = broken-sixty (at s (pending.Two x y) r) (reach (pending.Two x y) 60) (low-broken (pending.Two x y) 60 (omega arith) refl)
-    by s (pending.Three x y z) r = broken-sixty (at s (pending.Three x y z) r) (reach (pending.Three x y z) 60) (low-broken (pending.Three x y z) 60 (omega arith) refl)
+    by s (pending.Three x y z) r =
+        broken-sixty (at s (pending.Three x y z) r) (reach (pending.Three x y z) 60) (low-broken (pending.Three x y z) 60 (omega arith) refl)

@@ -43,7 +43,8 @@ use Rattle.stream_laws.proofs.RoundTripText.{Gap, plain, bracketed}
 
 gap-left : (g : Gap) (c : Bool) → Left (gap_state g c) [] []
 unfolding rest_at IsText
-gap-left plain c = plain-left (stage.Text Words) c [] [] ([], refl, refl, ([], [], [], [], (0, (refl, refl)), ([], [], [], [], (0, (refl, refl)), (0, (refl, refl)), refl, refl), refl, refl))
+gap-left plain c = plain-left (stage.Text Words) c [] []
+    ([], refl, refl, ([], [], [], [], (0, (refl, refl)), ([], [], [], [], (0, (refl, refl)), (0, (refl, refl)), refl, refl), refl, refl))
 gap-left (bracketed b) c = plain-left (stage.Bracketed b) c [] [] ([], refl, refl, inr ([], [], [], [], (0, (refl, refl)), (0, (refl, refl)), refl, refl))
 
 state-same : (s t : State) (n m : Nest) → open_at s n ≡ open_at t m → s ≡ t
@@ -53,27 +54,33 @@ broken-never : (r : Rules) (bs : List ℕ) (to : State) (m : Nest) → frame_aft
 broken-never r [] to m e = cc
 broken-never r (b ∷ bs) to m e = broken-never r bs to m e
 
-told-left : (bs : List ℕ) (r : Rules) (st to : State) (n m : Nest) → is_live st ≡ true → frame_after r (open_at st n) bs ≡ open_at to m → Left to [] [] → Left st bs (all_said (told_all r (open_at st n) bs))
+told-left : (bs : List ℕ) (r : Rules) (st to : State) (n m : Nest) → is_live st ≡ true → frame_after r (open_at st n) bs ≡ open_at to m → Left to [] []
+    → Left st bs (all_said (told_all r (open_at st n) bs))
 told-left [] r st to n m live e l = subst (λ (s : State). Left s [] []) (sym (state-same st to n m e)) l
 told-left (b ∷ bs) r st to n m live e l = by (λ s k v f. told-left bs r s to k m v f l) (turn st b) refl e
   where
     Later : Type 0
     Later = (s : State) (k : Nest) → is_live s ≡ true → frame_after r (open_at s k) bs ≡ open_at to m → Left s bs (all_said (told_all r (open_at s k) bs))
 
-    next : Later → (s : State) (us : List Token) → turn st b ≡ leads s us → frame_after r (placed r s (nest_all r n us)) bs ≡ open_at to m → Left st (b ∷ bs) (all_said (told_all r (open_at st n) (b ∷ bs)))
+    next : Later → (s : State) (us : List Token) → turn st b ≡ leads s us → frame_after r (placed r s (nest_all r n us)) bs ≡ open_at to m
+        → Left st (b ∷ bs) (all_said (told_all r (open_at st n) (b ∷ bs)))
     next go s us f h =
         let k : Nest = nest_all r n us in
         let o : placed r s k ≡ open_at s k = placed-is r s k bs to m h in
-        let later : Left s bs (all_said (told_all r (open_at s k) bs)) = go s k (subst LeadsLive f (any-live st b live)) (ap (λ (x : Frame). frame_after r x bs) (sym o) ∙ h) in
-        let told : us ++ told_all r (open_at s k) bs ≡ told_all r (open_at st n) (b ∷ bs) = ap (λ (x : Frame). us ++ told_all r x bs) (sym o) ∙ ap (λ (x : Outcome). tokens_told x ++ told_all r (settled r n x) bs) (sym f) in
+        let later : Left s bs (all_said (told_all r (open_at s k) bs)) =
+        go s k (subst LeadsLive f (any-live st b live)) (ap (λ (x : Frame). frame_after r x bs) (sym o) ∙ h) in
+        let told : us ++ told_all r (open_at s k) bs ≡ told_all r (open_at st n) (b ∷ bs) = ap (λ (x : Frame). us ++ told_all r x bs) (sym o)
+        ∙ ap (λ (x : Outcome). tokens_told x ++ told_all r (settled r n x) bs) (sym f) in
         subst (λ (x : List Token). Left st (b ∷ bs) (all_said x)) told (left-from st s b us bs (told_all r (open_at s k) bs) live f later)
 
-    by : Later → (o : Outcome) → turn st b ≡ o → frame_after r (settled r n o) bs ≡ open_at to m → Left st (b ∷ bs) (all_said (told_all r (open_at st n) (b ∷ bs)))
+    by : Later → (o : Outcome) → turn st b ≡ o → frame_after r (settled r n o) bs ≡ open_at to m
+        → Left st (b ∷ bs) (all_said (told_all r (open_at st n) (b ∷ bs)))
     by go (leads s us) f h = next go s us f h
     by go (fails x) f h = absurd (broken-never r bs to m h)
 
 -- what was read there
-pub between-read : (r : Rules) (bytes : List ℕ) (g : Gap) (c : Bool) (m : RawName) → frame_after r first_frame bytes ≡ open_at (gap_state g c) (inside (m ∷ [])) → IsBetweenTops bytes
+pub between-read : (r : Rules) (bytes : List ℕ) (g : Gap) (c : Bool) (m : RawName) → frame_after r first_frame bytes ≡ open_at (gap_state g c) (inside (m ∷ []))
+    → IsBetweenTops bytes
 between-read r bytes g c m e =
     let us : List Token = told_all r first_frame bytes in
     let live : is_live first_state ≡ true = (first-sound r).live in
@@ -95,10 +102,12 @@ pub record IsBetween (r : Rules) (bytes : List ℕ) : Type 0 where
   pub name : RawName
   pub frame : frame_after r first_frame bytes ≡ open_at (gap_state gap returned) (inside (name ∷ []))
 
-pub between-frame : (r : Rules) (bytes : List ℕ) → is_broken (frame_next r (frame_after r first_frame bytes) 60) ≡ false → IsBetweenTops bytes → IsBetween r bytes
+pub between-frame : (r : Rules) (bytes : List ℕ) → is_broken (frame_next r (frame_after r first_frame bytes) 60) ≡ false → IsBetweenTops bytes
+    → IsBetween r bytes
 between-frame r bytes w (d, root, f, reads) =
     let (g, c, run) = come-runs r bytes d root f reads in
-    let (frame, told) = frame-runs bytes r first_state (gap_state g c) start (head_tokens d root f) run.leads_so (goes-on r (frame_after r first_frame bytes) w) in
+    let (frame, told) = frame-runs bytes r first_state (gap_state g c) start (head_tokens d root f) run.leads_so (goes-on r (frame_after r first_frame bytes) w)
+    in
     by g c frame (head-leads r d root f)
   where
     by : (g : Gap) (c : Bool) → frame_after r first_frame bytes ≡ open_at (gap_state g c) (nest_all r start (head_tokens d root f))
@@ -111,7 +120,8 @@ between-frame r bytes w (d, root, f, reads) =
 not-both : (t : Bool) → t ≡ true → t ≡ false → ⊥
 not-both t e f = false-true (sym f ∙ e)
 
-placed-there : (r : Rules) (s : State) (m : RawName) → is_broken (placed r s (inside (m ∷ []))) ≡ false → placed r s (inside (m ∷ [])) ≡ open_at s (inside (m ∷ []))
+placed-there : (r : Rules) (s : State) (m : RawName) → is_broken (placed r s (inside (m ∷ []))) ≡ false
+    → placed r s (inside (m ∷ [])) ≡ open_at s (inside (m ∷ []))
 placed-there r s m w = by (placed-cases r s (inside (m ∷ [])))
   where
     by : Placed r s (inside (m ∷ [])) → placed r s (inside (m ∷ [])) ≡ open_at s (inside (m ∷ []))
@@ -134,13 +144,15 @@ nest-same s t n m e = cc
 frame-same : (st to : State) (k n : Nest) → open_at to k ≡ open_at st n → (to ≡ st) × (k ≡ n)
 frame-same st to k n e = (state-same to st k n e, nest-same to st k n e)
 
-pub less-between : (r : Rules) (bytes : List ℕ) (st : State) (m : RawName) → frame_next r (frame_after r first_frame bytes) 60 ≡ open_at st (inside (m ∷ [])) → after_less st ≡ true → IsBetween r bytes
+pub less-between : (r : Rules) (bytes : List ℕ) (st : State) (m : RawName) → frame_next r (frame_after r first_frame bytes) 60 ≡ open_at st (inside (m ∷ []))
+    → after_less st ≡ true → IsBetween r bytes
 less-between r bytes st m e less = by (frame_after r first_frame bytes) refl (sound-at r bytes) e
   where
     gap : (s0 : State) → EndsGap s0 → frame_after r first_frame bytes ≡ open_at s0 (inside (m ∷ [])) → IsBetween r bytes
     gap s0 (g, c, is) at_it = record { gap = g; returned = c; name = m; frame = at_it ∙ ap (λ (s : State). open_at s (inside (m ∷ []))) is }
 
-    either : (s0 : State) → sort_of s0 ≡ at_content → (is_first (sort_of s0) ≡ true) ⊎ EndsGap s0 → frame_after r first_frame bytes ≡ open_at s0 (inside (m ∷ [])) → IsBetween r bytes
+    either : (s0 : State) → sort_of s0 ≡ at_content → (is_first (sort_of s0) ≡ true) ⊎ EndsGap s0
+        → frame_after r first_frame bytes ≡ open_at s0 (inside (m ∷ [])) → IsBetween r bytes
     either s0 k (inl h) at_it = false-true (ap is_first (sym k) ∙ h)
     either s0 k (inr h) at_it = gap s0 h at_it
 
@@ -152,7 +164,8 @@ less-between r bytes st m e less = by (frame_after r first_frame bytes) refl (so
         so (inr (inl (p, is))) = absurd (let bad : ended ≡ open_at st (inside (m ∷ [])) = sym p ∙ f in cc)
         so (inr (inr p)) = absurd (let bad : broken ≡ open_at st (inside (m ∷ [])) = sym p ∙ f in cc)
 
-    led : (s0 : State) (n0 : Nest) (o : Outcome) → frame_after r first_frame bytes ≡ open_at s0 n0 → Sound r (open_at s0 n0) → settled r n0 o ≡ open_at st (inside (m ∷ [])) → BySixty s0 o → IsBetween r bytes
+    led : (s0 : State) (n0 : Nest) (o : Outcome) → frame_after r first_frame bytes ≡ open_at s0 n0 → Sound r (open_at s0 n0)
+        → settled r n0 o ≡ open_at st (inside (m ∷ [])) → BySixty s0 o → IsBetween r bytes
     led s0 n0 (leads to us) at_it sound f k =
         let (same, nested) = placed-so to (nest_all r n0 us) f in
         let (none, which) = k.1 (ap after_less same ∙ less) in

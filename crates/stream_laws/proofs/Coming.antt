@@ -35,28 +35,34 @@ broken-never r (b ∷ bs) to m e = broken-never r bs to m e
 
 ended-never : (r : Rules) (bs : List ℕ) (to : State) (m : Nest) → frame_after r ended bs ≡ open_at to m → ⊥
 ended-never r [] to m e = cc
-ended-never r (b ∷ bs) to m e = after (frame_next r ended b) (cond_both _ ended broken (λ (f : Frame). (f ≡ ended) ⊎ (f ≡ broken)) (λ h. inl refl) (λ h. inr refl)) (ended-never r bs to m) e
+ended-never r (b ∷ bs) to m e =
+    after (frame_next r ended b) (cond_both _ ended broken (λ (f : Frame). (f ≡ ended) ⊎ (f ≡ broken)) (λ h. inl refl) (λ h. inr refl)) (ended-never r bs to m)
+    e
   where
     after : (f : Frame) → (f ≡ ended) ⊎ (f ≡ broken) → (frame_after r ended bs ≡ open_at to m → ⊥) → frame_after r f bs ≡ open_at to m → ⊥
     after f (inl h) go k = go (subst (λ (g : Frame). frame_after r g bs ≡ open_at to m) h k)
     after f (inr h) go k = broken-never r bs to m (subst (λ (g : Frame). frame_after r g bs ≡ open_at to m) h k)
 
-cond-open : (r : Rules) (t : Bool) (s : State) (k : Nest) (bs : List ℕ) (to : State) (m : Nest) → frame_after r (cond t (open_at s k) broken) bs ≡ open_at to m → frame_after r (open_at s k) bs ≡ open_at to m
+cond-open : (r : Rules) (t : Bool) (s : State) (k : Nest) (bs : List ℕ) (to : State) (m : Nest) → frame_after r (cond t (open_at s k) broken) bs ≡ open_at to m
+    → frame_after r (open_at s k) bs ≡ open_at to m
 cond-open r true s k bs to m h = h
 cond-open r false s k bs to m h = absurd (broken-never r bs to m h)
 
-placed-open : (r : Rules) (s : State) (k : Nest) (bs : List ℕ) (to : State) (m : Nest) → frame_after r (placed r s k) bs ≡ open_at to m → frame_after r (open_at s k) bs ≡ open_at to m
+placed-open : (r : Rules) (s : State) (k : Nest) (bs : List ℕ) (to : State) (m : Nest) → frame_after r (placed r s k) bs ≡ open_at to m
+    → frame_after r (open_at s k) bs ≡ open_at to m
 placed-open r s lost bs to m h = absurd (broken-never r bs to m h)
 placed-open r s (inside []) bs to m h = absurd (ended-never r bs to m h)
 placed-open r s (inside (x ∷ st)) bs to m h = cond-open r (goes_with r s (inside (x ∷ st))) s (inside (x ∷ st)) bs to m h
 placed-open r s start bs to m h = cond-open r (goes_with r s start) s start bs to m h
 placed-open r s k bs to m h = cond-open r (goes_with r s k) s k bs to m h
 
-cond-is : (r : Rules) (t : Bool) (s : State) (k : Nest) (bs : List ℕ) (to : State) (m : Nest) → frame_after r (cond t (open_at s k) broken) bs ≡ open_at to m → cond t (open_at s k) broken ≡ open_at s k
+cond-is : (r : Rules) (t : Bool) (s : State) (k : Nest) (bs : List ℕ) (to : State) (m : Nest) → frame_after r (cond t (open_at s k) broken) bs ≡ open_at to m
+    → cond t (open_at s k) broken ≡ open_at s k
 cond-is r true s k bs to m h = refl
 cond-is r false s k bs to m h = absurd (broken-never r bs to m h)
 
-pub placed-is : (r : Rules) (s : State) (k : Nest) (bs : List ℕ) (to : State) (m : Nest) → frame_after r (placed r s k) bs ≡ open_at to m → placed r s k ≡ open_at s k
+pub placed-is : (r : Rules) (s : State) (k : Nest) (bs : List ℕ) (to : State) (m : Nest) → frame_after r (placed r s k) bs ≡ open_at to m
+    → placed r s k ≡ open_at s k
 placed-is r s lost bs to m h = absurd (broken-never r bs to m h)
 placed-is r s (inside []) bs to m h = absurd (ended-never r bs to m h)
 placed-is r s (inside (x ∷ st)) bs to m h = cond-is r (goes_with r s (inside (x ∷ st))) s (inside (x ∷ st)) bs to m h
@@ -82,25 +88,29 @@ pub came : (bs : List ℕ) (r : Rules) (st to : State) (n m : Nest) → is_live 
 came [] r st to n m live e = (nest-same st to n m e, subst (λ (s : State). Carried st s [] []) (state-same st to n m e) (λ text vs some l t. (l, t)))
 came (b ∷ bs) r st to n m live e = by (λ s k l f. came bs r s to k m l f) (turn st b) refl e
   where
-    next : ((s : State) (k : Nest) → is_live s ≡ true → frame_after r (open_at s k) bs ≡ open_at to m → Came r s k to m bs) → (s : State) (us : List Token) → turn st b ≡ leads s us → frame_after r (placed r s (nest_all r n us)) bs ≡ open_at to m
+    next : ((s : State) (k : Nest) → is_live s ≡ true → frame_after r (open_at s k) bs ≡ open_at to m → Came r s k to m bs) → (s : State) (us : List Token)
+        → turn st b ≡ leads s us → frame_after r (placed r s (nest_all r n us)) bs ≡ open_at to m
         → Came r st n to m (b ∷ bs)
     next go s us f h =
         let k : Nest = nest_all r n us in
         let o : placed r s k ≡ open_at s k = placed-is r s k bs to m h in
         let (g, c) = go s k (subst LeadsLive f (any-live st b live)) (ap (λ (x : Frame). frame_after r x bs) (sym o) ∙ h) in
-        let told : us ++ told_all r (open_at s k) bs ≡ told_all r (open_at st n) (b ∷ bs) = ap (λ (x : Frame). us ++ told_all r x bs) (sym o) ∙ ap (λ (x : Outcome). tokens_told x ++ told_all r (settled r n x) bs) (sym f) in (
+        let told : us ++ told_all r (open_at s k) bs ≡ told_all r (open_at st n) (b ∷ bs) = ap (λ (x : Frame). us ++ told_all r x bs) (sym o)
+        ∙ ap (λ (x : Outcome). tokens_told x ++ told_all r (settled r n x) bs) (sym f) in (
           ap (nest_all r n) (sym told) ∙ (all-more r n us (told_all r (open_at s k) bs) ∙ g),
           subst (Carried st to (b ∷ bs)) told (carry-step st s to b bs us (told_all r (open_at s k) bs) live f c),
         )
 
-    by : ((s : State) (k : Nest) → is_live s ≡ true → frame_after r (open_at s k) bs ≡ open_at to m → Came r s k to m bs) → (o : Outcome) → turn st b ≡ o → frame_after r (settled r n o) bs ≡ open_at to m → Came r st n to m (b ∷ bs)
+    by : ((s : State) (k : Nest) → is_live s ≡ true → frame_after r (open_at s k) bs ≡ open_at to m → Came r s k to m bs) → (o : Outcome) → turn st b ≡ o
+        → frame_after r (settled r n o) bs ≡ open_at to m → Came r st n to m (b ∷ bs)
     by go (leads s us) f h = next go s us f h
     by go (fails x) f h = absurd (broken-never r bs to m h)
 
 -- The bytes up to a token after which only the stream is open.
 
 abbrev pub Come : Rules → List ℕ → ℕ → Token → Type 0
-Come r bytes b t = (d : Bool) × (root : RawTag) × (f : Content) × (head_tokens d root f ≡ told_all r first_frame bytes ++ t ∷ []) × Reads (bytes ++ b ∷ []) (head_tokens d root f) × IsShortest (bytes ++ b ∷ []) (head_tokens d root f)
+Come r bytes b t = (d : Bool) × (root : RawTag) × (f : Content) × (head_tokens d root f ≡ told_all r first_frame bytes ++ t ∷ [])
+    × Reads (bytes ++ b ∷ []) (head_tokens d root f) × IsShortest (bytes ++ b ∷ []) (head_tokens d root f)
     × KeepsRoot r root f
 
 nil-back : (xs ys : List ℕ) → xs ++ ys ≡ [] → ys ≡ []
@@ -111,7 +121,8 @@ pub leaves-end : (r : Rules) (m : RawName) → Leaves r (inside (m ∷ [])) (end
 leaves-end r m = (nothing, [], tt, omega arith, sym (append-nil (end_tokens m)), refl)
 
 -- a byte that tells a token, and leads to where a text may end
-pub last-reads : (r : Rules) (bytes : List ℕ) (b : ℕ) (st to : State) (n : Nest) (t : Token) → frame_after r first_frame bytes ≡ open_at st n → turn st b ≡ leads to (t ∷ []) → to ≡ words
+pub last-reads : (r : Rules) (bytes : List ℕ) (b : ℕ) (st to : State) (n : Nest) (t : Token) → frame_after r first_frame bytes ≡ open_at st n
+    → turn st b ≡ leads to (t ∷ []) → to ≡ words
     → Reads (bytes ++ b ∷ []) (told_all r first_frame bytes ++ t ∷ []) × IsShortest (bytes ++ b ∷ []) (told_all r first_frame bytes ++ t ∷ [])
 last-reads r bytes b st to n t e f w =
     let first : State = at stage.Start pending.Nothing false in
@@ -124,17 +135,20 @@ last-reads r bytes b st to n t e f w =
     (left-first (bytes ++ b ∷ []) (us ++ t ∷ []) l, λ xs ys p q. k xs ys p (first-left xs (us ++ t ∷ []) q))
 
 -- what the tokens lead to
-told-nest : (r : Rules) (bytes : List ℕ) (st : State) (n m : Nest) (t : Token) → frame_after r first_frame bytes ≡ open_at st n → nest_all r n (t ∷ []) ≡ m → nest_all r start (told_all r first_frame bytes ++ t ∷ []) ≡ m
+told-nest : (r : Rules) (bytes : List ℕ) (st : State) (n m : Nest) (t : Token) → frame_after r first_frame bytes ≡ open_at st n → nest_all r n (t ∷ []) ≡ m
+    → nest_all r start (told_all r first_frame bytes ++ t ∷ []) ≡ m
 told-nest r bytes st n m t e g =
     let (h, c) = came bytes r (at stage.Start pending.Nothing false) st start n (first-sound r).live e in
     all-more r start (told_all r first_frame bytes) (t ∷ []) ∙ (ap (λ (x : Nest). nest_all r x (t ∷ [])) h ∙ g)
 
-come : (r : Rules) (bytes : List ℕ) (b : ℕ) (st to : State) (n : Nest) (m : RawName) (t : Token) → frame_after r first_frame bytes ≡ open_at st n → turn st b ≡ leads to (t ∷ []) → to ≡ words → nest_all r n (t ∷ []) ≡ inside (m ∷ [])
+come : (r : Rules) (bytes : List ℕ) (b : ℕ) (st to : State) (n : Nest) (m : RawName) (t : Token) → frame_after r first_frame bytes ≡ open_at st n
+    → turn st b ≡ leads to (t ∷ []) → to ≡ words → nest_all r n (t ∷ []) ≡ inside (m ∷ [])
     → Come r bytes b t
 come r bytes b st to n m t e f w g =
     let us : List Token = told_all r first_frame bytes in
     let (told, short) = last-reads r bytes b st to n t e f w in
-    let (s, keeps, is) = all-from r start (us ++ t ∷ []) (end_tokens m) tt (subst (λ (x : Nest). Leaves r x (end_tokens m)) (sym (told-nest r bytes st n (inside (m ∷ [])) t e g)) (leaves-end r m)) in
+    let (s, keeps, is) = all-from r start (us ++ t ∷ []) (end_tokens m) tt
+    (subst (λ (x : Nest). Leaves r x (end_tokens m)) (sym (told-nest r bytes st n (inside (m ∷ [])) t e g)) (leaves-end r m)) in
     let same : us ++ t ∷ [] ≡ head_tokens s.declared s.root s.content = head-of s (us ++ t ∷ []) m is in
     (s.declared, s.root, s.content, sym same, subst (Reads (bytes ++ b ∷ [])) same told, subst (IsShortest (bytes ++ b ∷ [])) same short, keeps)
 
@@ -142,7 +156,8 @@ come r bytes b st to n m t e f w g =
 abbrev pub EndCome : Rules → List ℕ → ℕ → Type 0
 EndCome r bytes b = (s : Stream) × (stream_tokens s ≡ told_all r first_frame bytes ++ token.CloseEnds ∷ []) × IsStream r (bytes ++ b ∷ []) s
 
-pub end-come : (r : Rules) (bytes : List ℕ) (b : ℕ) (st to : State) (n : Nest) → frame_after r first_frame bytes ≡ open_at st n → turn st b ≡ leads to (token.CloseEnds ∷ []) → to ≡ words → nest_all r n (token.CloseEnds ∷ []) ≡ inside []
+pub end-come : (r : Rules) (bytes : List ℕ) (b : ℕ) (st to : State) (n : Nest) → frame_after r first_frame bytes ≡ open_at st n
+    → turn st b ≡ leads to (token.CloseEnds ∷ []) → to ≡ words → nest_all r n (token.CloseEnds ∷ []) ≡ inside []
     → EndCome r bytes b
 end-come r bytes b st to n e f w g =
     let us : List Token = told_all r first_frame bytes in
@@ -205,29 +220,40 @@ header-come : (r : Rules) (bytes : List ℕ) (b : ℕ) → Come r bytes b (token
 header-come r bytes b (d, root, f, e, reads, short, keeps) =
     let none : f ≡ nothing = head-empty d root f (told_all r first_frame bytes) e in (
       root,
-      (d, subst (λ (g : Content). Reads (bytes ++ b ∷ []) (head_tokens d root g)) none reads, subst (λ (g : Content). IsShortest (bytes ++ b ∷ []) (head_tokens d root g)) none short, subst (KeepsRoot r root) none keeps),
+      (
+        d,
+        subst (λ (g : Content). Reads (bytes ++ b ∷ []) (head_tokens d root g)) none reads,
+        subst
+            (λ (g : Content). IsShortest (bytes ++ b ∷ []) (head_tokens d root g)) none short,
+        subst (KeepsRoot r root) none keeps,
+      ),
     )
 
 close-come : (r : Rules) (bytes : List ℕ) (b : ℕ) → Come r bytes b token.CloseEnds → EndsTop r (bytes ++ b ∷ [])
-close-come r bytes b (d, root, f, e, reads, short, keeps) = (root, f, (d, reads, short, keeps), head-ends d root f (told_all r first_frame bytes) token.CloseEnds e refl)
+close-come r bytes b (d, root, f, e, reads, short, keeps) =
+    (root, f, (d, reads, short, keeps), head-ends d root f (told_all r first_frame bytes) token.CloseEnds e refl)
 
 hollow-come : (r : Rules) (bytes : List ℕ) (b : ℕ) → Come r bytes b (token.TagEnds true) → EndsTop r (bytes ++ b ∷ [])
-hollow-come r bytes b (d, root, f, e, reads, short, keeps) = (root, f, (d, reads, short, keeps), head-ends d root f (told_all r first_frame bytes) (token.TagEnds true) e refl)
+hollow-come r bytes b (d, root, f, e, reads, short, keeps) =
+    (root, f, (d, reads, short, keeps), head-ends d root f (told_all r first_frame bytes) (token.TagEnds true) e refl)
 
-pub told-come : (r : Rules) (bytes : List ℕ) (b : ℕ) (st to : State) (n : Nest) (us : List Token) (t : Token) → frame_after r first_frame bytes ≡ open_at st n → turn st b ≡ leads to us → us ≡ t ∷ [] → (turn st b ≡ leads to (t ∷ []) → to ≡ words)
+pub told-come : (r : Rules) (bytes : List ℕ) (b : ℕ) (st to : State) (n : Nest) (us : List Token) (t : Token) → frame_after r first_frame bytes ≡ open_at st n
+    → turn st b ≡ leads to us → us ≡ t ∷ [] → (turn st b ≡ leads to (t ∷ []) → to ≡ words)
     → is_between_tops (placed r to (nest_all r n us)) ≡ true → Come r bytes b t
 told-come r bytes b st to n us t e f g w h =
     let k : turn st b ≡ leads to (t ∷ []) = f ∙ ap (leads to) g in
     let (m, is) = level-nest to (nest_all r n us) (placed-level r to (nest_all r n us) h) in
     come r bytes b st to n m t e k (w k) (ap (nest_all r n) (sym g) ∙ is)
 
-header-led : (r : Rules) (bytes : List ℕ) (b : ℕ) (st : State) (n : Nest) (o : Outcome) → frame_after r first_frame bytes ≡ open_at st n → turn st b ≡ o → (is_between_tops (settled r n o) && is_start_end (tokens_told o)) ≡ true → EndsHeader r (bytes ++ b ∷ [])
+header-led : (r : Rules) (bytes : List ℕ) (b : ℕ) (st : State) (n : Nest) (o : Outcome) → frame_after r first_frame bytes ≡ open_at st n → turn st b ≡ o
+    → (is_between_tops (settled r n o) && is_start_end (tokens_told o)) ≡ true → EndsHeader r (bytes ++ b ∷ [])
 header-led r bytes b st n (leads to us) e f h =
     let (level, told) = both-parts (is_between_tops (placed r to (nest_all r n us))) (is_start_end us) h in
     header-come r bytes b (told-come r bytes b st to n us (token.TagEnds false) e f (is-start us told) (tag-words st to b false) level)
 header-led r bytes b st n (fails x) e f h = false-true h
 
-top-led : (r : Rules) (bytes : List ℕ) (b : ℕ) (st : State) (n : Nest) (o : Outcome) → frame_after r first_frame bytes ≡ open_at st n → turn st b ≡ o → (is_between_tops (settled r n o) && is_element_end (tokens_told o)) ≡ true → EndsTop r (bytes ++ b ∷ [])
+top-led : (r : Rules) (bytes : List ℕ) (b : ℕ) (st : State) (n : Nest) (o : Outcome) → frame_after r first_frame bytes ≡ open_at st n → turn st b ≡ o
+    → (is_between_tops (settled r n o) && is_element_end (tokens_told o)) ≡ true → EndsTop r (bytes ++ b ∷ [])
 top-led r bytes b st n (leads to us) e f h =
     let (level, told) = both-parts (is_between_tops (placed r to (nest_all r n us))) (is_element_end us) h in
     either level (is-element us told)

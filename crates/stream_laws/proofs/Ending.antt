@@ -37,7 +37,8 @@ last-nothing x = refl
 regroup-word : (p f : List Token) (x w : Token) → p ++ (x ∷ (w ∷ f)) ≡ (p ++ x ∷ []) ++ (w ∷ f)
 regroup-word p f x w = simp append_assoc
 
-regroup-element : (p n us g m f : List Token) (x o e c k : Token) → p ++ (x ∷ ((o ∷ (n ++ (us ++ e ∷ []))) ++ (g ++ ((c ∷ (m ++ k ∷ [])) ++ f)))) ≡ (p ++ (x ∷ ((o ∷ (n ++ (us ++ e ∷ []))) ++ (g ++ (c ∷ m))))) ++ (k ∷ f)
+regroup-element : (p n us g m f : List Token) (x o e c k : Token)
+    → p ++ (x ∷ ((o ∷ (n ++ (us ++ e ∷ []))) ++ (g ++ ((c ∷ (m ++ k ∷ [])) ++ f)))) ≡ (p ++ (x ∷ ((o ∷ (n ++ (us ++ e ∷ []))) ++ (g ++ (c ∷ m))))) ++ (k ∷ f)
 regroup-element p n us g m f x o e c k = simp append_assoc
 
 regroup-hollow : (p n us f : List Token) (x o e : Token) → p ++ (x ∷ ((o ∷ (n ++ (us ++ e ∷ []))) ++ f)) ≡ (p ++ (x ∷ (o ∷ (n ++ us)))) ++ (e ∷ f)
@@ -49,10 +50,12 @@ last-is nothing p ts x t e = last-same p ts x t e
 last-is (word c f) p ts x t e = last-is f (p ++ x ∷ []) ts (token.Word c) t (sym (regroup-word p (content_tokens f) x (token.Word c)) ∙ e)
 last-is (element n g f) p ts x t e =
     last-is f (p ++ (x ∷ (tag_tokens n false ++ (content_tokens g ++ (token.CloseOpens n.name.0 ∷ map token.NameByte n.name.1))))) ts token.CloseEnds t
-    (sym (regroup-element p (map token.NameByte n.name.1) (attributes_tokens n.attributes) (content_tokens g) (map token.NameByte n.name.1) (content_tokens f) x (token.TagOpens n.name.0) (token.TagEnds false) (token.CloseOpens n.name.0) token.CloseEnds) ∙ e)
+    (sym (regroup-element p (map token.NameByte n.name.1) (attributes_tokens n.attributes) (content_tokens g) (map token.NameByte n.name.1) (content_tokens f) x
+    (token.TagOpens n.name.0) (token.TagEnds false) (token.CloseOpens n.name.0) token.CloseEnds) ∙ e)
 last-is (hollow n f) p ts x t e =
     last-is f (p ++ (x ∷ (token.TagOpens n.name.0 ∷ (map token.NameByte n.name.1 ++ attributes_tokens n.attributes)))) ts (token.TagEnds true) t
-    (sym (regroup-hollow p (map token.NameByte n.name.1) (attributes_tokens n.attributes) (content_tokens f) x (token.TagOpens n.name.0) (token.TagEnds true)) ∙ e)
+    (sym (regroup-hollow p (map token.NameByte n.name.1) (attributes_tokens n.attributes) (content_tokens f) x (token.TagOpens n.name.0) (token.TagEnds true))
+    ∙ e)
 
 -- the end of an element
 abbrev pub ends_element : Token → Bool
@@ -89,12 +92,16 @@ start-nothing (hollow n f) x e = absurd (let bad : false ≡ true = sym (never-s
 regroup-head : (d n us f : List Token) (o e : Token) → d ++ ((o ∷ (n ++ (us ++ e ∷ []))) ++ f) ≡ (d ++ (o ∷ (n ++ us))) ++ (e ∷ f)
 regroup-head d n us f o e = simp append_assoc
 
-pub head-last : (d : Bool) (root : RawTag) (f : Content) (ts : List Token) (t : Token) → head_tokens d root f ≡ ts ++ t ∷ [] → last_in f (token.TagEnds false) ≡ t
+pub head-last : (d : Bool) (root : RawTag) (f : Content) (ts : List Token) (t : Token) → head_tokens d root f ≡ ts ++ t ∷ []
+    → last_in f (token.TagEnds false) ≡ t
 head-last d root f ts t e =
-    last-is f (declaration_tokens d ++ (token.TagOpens root.name.0 ∷ (map token.NameByte root.name.1 ++ attributes_tokens root.attributes))) ts (token.TagEnds false) t
-    (sym (regroup-head (declaration_tokens d) (map token.NameByte root.name.1) (attributes_tokens root.attributes) (content_tokens f) (token.TagOpens root.name.0) (token.TagEnds false)) ∙ e)
+    last-is f (declaration_tokens d ++ (token.TagOpens root.name.0 ∷ (map token.NameByte root.name.1 ++ attributes_tokens root.attributes))) ts
+    (token.TagEnds false) t
+    (sym (regroup-head (declaration_tokens d) (map token.NameByte root.name.1) (attributes_tokens root.attributes) (content_tokens f)
+    (token.TagOpens root.name.0) (token.TagEnds false)) ∙ e)
 
-pub head-ends : (d : Bool) (root : RawTag) (f : Content) (ts : List Token) (t : Token) → head_tokens d root f ≡ ts ++ t ∷ [] → ends_element t ≡ true → ends_so false f ≡ true
+pub head-ends : (d : Bool) (root : RawTag) (f : Content) (ts : List Token) (t : Token) → head_tokens d root f ≡ ts ++ t ∷ [] → ends_element t ≡ true
+    → ends_so false f ≡ true
 head-ends d root f ts t e h = sym (last-ends f (token.TagEnds false)) ∙ (ap ends_element (head-last d root f ts t e) ∙ h)
 
 pub head-empty : (d : Bool) (root : RawTag) (f : Content) (ts : List Token) → head_tokens d root f ≡ ts ++ token.TagEnds false ∷ [] → f ≡ nothing
@@ -110,14 +117,18 @@ no-open [] (x ∷ xs) b ys e = not-nil xs (sym (token_tail token.CloseEnds x [] 
     not-nil [] e = no_token _ _ e
     not-nil (x ∷ xs) e = no_token x _ e
 no-open (y ∷ l) [] b ys e = let bad : token.NameByte y ≡ token.CloseOpens b = token_head _ _ (map token.NameByte l ++ token.CloseEnds ∷ []) ys e in cc
-no-open (y ∷ l) (x ∷ xs) b ys e = no-open l xs b ys (token_tail (token.NameByte y) x (map token.NameByte l ++ token.CloseEnds ∷ []) (xs ++ (token.CloseOpens b ∷ ys)) e)
+no-open (y ∷ l) (x ∷ xs) b ys e =
+    no-open l xs b ys (token_tail (token.NameByte y) x (map token.NameByte l ++ token.CloseEnds ∷ []) (xs ++ (token.CloseOpens b ∷ ys)) e)
 
 pub before-end : (xs ys : List Token) (n m : RawName) → xs ++ end_tokens n ≡ ys ++ end_tokens m → xs ≡ ys
 before-end [] [] n m e = refl
-before-end [] (y ∷ ys) n m e = absurd (no-open n.1 ys m.0 (map token.NameByte m.1 ++ token.CloseEnds ∷ []) (token_tail (token.CloseOpens n.0) y _ (ys ++ end_tokens m) e))
-before-end (x ∷ xs) [] n m e = absurd (no-open m.1 xs n.0 (map token.NameByte n.1 ++ token.CloseEnds ∷ []) (sym (token_tail x (token.CloseOpens m.0) (xs ++ end_tokens n) _ e)))
+before-end [] (y ∷ ys) n m e =
+    absurd (no-open n.1 ys m.0 (map token.NameByte m.1 ++ token.CloseEnds ∷ []) (token_tail (token.CloseOpens n.0) y _ (ys ++ end_tokens m) e))
+before-end (x ∷ xs) [] n m e =
+    absurd (no-open m.1 xs n.0 (map token.NameByte n.1 ++ token.CloseEnds ∷ []) (sym (token_tail x (token.CloseOpens m.0) (xs ++ end_tokens n) _ e)))
 before-end (x ∷ xs) (y ∷ ys) n m e =
-    ap (λ (t : Token). t ∷ xs) (token_head x y (xs ++ end_tokens n) (ys ++ end_tokens m) e) ∙ ap (λ (l : List Token). y ∷ l) (before-end xs ys n m (token_tail x y (xs ++ end_tokens n) (ys ++ end_tokens m) e))
+    ap (λ (t : Token). t ∷ xs) (token_head x y (xs ++ end_tokens n) (ys ++ end_tokens m) e)
+    ∙ ap (λ (l : List Token). y ∷ l) (before-end xs ys n m (token_tail x y (xs ++ end_tokens n) (ys ++ end_tokens m) e))
 
 pub regroup-stream : (d t f e : List Token) → d ++ (t ++ (f ++ e)) ≡ (d ++ (t ++ f)) ++ e
 regroup-stream d t f e = simp append_assoc

@@ -41,7 +41,8 @@ abbrev pub HasExtent : Rules → Frame → ℕ → List ℕ → Reading → Type
 HasExtent r f0 n0 bytes (stopped f k) = Unit {0}
 HasExtent r f0 n0 bytes (reads f b n k) = n ≡ extent r f0 n0 bytes
 
-extent-back : (r : Rules) (f0 : Frame) (n0 b : ℕ) (bs : List ℕ) (s : Reading) → HasExtent r (frame_next r f0 b) (extent_after (frame_next r f0 b) n0) bs s → HasExtent r f0 n0 (b ∷ bs) s
+extent-back : (r : Rules) (f0 : Frame) (n0 b : ℕ) (bs : List ℕ) (s : Reading) → HasExtent r (frame_next r f0 b) (extent_after (frame_next r f0 b) n0) bs s
+    → HasExtent r f0 n0 (b ∷ bs) s
 extent-back r f0 n0 b bs (stopped f k) h = tt
 extent-back r f0 n0 b bs (reads f c n k) h = h
 
@@ -50,8 +51,11 @@ went-extent [] l f0 b0 n0 k0 = refl
 went-extent (b ∷ bs) l f0 b0 n0 k0 = by (byte_judged l f0 (clear b0) n0 b) (λ f1 b1 n k. went-extent bs l f1 b1 n k)
   where
     by : (o : Option FrameFault) → ((f1 : Frame) (b1 : Building) (n k : ℕ) → HasExtent (rules_of l) f1 n bs (went l (reads f1 b1 n k) bs))
-        → HasExtent (rules_of l) f0 n0 (b ∷ bs) (went l (concluded o (reads (frame_next (rules_of l) f0 b) (build_all (clear b0) (told_at f0 b)) (extent_after (frame_next (rules_of l) f0 b) n0) (told_number (k0 + 1))) (told_number (k0 + 1))) bs)
-    by None go = extent-back (rules_of l) f0 n0 b bs _ (go (frame_next (rules_of l) f0 b) (build_all (clear b0) (told_at f0 b)) (extent_after (frame_next (rules_of l) f0 b) n0) (told_number (k0 + 1)))
+        → HasExtent (rules_of l) f0 n0 (b ∷ bs)
+        (went l (concluded o (reads (frame_next (rules_of l) f0 b) (build_all (clear b0) (told_at f0 b)) (extent_after (frame_next (rules_of l) f0 b) n0)
+        (told_number (k0 + 1))) (told_number (k0 + 1))) bs)
+    by None go = extent-back (rules_of l) f0 n0 b bs _
+        (go (frame_next (rules_of l) f0 b) (build_all (clear b0) (told_at f0 b)) (extent_after (frame_next (rules_of l) f0 b) n0) (told_number (k0 + 1)))
     by (Some f) go = subst (HasExtent (rules_of l) f0 n0 (b ∷ bs)) (sym (stopped-went l f (told_number (k0 + 1)) bs)) tt
 
 extent-more : (r : Rules) (f : Frame) (n : ℕ) (xs ys : List ℕ) → extent r f n (xs ++ ys) ≡ extent r (frame_after r f xs) (extent r f n xs) ys
@@ -76,12 +80,14 @@ grows [] r f n h = (let e : n ≡ n + 0 = omega arith in e)
 grows (y ∷ ys) r f n h =
     let one : extent_after (frame_next r f y) n ≡ n + 1 = after-open (frame_next r f y) n (h (y ∷ []) ys refl (λ e. no-nil y [] e)) in
     ap (λ (m : ℕ). extent r (frame_next r f y) m ys) one
-    ∙ (grows ys r (frame_next r f y) (n + 1) (λ us vs e some. h (y ∷ us) vs (ap (λ (l : List ℕ). y ∷ l) e) (λ k. no-nil y us k)) ∙ (let g : (n + 1) + length ys ≡ n + suc (length ys) = omega arith in g))
+    ∙ (grows ys r (frame_next r f y) (n + 1) (λ us vs e some. h (y ∷ us) vs (ap (λ (l : List ℕ). y ∷ l) e) (λ k. no-nil y us k))
+    ∙ (let g : (n + 1) + length ys ≡ n + suc (length ys) = omega arith in g))
 
 -- Where the last count began.
 
 abbrev IsBegun : Rules → List ℕ → ℕ → Type 0
-IsBegun r bytes n = (xs : List ℕ) × (y : ℕ) × (ys : List ℕ) × (bytes ≡ xs ++ (y ∷ ys)) × (n ≡ length (y ∷ ys)) × (in_item (frame_after r first_frame (xs ++ y ∷ [])) ≡ false)
+IsBegun r bytes n = (xs : List ℕ) × (y : ℕ) × (ys : List ℕ) × (bytes ≡ xs ++ (y ∷ ys)) × (n ≡ length (y ∷ ys))
+    × (in_item (frame_after r first_frame (xs ++ y ∷ [])) ≡ false)
     × ((us vs : List ℕ) → ys ≡ us ++ vs → (us ≡ [] → ⊥) → in_item (frame_after r first_frame (xs ++ (y ∷ us))) ≡ true)
 
 abbrev IsCounted : Rules → List ℕ → ℕ → Type 0
@@ -121,7 +127,8 @@ no-front : (us vs : List ℕ) → [] ≡ us ++ vs → us ≡ []
 no-front [] vs e = refl
 no-front (u ∷ us) vs e = absurd (no-nil u (us ++ vs) (sym e))
 
-counted-next : (r : Rules) (bytes : List ℕ) (b n : ℕ) → IsCounted r bytes n → IsCounted r (bytes ++ b ∷ []) (extent_after (frame_after r first_frame (bytes ++ b ∷ [])) n)
+counted-next : (r : Rules) (bytes : List ℕ) (b n : ℕ) → IsCounted r bytes n
+    → IsCounted r (bytes ++ b ∷ []) (extent_after (frame_after r first_frame (bytes ++ b ∷ [])) n)
 counted-next r bytes b n c = by (in_item (frame_after r first_frame (bytes ++ b ∷ []))) refl
   where
     f1 : Frame
@@ -143,30 +150,36 @@ counted-next r bytes b n c = by (in_item (frame_after r first_frame (bytes ++ b 
         one-more : (ys : List ℕ) → suc (length ys) + 1 ≡ suc (length (ys ++ b ∷ []))
         one-more ys = let e : length (ys ++ b ∷ []) ≡ length ys + 1 = length-append ys (b ∷ []) in omega (arith, e)
 
-        all : (us vs : List ℕ) → (us ≡ [] → ⊥) → ((ws : List ℕ) × (ys ≡ us ++ ws)) ⊎ (us ≡ ys ++ b ∷ []) → bytes ++ b ∷ [] ≡ xs ++ (y ∷ (ys ++ b ∷ [])) → in_item (frame_after r first_frame (xs ++ (y ∷ us))) ≡ true
+        all : (us vs : List ℕ) → (us ≡ [] → ⊥) → ((ws : List ℕ) × (ys ≡ us ++ ws)) ⊎ (us ≡ ys ++ b ∷ []) → bytes ++ b ∷ [] ≡ xs ++ (y ∷ (ys ++ b ∷ []))
+            → in_item (frame_after r first_frame (xs ++ (y ∷ us))) ≡ true
         all us vs some (inl (ws, g)) longer = each us ws g some
-        all us vs some (inr g) longer = ap (λ (l : List ℕ). in_item (frame_after r first_frame (xs ++ (y ∷ l)))) g ∙ (ap (λ (l : List ℕ). in_item (frame_after r first_frame l)) (sym longer) ∙ h)
+        all us vs some (inr g) longer = ap (λ (l : List ℕ). in_item (frame_after r first_frame (xs ++ (y ∷ l)))) g
+            ∙ (ap (λ (l : List ℕ). in_item (frame_after r first_frame l)) (sym longer) ∙ h)
 
     by : (t : Bool) → in_item f1 ≡ t → IsCounted r (bytes ++ b ∷ []) (extent_after f1 n)
     by true h = inr (opened h c)
     by false h = inr (bytes, b, [], refl, after-none f1 n h, h, λ us vs e some. absurd (some (no-front us vs e)))
 
-counted-all : (bs : List ℕ) (r : Rules) (bytes : List ℕ) (n : ℕ) → IsCounted r bytes n → IsCounted r (bytes ++ bs) (extent r (frame_after r first_frame bytes) n bs)
+counted-all : (bs : List ℕ) (r : Rules) (bytes : List ℕ) (n : ℕ) → IsCounted r bytes n
+    → IsCounted r (bytes ++ bs) (extent r (frame_after r first_frame bytes) n bs)
 counted-all [] r bytes n c = subst (λ (l : List ℕ). IsCounted r l n) (sym (append-nil bytes)) c
 counted-all (b ∷ bs) r bytes n c =
     let f1 : frame_after r first_frame (bytes ++ b ∷ []) ≡ frame_next r (frame_after r first_frame bytes) b = after-last r bytes b in
     let m : ℕ = extent_after (frame_after r first_frame (bytes ++ b ∷ [])) n in
     subst (λ (l : List ℕ). IsCounted r l (extent r (frame_after r first_frame bytes) n (b ∷ bs))) (append_assoc bytes (b ∷ []) bs)
-    (subst (IsCounted r ((bytes ++ b ∷ []) ++ bs)) (ap (λ (f : Frame). extent r f (extent_after f n) bs) f1) (counted-all bs r (bytes ++ b ∷ []) m (counted-next r bytes b n c)))
+    (subst (IsCounted r ((bytes ++ b ∷ []) ++ bs)) (ap (λ (f : Frame). extent r f (extent_after f n) bs) f1)
+    (counted-all bs r (bytes ++ b ∷ []) m (counted-next r bytes b n c)))
 
 counted : (r : Rules) (bytes : List ℕ) → IsCounted r bytes (extent r first_frame 0 bytes)
 counted r bytes = counted-all bytes r [] 0 (inl (refl, refl))
 
 -- The limit.
 
-is-less : (r : Rules) (xs : List ℕ) (y c : ℕ) → in_item (frame_after r first_frame (xs ++ y ∷ [])) ≡ false → in_item (frame_after r first_frame ((xs ++ y ∷ []) ++ c ∷ [])) ≡ true → y ≡ 60
+is-less : (r : Rules) (xs : List ℕ) (y c : ℕ) → in_item (frame_after r first_frame (xs ++ y ∷ [])) ≡ false
+    → in_item (frame_after r first_frame ((xs ++ y ∷ []) ++ c ∷ [])) ≡ true → y ≡ 60
 is-less r xs y c low high =
-    let after : AfterLess (frame_after r first_frame (xs ++ y ∷ [])) = opens-after r (frame_after r first_frame (xs ++ y ∷ [])) c (sound-at r (xs ++ y ∷ [])) low (ap in_item (sym (after-last r (xs ++ y ∷ []) c)) ∙ high) in
+    let after : AfterLess (frame_after r first_frame (xs ++ y ∷ [])) =
+    opens-after r (frame_after r first_frame (xs ++ y ∷ [])) c (sound-at r (xs ++ y ∷ [])) low (ap in_item (sym (after-last r (xs ++ y ∷ []) c)) ∙ high) in
     less-before r (frame_after r first_frame xs) y (sound-at r xs) (subst AfterLess (after-last r xs y) after)
 
 -- the byte before what is open is a `<`
@@ -175,7 +188,9 @@ begun-less : (r : Rules) (xs : List ℕ) (y : ℕ) (ys : List ℕ) (byte : ℕ) 
     → IsOpenAt r (xs ++ (y ∷ ys)) ⊎ IsOpenAt r ((xs ++ (y ∷ ys)) ++ byte ∷ []) → y ≡ 60
 begun-less r xs y [] byte low each (inl h) = let bad : true ≡ false = sym h ∙ low in false-true (sym bad)
 begun-less r xs y [] byte low each (inr h) = is-less r xs y byte low h
-begun-less r xs y (c ∷ ys) byte low each o = is-less r xs y c low (ap (λ (l : List ℕ). in_item (frame_after r first_frame l)) (append_assoc xs (y ∷ []) (c ∷ [])) ∙ each (c ∷ []) ys refl (λ e. no-nil c [] e))
+begun-less r xs y (c ∷ ys) byte low each o =
+    is-less r xs y c low (ap (λ (l : List ℕ). in_item (frame_after r first_frame l)) (append_assoc xs (y ∷ []) (c ∷ []))
+    ∙ each (c ∷ []) ys refl (λ e. no-nil c [] e))
 
 not-true : (t : Bool) → t ≡ false → t ≡ true → ⊥
 not-true t e f = false-true (sym e ∙ f)
@@ -191,14 +206,19 @@ open_since r bytes h = by (counted r bytes)
           xs,
           ys,
           split ∙ ap (λ (x : ℕ). xs ++ (x ∷ ys)) less,
-          (λ k. not-true _ low (ap (λ (x : ℕ). in_item (frame_after r first_frame (xs ++ x ∷ []))) less ∙ k), λ us vs q some. ap (λ (x : ℕ). in_item (frame_after r first_frame (xs ++ (x ∷ us)))) (sym less) ∙ each us vs q some),
+          (
+            λ k. not-true _ low (ap (λ (x : ℕ). in_item (frame_after r first_frame (xs ++ x ∷ []))) less
+                ∙ k),
+            λ us vs q some. ap (λ (x : ℕ). in_item (frame_after r first_frame (xs ++ (x ∷ us)))) (sym less) ∙ each us vs q some,
+          ),
         )
 
 or-open : (s t : Bool) → (s || t) ≡ true → (s ≡ true) ⊎ (t ≡ true)
 or-open true t e = inl refl
 or-open false t e = inr e
 
-pub past-is : (l : Limits) (bytes : List ℕ) (byte n : ℕ) (f : Frame) → f ≡ frame_after (rules_of l) first_frame bytes → n ≡ extent (rules_of l) first_frame 0 bytes → is_past l f (frame_next (rules_of l) f byte) n ≡ true → IsPastAt l bytes byte
+pub past-is : (l : Limits) (bytes : List ℕ) (byte n : ℕ) (f : Frame) → f ≡ frame_after (rules_of l) first_frame bytes
+    → n ≡ extent (rules_of l) first_frame 0 bytes → is_past l f (frame_next (rules_of l) f byte) n ≡ true → IsPastAt l bytes byte
 past-is l bytes byte n f e g h = by (counted r bytes) opened
   where
     r : Rules
@@ -226,7 +246,11 @@ past-is l bytes byte n f e g h = by (counted r bytes) opened
             xs,
             ys,
             split ∙ ap (λ (x : ℕ). xs ++ (x ∷ ys)) less,
-            (λ k. not-true _ low (ap (λ (x : ℕ). in_item (frame_after r first_frame (xs ++ x ∷ []))) less ∙ k), λ us vs q some. ap (λ (x : ℕ). in_item (frame_after r first_frame (xs ++ (x ∷ us)))) (sym less) ∙ each us vs q some),
+            (
+              λ k. not-true _ low (ap (λ (x : ℕ). in_item (frame_after r first_frame (xs ++ x ∷ []))) less
+                  ∙ k),
+              λ us vs q some. ap (λ (x : ℕ). in_item (frame_after r first_frame (xs ++ (x ∷ us)))) (sym less) ∙ each us vs q some,
+            ),
             subst (λ (m : ℕ). l.bytes ≤ m) size long,
           ),
         )
@@ -244,7 +268,8 @@ or-true true t h = refl
 or-true false t (inl e) = false-true e
 or-true false t (inr e) = e
 
-pub is-past : (l : Limits) (bytes : List ℕ) (byte n : ℕ) (f : Frame) → f ≡ frame_after (rules_of l) first_frame bytes → n ≡ extent (rules_of l) first_frame 0 bytes → IsPastAt l bytes byte → is_past l f (frame_next (rules_of l) f byte) n ≡ true
+pub is-past : (l : Limits) (bytes : List ℕ) (byte n : ℕ) (f : Frame) → f ≡ frame_after (rules_of l) first_frame bytes
+    → n ≡ extent (rules_of l) first_frame 0 bytes → IsPastAt l bytes byte → is_past l f (frame_next (rules_of l) f byte) n ≡ true
 is-past l bytes byte n f e g (o, (xs, ys, split, (low, each), long)) =
     let r : Rules = rules_of l in
     let at_xs : Frame = frame_after r first_frame xs in
@@ -253,7 +278,8 @@ is-past l bytes byte n f e g (o, (xs, ys, split, (low, each), long)) =
     ap (extent r first_frame 0) split
     ∙ (extent-more r first_frame 0 xs (60 ∷ ys)
     ∙ (ap (λ (m : ℕ). extent r (frame_next r at_xs 60) m ys) (after-none (frame_next r at_xs 60) (extent r first_frame 0 xs) none)
-    ∙ (grows ys r (frame_next r at_xs 60) 1 (λ us vs q some. ap in_item (sym (frames-more r first_frame xs (60 ∷ us))) ∙ each us vs q some) ∙ (let h : 1 + length ys ≡ suc (length ys) = omega arith in h)))) in
+    ∙ (grows ys r (frame_next r at_xs 60) 1 (λ us vs q some. ap in_item (sym (frames-more r first_frame xs (60 ∷ us))) ∙ each us vs q some)
+    ∙ (let h : 1 + length ys ≡ suc (length ys) = omega arith in h)))) in
     let size : l.bytes ≤ n = subst (λ (m : ℕ). l.bytes ≤ m) (sym (g ∙ count)) long in
     both-true (in_item f || in_item (frame_next r f byte)) (nat_le l.bytes n) (or-true (in_item f) (in_item (frame_next r f byte)) (elim o [
       | inl k ↦ inl (ap in_item e ∙ k)

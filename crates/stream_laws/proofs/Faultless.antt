@@ -28,9 +28,11 @@ goes_faultless l bytes h = λ xs ys b g e is.
     none_waits l xs b g o (goes-before l xs (b ∷ []) o, is)
 
 -- from the first byte on
-faultless-on : (l : Limits) (xs ys : List ℕ) → is_stopped (went l first_reading xs) ≡ false → AreFaultless l (xs ++ ys) → is_stopped (went l first_reading (xs ++ ys)) ≡ false
+faultless-on : (l : Limits) (xs ys : List ℕ) → is_stopped (went l first_reading xs) ≡ false → AreFaultless l (xs ++ ys)
+    → is_stopped (went l first_reading (xs ++ ys)) ≡ false
 faultless-on l xs [] o none = ap (λ (x : List ℕ). is_stopped (went l first_reading x)) (append-nil xs) ∙ o
-faultless-on l xs (b ∷ ys) o none = by (λ p. faultless-on l (xs ++ b ∷ []) ys p (subst (AreFaultless l) (sym (cons-after xs ys b)) none)) (went l first_reading (xs ++ b ∷ [])) refl
+faultless-on l xs (b ∷ ys) o none = by (λ p. faultless-on l (xs ++ b ∷ []) ys p (subst (AreFaultless l) (sym (cons-after xs ys b)) none))
+    (went l first_reading (xs ++ b ∷ [])) refl
   where
     by : (is_stopped (went l first_reading (xs ++ b ∷ [])) ≡ false → is_stopped (went l first_reading ((xs ++ b ∷ []) ++ ys)) ≡ false)
         → (s : Reading) → went l first_reading (xs ++ b ∷ []) ≡ s → is_stopped (went l first_reading (xs ++ (b ∷ ys))) ≡ false
@@ -46,5 +48,6 @@ pub first_waits : (l : Limits) (bytes : List ℕ) (b : ℕ) (g : FrameFault) (k 
     → IsFirstFault l bytes b g × (k ≡ told_number (length bytes + 1))
 first_waits l bytes b g k none e = let (is, number) = fault_waits l bytes b g k (faultless_goes l bytes none) e in ((none, is.1), number)
 
-pub first_stops : (l : Limits) (bytes : List ℕ) (b : ℕ) (g : FrameFault) → IsFirstFault l bytes b g → went l first_reading (bytes ++ b ∷ []) ≡ stopped g (told_number (length bytes + 1))
+pub first_stops : (l : Limits) (bytes : List ℕ) (b : ℕ) (g : FrameFault) → IsFirstFault l bytes b g
+    → went l first_reading (bytes ++ b ∷ []) ≡ stopped g (told_number (length bytes + 1))
 first_stops l bytes b g (none, is) = fault_stops l bytes b g (faultless_goes l bytes none, is)

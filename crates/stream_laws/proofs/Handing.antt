@@ -72,7 +72,8 @@ abbrev pub HasRead : Rules → Frame → Building → List ℕ → Reading → T
 HasRead r f0 b0 bytes (stopped f k) = Unit {0}
 HasRead r f0 b0 bytes (reads f b n k) = (f ≡ frame_after r f0 bytes) × (clear b ≡ clear (build_all b0 (told_all r f0 bytes)))
 
-read-back : (r : Rules) (f0 f1 : Frame) (b0 b1 : Building) (b : ℕ) (bs : List ℕ) → f1 ≡ frame_next r f0 b → b1 ≡ build_all (clear b0) (told_at f0 b) → (s : Reading) → HasRead r f1 b1 bs s → HasRead r f0 b0 (b ∷ bs) s
+read-back : (r : Rules) (f0 f1 : Frame) (b0 b1 : Building) (b : ℕ) (bs : List ℕ) → f1 ≡ frame_next r f0 b → b1 ≡ build_all (clear b0) (told_at f0 b)
+    → (s : Reading) → HasRead r f1 b1 bs s → HasRead r f0 b0 (b ∷ bs) s
 read-back r f0 f1 b0 b1 b bs e g (stopped f k) h = tt
 read-back r f0 f1 b0 b1 b bs e g (reads f c n k) (p, q) =
     let ts : List Token = told_all r (frame_next r f0 b) bs in (
@@ -81,7 +82,8 @@ read-back r f0 f1 b0 b1 b bs e g (reads f c n k) (p, q) =
           ∙ (ap (λ (x : Frame). clear (build_all b1 (told_all r x bs))) e
           ∙ (sym (clear-all ts b1)
           ∙ (ap (λ (x : Building). clear (build_all (clear x) ts)) g
-          ∙ (ap (λ (x : Building). clear (build_all x ts)) (clear-all (told_at f0 b) b0) ∙ (clear-all ts (build_all b0 (told_at f0 b)) ∙ ap clear (sym (build-more b0 (told_at f0 b) ts))))))),
+          ∙ (ap (λ (x : Building). clear (build_all x ts)) (clear-all (told_at f0 b) b0)
+          ∙ (clear-all ts (build_all b0 (told_at f0 b)) ∙ ap clear (sym (build-more b0 (told_at f0 b) ts))))))),
     )
 
 pub went-read : (bytes : List ℕ) (l : Limits) (f0 : Frame) (b0 : Building) (n0 k0 : ℕ) → HasRead (rules_of l) f0 b0 bytes (went l (reads f0 b0 n0 k0) bytes)
@@ -89,8 +91,11 @@ went-read [] l f0 b0 n0 k0 = (refl, refl)
 went-read (b ∷ bs) l f0 b0 n0 k0 = by (byte_judged l f0 (clear b0) n0 b) (λ f1 b1 n k. went-read bs l f1 b1 n k)
   where
     by : (o : Option FrameFault) → ((f1 : Frame) (b1 : Building) (n k : ℕ) → HasRead (rules_of l) f1 b1 bs (went l (reads f1 b1 n k) bs))
-        → HasRead (rules_of l) f0 b0 (b ∷ bs) (went l (concluded o (reads (frame_next (rules_of l) f0 b) (build_all (clear b0) (told_at f0 b)) (extent_after (frame_next (rules_of l) f0 b) n0) (told_number (k0 + 1))) (told_number (k0 + 1))) bs)
-    by None go = read-back (rules_of l) f0 _ b0 _ b bs refl refl _ (go (frame_next (rules_of l) f0 b) (build_all (clear b0) (told_at f0 b)) (extent_after (frame_next (rules_of l) f0 b) n0) (told_number (k0 + 1)))
+        → HasRead (rules_of l) f0 b0 (b ∷ bs)
+        (went l (concluded o (reads (frame_next (rules_of l) f0 b) (build_all (clear b0) (told_at f0 b)) (extent_after (frame_next (rules_of l) f0 b) n0)
+        (told_number (k0 + 1))) (told_number (k0 + 1))) bs)
+    by None go = read-back (rules_of l) f0 _ b0 _ b bs refl refl _
+        (go (frame_next (rules_of l) f0 b) (build_all (clear b0) (told_at f0 b)) (extent_after (frame_next (rules_of l) f0 b) n0) (told_number (k0 + 1)))
     by (Some f) go = subst (HasRead (rules_of l) f0 b0 (b ∷ bs)) (sym (stopped-went l f (told_number (k0 + 1)) bs)) tt
 
 -- By the token.
@@ -106,11 +111,13 @@ pub lost-broken : (r : Rules) (to : State) (n : Nest) → n ≡ lost → is_brok
 lost-broken r to n e h = not-true true (sym (ap (λ (x : Nest). is_broken (placed r to x)) e) ∙ h) refl
 
 -- a tag that opens one element is that of the stream
-one-open : (r : Rules) (to : State) (st : List RawName) (n : RawName) (b : Building) → IsLevel b (length st) → (length b.layers == 0) ≡ true → is_broken (placed r to (inside (n ∷ st))) ≡ false → is_between_tops (placed r to (inside (n ∷ st))) ≡ true
+one-open : (r : Rules) (to : State) (st : List RawName) (n : RawName) (b : Building) → IsLevel b (length st) → (length b.layers == 0) ≡ true
+    → is_broken (placed r to (inside (n ∷ st))) ≡ false → is_between_tops (placed r to (inside (n ∷ st))) ≡ true
 one-open r to [] n b h e o = ap is_between_tops (cond-open (goes_with r to (inside (n ∷ []))) to (inside (n ∷ [])) o)
 one-open r to (m ∷ st) n b (p, q) e o = absurd (let f : length b.layers ≡ 0 = eqb-true (length b.layers) 0 e in omega (arith, p, f))
 
-pub header-frame : (r : Rules) (to : State) (n : Nest) (b : Building) → Levels n b → (length b.layers == 0) ≡ true → is_broken (placed r to (nest r n (token.TagEnds false))) ≡ false → is_between_tops (placed r to (nest r n (token.TagEnds false))) ≡ true
+pub header-frame : (r : Rules) (to : State) (n : Nest) (b : Building) → Levels n b → (length b.layers == 0) ≡ true
+    → is_broken (placed r to (nest r n (token.TagEnds false))) ≡ false → is_between_tops (placed r to (nest r n (token.TagEnds false))) ≡ true
 unfolding nest
 header-frame r to (naming st n) b h e o = one-open r to st n b h e o
 header-frame r to (in_tag st n k) b h e o = one-open r to st n b h e o
@@ -125,11 +132,13 @@ header-frame r to (closing st (x ∷ m)) b h e o = absurd (lost-broken r to lost
 header-frame r to lost b h e o = absurd (lost-broken r to lost refl o)
 
 -- an empty-element tag where no element is open below the stream
-one-hollow : (r : Rules) (to : State) (st : List RawName) (m : RawName) (b : Building) → IsLevel b (suc (length st)) → b.opened ≡ [] → is_broken (placed r to (inside (m ∷ st))) ≡ false → is_between_tops (placed r to (inside (m ∷ st))) ≡ true
+one-hollow : (r : Rules) (to : State) (st : List RawName) (m : RawName) (b : Building) → IsLevel b (suc (length st)) → b.opened ≡ []
+    → is_broken (placed r to (inside (m ∷ st))) ≡ false → is_between_tops (placed r to (inside (m ∷ st))) ≡ true
 one-hollow r to [] m b h e o = ap is_between_tops (cond-open (goes_with r to (inside (m ∷ []))) to (inside (m ∷ [])) o)
 one-hollow r to (x ∷ st) m b (p, q) e o = absurd (let f : length b.opened ≡ 0 = ap length e in omega (arith, q, f))
 
-pub hollow-frame : (r : Rules) (to : State) (n : Nest) (b : Building) → Levels n b → b.opened ≡ [] → is_broken (placed r to (nest r n (token.TagEnds true))) ≡ false → is_between_tops (placed r to (nest r n (token.TagEnds true))) ≡ true
+pub hollow-frame : (r : Rules) (to : State) (n : Nest) (b : Building) → Levels n b → b.opened ≡ []
+    → is_broken (placed r to (nest r n (token.TagEnds true))) ≡ false → is_between_tops (placed r to (nest r n (token.TagEnds true))) ≡ true
 unfolding nest
 hollow-frame r to (naming [] n) b h e o = absurd (lost-broken r to lost refl o)
 hollow-frame r to (naming (m ∷ st) n) b h e o = one-hollow r to st m b h e o
@@ -146,16 +155,19 @@ hollow-frame r to (closing st (x ∷ m)) b h e o = absurd (lost-broken r to lost
 hollow-frame r to lost b h e o = absurd (lost-broken r to lost refl o)
 
 -- an end tag: of the one element that is open below the stream, or of the stream
-one-close : (r : Rules) (to : State) (st : List RawName) (b : Building) (y : Opened) → IsLevel b (suc (length st)) → b.opened ≡ y ∷ [] → is_broken (placed r to (inside st)) ≡ false → is_between_tops (placed r to (inside st)) ≡ true
+one-close : (r : Rules) (to : State) (st : List RawName) (b : Building) (y : Opened) → IsLevel b (suc (length st)) → b.opened ≡ y ∷ []
+    → is_broken (placed r to (inside st)) ≡ false → is_between_tops (placed r to (inside st)) ≡ true
 one-close r to [] b y (p, q) e o = absurd (let f : length b.opened ≡ 1 = ap length e in omega (arith, q, f))
 one-close r to (m ∷ []) b y h e o = ap is_between_tops (cond-open (goes_with r to (inside (m ∷ []))) to (inside (m ∷ [])) o)
 one-close r to (m ∷ x ∷ st) b y (p, q) e o = absurd (let f : length b.opened ≡ 1 = ap length e in omega (arith, q, f))
 
-no-close : (r : Rules) (to : State) (st : List RawName) (b : Building) → IsLevel b (suc (length st)) → b.opened ≡ [] → has_ended (placed r to (inside st)) ≡ true
+no-close : (r : Rules) (to : State) (st : List RawName) (b : Building) → IsLevel b (suc (length st)) → b.opened ≡ []
+    → has_ended (placed r to (inside st)) ≡ true
 no-close r to [] b h e = refl
 no-close r to (m ∷ st) b (p, q) e = absurd (let f : length b.opened ≡ 0 = ap length e in omega (arith, q, f))
 
-pub close-frame : (r : Rules) (to : State) (n : Nest) (b : Building) (y : Opened) → Levels n b → b.opened ≡ y ∷ [] → is_broken (placed r to (nest r n token.CloseEnds)) ≡ false → is_between_tops (placed r to (nest r n token.CloseEnds)) ≡ true
+pub close-frame : (r : Rules) (to : State) (n : Nest) (b : Building) (y : Opened) → Levels n b → b.opened ≡ y ∷ []
+    → is_broken (placed r to (nest r n token.CloseEnds)) ≡ false → is_between_tops (placed r to (nest r n token.CloseEnds)) ≡ true
 unfolding nest
 close-frame r to (closing st []) b y h e o = one-close r to st b y h e o
 close-frame r to (closing st (x ∷ m)) b y h e o = absurd (lost-broken r to lost refl o)
@@ -169,7 +181,8 @@ close-frame r to (naming_attribute st n k) b y h e o = absurd (lost-broken r to 
 close-frame r to (in_value st n k) b y h e o = absurd (lost-broken r to lost refl o)
 close-frame r to lost b y h e o = absurd (lost-broken r to lost refl o)
 
-pub end-frame : (r : Rules) (to : State) (n : Nest) (b : Building) → Levels n b → b.opened ≡ [] → is_broken (placed r to (nest r n token.CloseEnds)) ≡ false → has_ended (placed r to (nest r n token.CloseEnds)) ≡ true
+pub end-frame : (r : Rules) (to : State) (n : Nest) (b : Building) → Levels n b → b.opened ≡ [] → is_broken (placed r to (nest r n token.CloseEnds)) ≡ false
+    → has_ended (placed r to (nest r n token.CloseEnds)) ≡ true
 unfolding nest
 end-frame r to (closing st []) b h e o = no-close r to st b h e
 end-frame r to (closing st (x ∷ m)) b h e o = absurd (lost-broken r to lost refl o)

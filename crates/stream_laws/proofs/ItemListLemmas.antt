@@ -38,14 +38,17 @@ brings-more l s (x ∷ xs) ys =
 
 -- one byte, and then the others
 brings-next : (l : Limits) (xs ys : List ℕ) (b : ℕ) → is_stopped (went l first_reading xs) ≡ false
-    → items_from l (went l first_reading xs) (b ∷ ys) ≡ option_to_list (waiting (went l first_reading (xs ++ b ∷ []))) ++ items_from l (went l first_reading (xs ++ b ∷ [])) ys
+    → items_from l (went l first_reading xs) (b ∷ ys) ≡ option_to_list (waiting (went l first_reading (xs ++ b ∷ [])))
+    ++ items_from l (went l first_reading (xs ++ b ∷ [])) ys
 brings-next l xs ys b o =
-    ap (λ (z : List Item). z ++ items_from l (went l (went l first_reading xs) (b ∷ [])) ys) (going-brings (went l first_reading xs) (waiting (went l (went l first_reading xs) (b ∷ []))) o)
+    ap (λ (z : List Item). z ++ items_from l (went l (went l first_reading xs) (b ∷ [])) ys)
+    (going-brings (went l first_reading xs) (waiting (went l (went l first_reading xs) (b ∷ []))) o)
     ∙ ap (λ (s : Reading). option_to_list (waiting s) ++ items_from l s ys) (one-more l xs b)
 
 -- Where no byte has a fault.
 
-pub ending-is : (l : Limits) (xs ys : List ℕ) → is_stopped (went l first_reading (xs ++ ys)) ≡ false → AreEnding (rules_of l) xs ys (items_from l (went l first_reading xs) ys)
+pub ending-is : (l : Limits) (xs ys : List ℕ) → is_stopped (went l first_reading (xs ++ ys)) ≡ false
+    → AreEnding (rules_of l) xs ys (items_from l (went l first_reading xs) ys)
 ending-is l xs [] o = refl
 ending-is l xs (b ∷ ys) o = by (λ p. ending-is l (xs ++ b ∷ []) ys p) (waiting (went l first_reading (xs ++ b ∷ []))) refl
   where
@@ -55,18 +58,30 @@ ending-is l xs (b ∷ ys) o = by (λ p. ending-is l (xs ++ b ∷ []) ys p) (wait
     on : is_stopped (went l first_reading (xs ++ b ∷ [])) ≡ false
     on = goes-before l (xs ++ b ∷ []) ys all_on
 
-    next : items_from l (went l first_reading xs) (b ∷ ys) ≡ option_to_list (waiting (went l first_reading (xs ++ b ∷ []))) ++ items_from l (went l first_reading (xs ++ b ∷ [])) ys
+    next : items_from l (went l first_reading xs) (b ∷ ys) ≡ option_to_list (waiting (went l first_reading (xs ++ b ∷ [])))
+        ++ items_from l (went l first_reading (xs ++ b ∷ [])) ys
     next = brings-next l xs ys b (goes-before l xs (b ∷ []) on)
 
-    by : (is_stopped (went l first_reading ((xs ++ b ∷ []) ++ ys)) ≡ false → AreEnding (rules_of l) (xs ++ b ∷ []) ys (items_from l (went l first_reading (xs ++ b ∷ [])) ys))
-        → (w : Option Item) → waiting (went l first_reading (xs ++ b ∷ [])) ≡ w → AreEnding (rules_of l) xs (b ∷ ys) (items_from l (went l first_reading xs) (b ∷ ys))
-    by go (Some i) e = inl (i, items_from l (went l first_reading (xs ++ b ∷ [])) ys, item_waits l xs b i on e, go all_on, next ∙ ap (λ (w : Option Item). option_to_list w ++ items_from l (went l first_reading (xs ++ b ∷ [])) ys) e)
+    by : (is_stopped (went l first_reading ((xs ++ b ∷ []) ++ ys)) ≡ false
+        → AreEnding (rules_of l) (xs ++ b ∷ []) ys (items_from l (went l first_reading (xs ++ b ∷ [])) ys))
+        → (w : Option Item) → waiting (went l first_reading (xs ++ b ∷ [])) ≡ w
+        → AreEnding (rules_of l) xs (b ∷ ys) (items_from l (went l first_reading xs) (b ∷ ys))
+    by go (Some i) e = inl (
+      i,
+      items_from l (went l first_reading (xs ++ b ∷ [])) ys,
+      item_waits l xs b i on e,
+      go all_on,
+      next
+          ∙ ap (λ (w : Option Item). option_to_list w ++ items_from l (went l first_reading (xs ++ b ∷ [])) ys) e,
+    )
     by go None e = inr (
       λ i is. none-some i (sym e ∙ item_given l xs b i on is),
-      subst (AreEnding (rules_of l) (xs ++ b ∷ []) ys) (sym (next ∙ ap (λ (w : Option Item). option_to_list w ++ items_from l (went l first_reading (xs ++ b ∷ [])) ys) e)) (go all_on),
+      subst (AreEnding (rules_of l) (xs ++ b ∷ []) ys)
+          (sym (next ∙ ap (λ (w : Option Item). option_to_list w ++ items_from l (went l first_reading (xs ++ b ∷ [])) ys) e)) (go all_on),
     )
 
-pub ending-only : (l : Limits) (xs ys : List ℕ) (items : List Item) → is_stopped (went l first_reading (xs ++ ys)) ≡ false → AreEnding (rules_of l) xs ys items → items ≡ items_from l (went l first_reading xs) ys
+pub ending-only : (l : Limits) (xs ys : List ℕ) (items : List Item) → is_stopped (went l first_reading (xs ++ ys)) ≡ false → AreEnding (rules_of l) xs ys items
+    → items ≡ items_from l (went l first_reading xs) ys
 ending-only l xs [] items o e = e
 ending-only l xs (b ∷ ys) items o e = by (λ later p q. ending-only l (xs ++ b ∷ []) ys later p q) e (waiting (went l first_reading (xs ++ b ∷ []))) refl
   where
@@ -76,11 +91,14 @@ ending-only l xs (b ∷ ys) items o e = by (λ later p q. ending-only l (xs ++ b
     on : is_stopped (went l first_reading (xs ++ b ∷ [])) ≡ false
     on = goes-before l (xs ++ b ∷ []) ys all_on
 
-    next : items_from l (went l first_reading xs) (b ∷ ys) ≡ option_to_list (waiting (went l first_reading (xs ++ b ∷ []))) ++ items_from l (went l first_reading (xs ++ b ∷ [])) ys
+    next : items_from l (went l first_reading xs) (b ∷ ys) ≡ option_to_list (waiting (went l first_reading (xs ++ b ∷ [])))
+        ++ items_from l (went l first_reading (xs ++ b ∷ [])) ys
     next = brings-next l xs ys b (goes-before l xs (b ∷ []) on)
 
-    by : ((later : List Item) → is_stopped (went l first_reading ((xs ++ b ∷ []) ++ ys)) ≡ false → AreEnding (rules_of l) (xs ++ b ∷ []) ys later → later ≡ items_from l (went l first_reading (xs ++ b ∷ [])) ys)
-        → AreEnding (rules_of l) xs (b ∷ ys) items → (w : Option Item) → waiting (went l first_reading (xs ++ b ∷ [])) ≡ w → items ≡ items_from l (went l first_reading xs) (b ∷ ys)
+    by : ((later : List Item) → is_stopped (went l first_reading ((xs ++ b ∷ []) ++ ys)) ≡ false → AreEnding (rules_of l) (xs ++ b ∷ []) ys later
+        → later ≡ items_from l (went l first_reading (xs ++ b ∷ [])) ys)
+        → AreEnding (rules_of l) xs (b ∷ ys) items → (w : Option Item) → waiting (went l first_reading (xs ++ b ∷ [])) ≡ w
+        → items ≡ items_from l (went l first_reading xs) (b ∷ ys)
     by go (inl (i, later, is, ending, same)) w e =
         same
         ∙ (ap (λ (z : List Item). i ∷ z) (go later all_on ending)
@@ -99,7 +117,8 @@ fault-brings l xs ys b f first =
     brings-more l first_reading xs (b ∷ ys)
     ∙ ap (λ (z : List Item). items_from l first_reading xs ++ z)
     (brings-next l xs ys b (faultless_goes l xs first.0)
-    ∙ (ap (λ (x : Reading). option_to_list (waiting x) ++ items_from l x ys) stops ∙ ap (λ (z : List Item). item.Broken f (told_number (length xs + 1)) ∷ z) (stopped-brings l f (told_number (length xs + 1)) ys)))
+    ∙ (ap (λ (x : Reading). option_to_list (waiting x) ++ items_from l x ys) stops
+    ∙ ap (λ (z : List Item). item.Broken f (told_number (length xs + 1)) ∷ z) (stopped-brings l f (told_number (length xs + 1)) ys)))
 
 front-before : (xs ys : List ℕ) (b k : ℕ) (bytes : List ℕ) → bytes ≡ xs ++ (b ∷ ys) → k ≡ length xs + 1 → take (k - 1) bytes ≡ xs
 front-before xs ys b k bytes e number =
@@ -122,17 +141,21 @@ items_are l bytes = by (fault_or_none l bytes)
       f,
       items_from l first_reading xs,
       (xs, b, ys, e, number, first),
-      subst (λ (z : List ℕ). AreEnding (rules_of l) [] z (items_from l first_reading xs)) (sym (front-before xs ys b k bytes e number)) (ending-is l [] xs (faultless_goes l xs first.0)),
-      ap (items_from l first_reading) e ∙ (fault-brings l xs ys b f first ∙ ap (λ (n : ℕ). items_from l first_reading xs ++ item.Broken f (told_number n) ∷ []) (sym number)),
+      subst (λ (z : List ℕ). AreEnding (rules_of l) [] z (items_from l first_reading xs)) (sym (front-before xs ys b k bytes e number))
+          (ending-is l [] xs (faultless_goes l xs first.0)),
+      ap (items_from l first_reading) e
+          ∙ (fault-brings l xs ys b f first ∙ ap (λ (n : ℕ). items_from l first_reading xs ++ item.Broken f (told_number n) ∷ []) (sym number)),
     )
 
 pub only_items : (l : Limits) (bytes : List ℕ) (items : List Item) → AreItems l bytes items → items ≡ items_from l first_reading bytes
 only_items l bytes items (inl (none, ending)) = ending-only l [] bytes items (faultless_goes l bytes none) ending
 only_items l bytes items (inr (k, f, before, (xs, b, ys, e, number, first), ending, same)) =
-    let here : AreEnding (rules_of l) [] xs before = subst (λ (z : List ℕ). AreEnding (rules_of l) [] z before) (front-before xs ys b k bytes e number) ending in
+    let here : AreEnding (rules_of l) [] xs before = subst (λ (z : List ℕ). AreEnding (rules_of l) [] z before) (front-before xs ys b k bytes e number) ending
+    in
     same
     ∙ (ap (λ (z : List Item). z ++ item.Broken f (told_number k) ∷ []) (ending-only l [] xs before (faultless_goes l xs first.0) here)
-    ∙ (ap (λ (n : ℕ). items_from l first_reading xs ++ item.Broken f (told_number n) ∷ []) number ∙ (sym (fault-brings l xs ys b f first) ∙ ap (items_from l first_reading) (sym e))))
+    ∙ (ap (λ (n : ℕ). items_from l first_reading xs ++ item.Broken f (told_number n) ∷ []) number
+    ∙ (sym (fault-brings l xs ys b f first) ∙ ap (items_from l first_reading) (sym e))))
 
 pub one_list : (l : Limits) (bytes : List ℕ) (xs ys : List Item) → AreItems l bytes xs → AreItems l bytes ys → xs ≡ ys
 one_list l bytes xs ys p q = only_items l bytes xs p ∙ sym (only_items l bytes ys q)

@@ -111,24 +111,32 @@ abbrev IsJudged : Rules → Frame → Building → List ℕ → Reading → Type
 IsJudged r f0 b0 bytes (stopped f k) = Unit {0}
 IsJudged r f0 b0 bytes (reads f b n k) = AreJudged b0 (told_all r f0 bytes)
 
-judged-step : (r : Rules) (f0 : Frame) (b0 : Building) (b : ℕ) (bs : List ℕ) → AreJudged (clear b0) (told_at f0 b) → (s : Reading) → IsJudged r (frame_next r f0 b) (build_all (clear b0) (told_at f0 b)) bs s → IsJudged r f0 b0 (b ∷ bs) s
+judged-step : (r : Rules) (f0 : Frame) (b0 : Building) (b : ℕ) (bs : List ℕ) → AreJudged (clear b0) (told_at f0 b) → (s : Reading)
+    → IsJudged r (frame_next r f0 b) (build_all (clear b0) (told_at f0 b)) bs s → IsJudged r f0 b0 (b ∷ bs) s
 judged-step r f0 b0 b bs j (stopped f k) h = tt
-judged-step r f0 b0 b bs j (reads f c n k) h = judged-like (told_all r f0 (b ∷ bs)) (clear b0) b0 refl (judged-more (told_at f0 b) (told_all r (frame_next r f0 b) bs) (clear b0) j h)
+judged-step r f0 b0 b bs j (reads f c n k) h =
+    judged-like (told_all r f0 (b ∷ bs)) (clear b0) b0 refl (judged-more (told_at f0 b) (told_all r (frame_next r f0 b) bs) (clear b0) j h)
 
 went-judged : (bytes : List ℕ) (l : Limits) (f0 : Frame) (b0 : Building) (n0 k0 : ℕ) → IsJudged (rules_of l) f0 b0 bytes (went l (reads f0 b0 n0 k0) bytes)
 went-judged [] l f0 b0 n0 k0 = tt
 went-judged (b ∷ bs) l f0 b0 n0 k0 = by (byte_judged l f0 (clear b0) n0 b) refl (λ f1 b1 n k. went-judged bs l f1 b1 n k)
   where
-    by : (o : Option FrameFault) → byte_judged l f0 (clear b0) n0 b ≡ o → ((f1 : Frame) (b1 : Building) (n k : ℕ) → IsJudged (rules_of l) f1 b1 bs (went l (reads f1 b1 n k) bs))
-        → IsJudged (rules_of l) f0 b0 (b ∷ bs) (went l (concluded o (reads (frame_next (rules_of l) f0 b) (build_all (clear b0) (told_at f0 b)) (extent_after (frame_next (rules_of l) f0 b) n0) (told_number (k0 + 1))) (told_number (k0 + 1))) bs)
+    by : (o : Option FrameFault) → byte_judged l f0 (clear b0) n0 b ≡ o
+        → ((f1 : Frame) (b1 : Building) (n k : ℕ) → IsJudged (rules_of l) f1 b1 bs (went l (reads f1 b1 n k) bs))
+        → IsJudged (rules_of l) f0 b0 (b ∷ bs)
+        (went l (concluded o (reads (frame_next (rules_of l) f0 b) (build_all (clear b0) (told_at f0 b)) (extent_after (frame_next (rules_of l) f0 b) n0)
+        (told_number (k0 + 1))) (told_number (k0 + 1))) bs)
     by None e go =
-        judged-step (rules_of l) f0 b0 b bs (byte-judged l f0 (clear b0) n0 b e) _ (go (frame_next (rules_of l) f0 b) (build_all (clear b0) (told_at f0 b)) (extent_after (frame_next (rules_of l) f0 b) n0) (told_number (k0 + 1)))
+        judged-step (rules_of l) f0 b0 b bs (byte-judged l f0 (clear b0) n0 b e) _
+        (go (frame_next (rules_of l) f0 b) (build_all (clear b0) (told_at f0 b)) (extent_after (frame_next (rules_of l) f0 b) n0) (told_number (k0 + 1)))
     by (Some f) e go = subst (IsJudged (rules_of l) f0 b0 (b ∷ bs)) (sym (stopped-went l f (told_number (k0 + 1)) bs)) tt
 
-pub reading-judged : (l : Limits) (bytes : List ℕ) → is_stopped (went l first_reading bytes) ≡ false → AreJudged nothing_built (told_all (rules_of l) first_frame bytes)
+pub reading-judged : (l : Limits) (bytes : List ℕ) → is_stopped (went l first_reading bytes) ≡ false
+    → AreJudged nothing_built (told_all (rules_of l) first_frame bytes)
 reading-judged l bytes w = by (went l first_reading bytes) w (went-judged bytes l first_frame nothing_built 0 0)
   where
-    by : (s : Reading) → is_stopped s ≡ false → IsJudged (rules_of l) first_frame nothing_built bytes s → AreJudged nothing_built (told_all (rules_of l) first_frame bytes)
+    by : (s : Reading) → is_stopped s ≡ false → IsJudged (rules_of l) first_frame nothing_built bytes s
+        → AreJudged nothing_built (told_all (rules_of l) first_frame bytes)
     by (stopped f k) h j = absurd (let bad : true ≡ false = h in cc)
     by (reads f b n k) h j = j
 
@@ -136,21 +144,25 @@ reading-judged l bytes w = by (went l first_reading bytes) w (went-judged bytes 
 
 pub tag-judged : (b : Building) (t : RawTag) (e : Bool) → AreJudged b (tag_tokens t e) → fault_of_tag b.layers (whole_tag t) ≡ None
 tag-judged b t e j =
-    let k : AreJudged (build_all b (tag-body t)) (token.TagEnds e ∷ []) = judged-back (tag-body t) (token.TagEnds e ∷ []) b (subst (AreJudged b) (body-then t e) j) in
+    let k : AreJudged (build_all b (tag-body t)) (token.TagEnds e ∷ []) =
+    judged-back (tag-body t) (token.TagEnds e ∷ []) b (subst (AreJudged b) (body-then t e) j) in
     ap (λ (x : Building). named_at x (token.TagEnds e)) (sym (body-made b t)) ∙ k.0
 
 -- a building with these bindings
 abbrev pub IsOn : Building → List (List Binding) → Type 0
 IsOn b layers = (g : Gathered) × (os : List Opened) × (words : List ℕ) × (i : Option Item) × (b ≡ made g layers os words i)
 
-pub leaves-on : (f : Content) (g : Gathered) (layers : List (List Binding)) (os : List Opened) (words : List ℕ) (i : Option Item) → (length layers == 0) ≡ false → IsOn (build_all (made g layers os words i) (content_tokens f)) layers
+pub leaves-on : (f : Content) (g : Gathered) (layers : List (List Binding)) (os : List Opened) (words : List ℕ) (i : Option Item) → (length layers == 0) ≡ false
+    → IsOn (build_all (made g layers os words i) (content_tokens f)) layers
 leaves-on f g layers [] words i deep = let (g1, w1, is) = tops-made f g layers words i deep in (g1, [], w1, _, is)
 leaves-on f g layers (x ∷ xs) words i deep = let (g1, is) = content-made f g layers x xs words i deep in (g1, _, _, i, is)
 
 abbrev NamedOn : Content → Type 0
-NamedOn f = (g : Gathered) (layers : List (List Binding)) (os : List Opened) (words : List ℕ) (i : Option Item) → (length layers == 0) ≡ false → AreJudged (made g layers os words i) (content_tokens f) → AreNamed layers f
+NamedOn f = (g : Gathered) (layers : List (List Binding)) (os : List Opened) (words : List ℕ) (i : Option Item) → (length layers == 0) ≡ false
+    → AreJudged (made g layers os words i) (content_tokens f) → AreNamed layers f
 
-on-named : (f : Content) → NamedOn f → (b : Building) (layers : List (List Binding)) → (length layers == 0) ≡ false → IsOn b layers → AreJudged b (content_tokens f) → AreNamed layers f
+on-named : (f : Content) → NamedOn f → (b : Building) (layers : List (List Binding)) → (length layers == 0) ≡ false → IsOn b layers
+    → AreJudged b (content_tokens f) → AreNamed layers f
 on-named f rule b layers deep (g, os, words, i, is) j = rule g layers os words i deep (subst (λ (x : Building). AreJudged x (content_tokens f)) is j)
 
 element-named : (t : RawTag) (h f : Content) → NamedOn h → NamedOn f → NamedOn (element t h f)
@@ -158,23 +170,37 @@ element-named t h f inner later g layers os words i deep j =
     let b : Building = made g layers os words i in
     let into : List (List Binding) = inside_of layers (whole_tag t) in
     let new : Opened = record { name = name_on into (whole_tag t).name; attrs = attrs_on into (whole_tag t).attributes; children = [] } in
-    let one : fault_of_tag layers (whole_tag t) ≡ None = tag-judged b t false (judged-front (tag_tokens t false) (content_tokens h ++ (end_tokens t.name ++ content_tokens f)) b j) in
-    let begun : build_all b (tag_tokens t false) ≡ made nothing_gathered into (new ∷ settled_words words os) [] i = tag-made b t false ∙ start-if (length layers == 0) _ (made nothing_gathered into (new ∷ settled_words words os) [] i) deep in
-    let rest : AreJudged (build_all b (tag_tokens t false)) (content_tokens h ++ (end_tokens t.name ++ content_tokens f)) = judged-back (tag_tokens t false) (content_tokens h ++ (end_tokens t.name ++ content_tokens f)) b j in
+    let one : fault_of_tag layers (whole_tag t) ≡ None =
+    tag-judged b t false (judged-front (tag_tokens t false) (content_tokens h ++ (end_tokens t.name ++ content_tokens f)) b j) in
+    let begun : build_all b (tag_tokens t false) ≡ made nothing_gathered into (new ∷ settled_words words os) [] i = tag-made b t false
+    ∙ start-if (length layers == 0) _ (made nothing_gathered into (new ∷ settled_words words os) [] i) deep in
+    let rest : AreJudged (build_all b (tag_tokens t false)) (content_tokens h ++ (end_tokens t.name ++ content_tokens f)) =
+    judged-back (tag_tokens t false) (content_tokens h ++ (end_tokens t.name ++ content_tokens f)) b j in
     let within : AreNamed into h =
-    on-named h inner (build_all b (tag_tokens t false)) into (not-empty layers (own (whole_tag t).attributes)) (nothing_gathered, new ∷ settled_words words os, [], i, begun)
+    on-named h inner (build_all b (tag_tokens t false)) into (not-empty layers (own (whole_tag t).attributes))
+    (nothing_gathered, new ∷ settled_words words os, [], i, begun)
     (judged-front (content_tokens h) (end_tokens t.name ++ content_tokens f) (build_all b (tag_tokens t false)) rest) in
     let whole : List Token = tag_tokens t false ++ (content_tokens h ++ end_tokens t.name) in
-    let after : AreJudged (build_all b whole) (content_tokens f) = judged-back whole (content_tokens f) b (subst (AreJudged b) (regroup (tag_tokens t false) (content_tokens h) (end_tokens t.name) (content_tokens f)) j) in
-    let same : content_tokens (element t h nothing) ≡ whole = ap (λ (l : List Token). tag_tokens t false ++ (content_tokens h ++ l)) (append-nil (end_tokens t.name)) in
-    (one, (within, on-named f later (build_all b whole) layers deep (subst (λ (l : List Token). IsOn (build_all b l) layers) same (leaves-on (element t h nothing) g layers os words i deep)) after))
+    let after : AreJudged (build_all b whole) (content_tokens f) =
+    judged-back whole (content_tokens f) b (subst (AreJudged b) (regroup (tag_tokens t false) (content_tokens h) (end_tokens t.name) (content_tokens f)) j)
+    in
+    let same : content_tokens (element t h nothing) ≡ whole =
+    ap (λ (l : List Token). tag_tokens t false ++ (content_tokens h ++ l)) (append-nil (end_tokens t.name)) in (
+      one,
+      (
+        within,
+        on-named f later (build_all b whole) layers deep
+            (subst (λ (l : List Token). IsOn (build_all b l) layers) same (leaves-on (element t h nothing) g layers os words i deep)) after,
+      ),
+    )
 
 hollow-named : (t : RawTag) (f : Content) → NamedOn f → NamedOn (hollow t f)
 hollow-named t f later g layers os words i deep j =
     let b : Building = made g layers os words i in
     let one : fault_of_tag layers (whole_tag t) ≡ None = tag-judged b t true (judged-front (tag_tokens t true) (content_tokens f) b j) in (
       one,
-      on-named f later (build_all b (tag_tokens t true)) layers deep (subst (λ (l : List Token). IsOn (build_all b l) layers) (append-nil (tag_tokens t true)) (leaves-on (hollow t nothing) g layers os words i deep))
+      on-named f later (build_all b (tag_tokens t true)) layers deep
+          (subst (λ (l : List Token). IsOn (build_all b l) layers) (append-nil (tag_tokens t true)) (leaves-on (hollow t nothing) g layers os words i deep))
           (judged-back (tag_tokens t true) (content_tokens f) b j),
     )
 
@@ -192,9 +218,11 @@ content-named (hollow t f) = hollow-named t f (content-named f)
 pub head-named : (d : Bool) (root : RawTag) (f : Content) → AreJudged nothing_built (head_tokens d root f) → IsNamed root f
 head-named d root f j =
     let k : AreJudged nothing_built (tag_tokens root false ++ content_tokens f) =
-    subst (λ (b : Building). AreJudged b (tag_tokens root false ++ content_tokens f)) (declared-made d) (judged-back (declaration_tokens d) (tag_tokens root false ++ content_tokens f) nothing_built j) in
+    subst (λ (b : Building). AreJudged b (tag_tokens root false ++ content_tokens f)) (declared-made d)
+    (judged-back (declaration_tokens d) (tag_tokens root false ++ content_tokens f) nothing_built j) in
     let layers : List (List Binding) = inside_of outside_all (whole_tag root) in (
       tag-judged nothing_built root false (judged-front (tag_tokens root false) (content_tokens f) nothing_built k),
       content-named f nothing_gathered layers [] [] (Some (item.Header (header_of root) (default_of root))) (not-empty [] (own (whole_tag root).attributes))
-          (subst (λ (b : Building). AreJudged b (content_tokens f)) (tag-made nothing_built root false) (judged-back (tag_tokens root false) (content_tokens f) nothing_built k)),
+          (subst (λ (b : Building). AreJudged b (content_tokens f)) (tag-made nothing_built root false)
+          (judged-back (tag_tokens root false) (content_tokens f) nothing_built k)),
     )

@@ -44,7 +44,8 @@ nil-both [] ys e = (refl, e)
 nil-both (x ∷ xs) ys e = absurd (no_token x (xs ++ ys) e)
 
 -- where the last of them falls
-split-last : (us ws front : List Token) (t : Token) → front ++ t ∷ [] ≡ us ++ ws → ((ws ≡ []) × (us ≡ front ++ t ∷ [])) ⊎ ((rest : List Token) × (front ≡ us ++ rest) × (ws ≡ rest ++ t ∷ []))
+split-last : (us ws front : List Token) (t : Token) → front ++ t ∷ [] ≡ us ++ ws
+    → ((ws ≡ []) × (us ≡ front ++ t ∷ [])) ⊎ ((rest : List Token) × (front ≡ us ++ rest) × (ws ≡ rest ++ t ∷ []))
 split-last [] ws front t e = inr (front, refl, sym e)
 split-last (u ∷ us) ws [] t e =
     let (none, last) = nil-both us ws (sym (token_tail t u [] (us ++ ws) e)) in
@@ -53,7 +54,8 @@ split-last (u ∷ us) ws (x ∷ front) t e =
     let same : u ≡ x = sym (token_head x u (front ++ t ∷ []) (us ++ ws) e) in
     by same (split-last us ws front t (token_tail x u (front ++ t ∷ []) (us ++ ws) e))
   where
-    by : u ≡ x → ((ws ≡ []) × (us ≡ front ++ t ∷ [])) ⊎ ((rest : List Token) × (front ≡ us ++ rest) × (ws ≡ rest ++ t ∷ [])) → ((ws ≡ []) × (u ∷ us ≡ x ∷ (front ++ t ∷ []))) ⊎ ((rest : List Token) × (x ∷ front ≡ u ∷ (us ++ rest)) × (ws ≡ rest ++ t ∷ []))
+    by : u ≡ x → ((ws ≡ []) × (us ≡ front ++ t ∷ [])) ⊎ ((rest : List Token) × (front ≡ us ++ rest) × (ws ≡ rest ++ t ∷ []))
+        → ((ws ≡ []) × (u ∷ us ≡ x ∷ (front ++ t ∷ []))) ⊎ ((rest : List Token) × (x ∷ front ≡ u ∷ (us ++ rest)) × (ws ≡ rest ++ t ∷ []))
     by same (inl (none, is)) = inl (none, ap (λ (l : List Token). u ∷ l) is ∙ ap (λ (y : Token). y ∷ (front ++ t ∷ [])) same)
     by same (inr (rest, is, last)) = inr (rest, ap (λ (l : List Token). x ∷ l) is ∙ ap (λ (y : Token). y ∷ (us ++ rest)) (sym same), last)
 
@@ -93,7 +95,8 @@ ended-spaces : (r : Rules) (bs : List ℕ) → is_broken (frame_after r ended bs
 ended-spaces r [] h = tt
 ended-spaces r (b ∷ bs) h = by (is_space b) refl h (λ k. ended-spaces r bs k)
   where
-    by : (t : Bool) → is_space b ≡ t → is_broken (frame_after r (cond t ended broken) bs) ≡ false → (is_broken (frame_after r ended bs) ≡ false → AreSpaces bs) → (is_space b ≡ true) × AreSpaces bs
+    by : (t : Bool) → is_space b ≡ t → is_broken (frame_after r (cond t ended broken) bs) ≡ false → (is_broken (frame_after r ended bs) ≡ false → AreSpaces bs)
+        → (is_space b ≡ true) × AreSpaces bs
     by true e k go = (e, go k)
     by false e k go = absurd (not-both true refl (ap is_broken (sym (broken-stays r bs)) ∙ k))
 
@@ -123,7 +126,8 @@ end-words st to b (token.TagEnds x) h e = tag-words st to b x e
 end-words st to b t h e = absurd (let bad : false ≡ true = h in cc)
 
 -- after the end of the stream
-ended-words : (r : Rules) (st to : State) (n : Nest) (b : ℕ) (us : List Token) → IsSound r st n → turn st b ≡ leads to us → nest_all r n us ≡ inside [] → to ≡ words
+ended-words : (r : Rules) (st to : State) (n : Nest) (b : ℕ) (us : List Token) → IsSound r st n → turn st b ≡ leads to us → nest_all r n us ≡ inside []
+    → to ≡ words
 ended-words r st to n b us s e k = by (nest_all r n us) k (fits-next r st to b n us e s.calm_is s.opens s.fits)
   where
     at_end : (Fits to (inside [])) ⊎ (Strays to (inside [])) → to ≡ words
@@ -142,12 +146,14 @@ Earlier st bs ts = (xs : List ℕ) × (ys : List ℕ) × (bs ≡ xs ++ ys) × Le
 -- the byte tells the token, and those before it tell these
 abbrev pub LastTold : Rules → State → Nest → List ℕ → ℕ → List Token → Token → Type 0
 LastTold r st n bs b front t =
-    (to : State) × (m : Nest) × (s : State) × (frame_after r (open_at st n) bs ≡ open_at to m) × (turn to b ≡ leads s (t ∷ [])) × (told_all r (open_at st n) bs ≡ front)
+    (to : State) × (m : Nest) × (s : State) × (frame_after r (open_at st n) bs ≡ open_at to m) × (turn to b ≡ leads s (t ∷ []))
+    × (told_all r (open_at st n) bs ≡ front)
 
 abbrev Ends : Rules → State → Nest → List ℕ → ℕ → List Token → Token → Type 0
 Ends r st n bs b front t = Earlier st bs (front ++ t ∷ []) ⊎ LastTold r st n bs b front t
 
-here : (r : Rules) (st to : State) (n : Nest) (c : ℕ) (bs : List ℕ) (us front : List Token) (t : Token) → is_live st ≡ true → ends_tag t ≡ true → turn st c ≡ leads to us → us ≡ front ++ t ∷ [] → Earlier st (c ∷ bs) (front ++ t ∷ [])
+here : (r : Rules) (st to : State) (n : Nest) (c : ℕ) (bs : List ℕ) (us front : List Token) (t : Token) → is_live st ≡ true → ends_tag t ≡ true
+    → turn st c ≡ leads to us → us ≡ front ++ t ∷ [] → Earlier st (c ∷ bs) (front ++ t ∷ [])
 here r st to n c bs us front t live h e is =
     let none : front ≡ [] = one-told us front t (turn-few st to c us e) h is in
     let one : us ≡ t ∷ [] = is ∙ ap (λ (l : List Token). l ++ t ∷ []) none in
@@ -155,13 +161,21 @@ here r st to n c bs us front t live h e is =
       c ∷ [],
       bs,
       refl,
-      subst (λ (l : List Token). Left st (c ∷ []) (all_said l)) (append-nil us ∙ is) (left-from st to c us [] [] live e (subst (λ (s : State). Left s [] []) (sym at_end) words-left)),
+      subst (λ (l : List Token). Left st (c ∷ []) (all_said l)) (append-nil us
+          ∙ is) (left-from st to c us [] [] live e (subst (λ (s : State). Left s [] []) (sym at_end) words-left)),
     )
 
-later : (r : Rules) (st s : State) (n : Nest) (c b : ℕ) (bs : List ℕ) (us front rest : List Token) (t : Token) → is_live st ≡ true → turn st c ≡ leads s us → placed r s (nest_all r n us) ≡ open_at s (nest_all r n us) → front ≡ us ++ rest
+later : (r : Rules) (st s : State) (n : Nest) (c b : ℕ) (bs : List ℕ) (us front rest : List Token) (t : Token) → is_live st ≡ true → turn st c ≡ leads s us
+    → placed r s (nest_all r n us) ≡ open_at s (nest_all r n us) → front ≡ us ++ rest
     → Ends r s (nest_all r n us) bs b rest t → Ends r st n (c ∷ bs) b front t
 later r st s n c b bs us front rest t live e o f (inl (xs, ys, p, l)) =
-    inl (c ∷ xs, ys, ap (λ (x : List ℕ). c ∷ x) p, subst (λ (x : List Token). Left st (c ∷ xs) (all_said x)) (sym (append_assoc us rest (t ∷ [])) ∙ ap (λ (x : List Token). x ++ t ∷ []) (sym f)) (left-from st s c us xs (rest ++ t ∷ []) live e l))
+    inl (
+      c ∷ xs,
+      ys,
+      ap (λ (x : List ℕ). c ∷ x) p,
+      subst (λ (x : List Token). Left st (c ∷ xs) (all_said x)) (sym (append_assoc us rest (t ∷ []))
+          ∙ ap (λ (x : List Token). x ++ t ∷ []) (sym f)) (left-from st s c us xs (rest ++ t ∷ []) live e l),
+    )
 later r st s n c b bs us front rest t live e o f (inr (to, m, s1, g, k, told)) =
     let next : frame_next r (open_at st n) c ≡ open_at s (nest_all r n us) = ap (settled r n) e ∙ o in
     inr (
@@ -170,10 +184,12 @@ later r st s n c b bs us front rest t live e o f (inr (to, m, s1, g, k, told)) =
       s1,
       ap (λ (x : Frame). frame_after r x bs) next ∙ g,
       k,
-      ap (λ (x : Outcome). tokens_told x ++ told_all r (frame_next r (open_at st n) c) bs) e ∙ (ap (λ (x : Frame). us ++ told_all r x bs) next ∙ (ap (λ (x : List Token). us ++ x) told ∙ sym f)),
+      ap (λ (x : Outcome). tokens_told x ++ told_all r (frame_next r (open_at st n) c) bs) e
+          ∙ (ap (λ (x : Frame). us ++ told_all r x bs) next ∙ (ap (λ (x : List Token). us ++ x) told ∙ sym f)),
     )
 
-pub last-told : (bs : List ℕ) (r : Rules) (st : State) (n : Nest) (b : ℕ) (front : List Token) (t : Token) → IsSound r st n → ends_tag t ≡ true → Left st (bs ++ b ∷ []) (all_said (front ++ t ∷ []))
+pub last-told : (bs : List ℕ) (r : Rules) (st : State) (n : Nest) (b : ℕ) (front : List Token) (t : Token) → IsSound r st n → ends_tag t ≡ true
+    → Left st (bs ++ b ∷ []) (all_said (front ++ t ∷ []))
     → is_broken (frame_after r (open_at st n) (bs ++ b ∷ [])) ≡ false → Ends r st n bs b front t
 last-told [] r st n b front t s h l w = by (turn st b) refl
   where
@@ -188,7 +204,8 @@ last-told [] r st n b front t s h l w = by (turn st b) refl
 last-told (c ∷ bs) r st n b front t s h l w = by (turn st c) refl (λ s1 k rest. last-told bs r s1 k b rest t)
   where
     next : (s1 : State) (us ws : List Token) → turn st c ≡ leads s1 us → Left s1 (bs ++ b ∷ []) (all_said ws)
-        → ((k : Nest) (rest : List Token) → IsSound r s1 k → ends_tag t ≡ true → Left s1 (bs ++ b ∷ []) (all_said (rest ++ t ∷ [])) → is_broken (frame_after r (open_at s1 k) (bs ++ b ∷ [])) ≡ false → Ends r s1 k bs b rest t)
+        → ((k : Nest) (rest : List Token) → IsSound r s1 k → ends_tag t ≡ true → Left s1 (bs ++ b ∷ []) (all_said (rest ++ t ∷ []))
+        → is_broken (frame_after r (open_at s1 k) (bs ++ b ∷ [])) ≡ false → Ends r s1 k bs b rest t)
         → ((ws ≡ []) × (us ≡ front ++ t ∷ [])) ⊎ ((rest : List Token) × (front ≡ us ++ rest) × (ws ≡ rest ++ t ∷ [])) → Ends r st n (c ∷ bs) b front t
     next s1 us ws e m go (inl (none, is)) = inl (here r st s1 n c bs us front t s.live h e is)
     next s1 us ws e m go (inr (rest, is, last)) = placed_by (placed-cases r s1 (nest_all r n us))
@@ -200,15 +217,21 @@ last-told (c ∷ bs) r st n b front t s h l w = by (turn st c) refl (λ s1 k res
         placed_by (inl o) =
             let sound : IsSound r s1 (nest_all r n us) = subst (Sound r) (ap (settled r n) e ∙ o) (next-sound r (open_at st n) c s) in
             later r st s1 n c b bs us front rest t s.live e o is
-            (go (nest_all r n us) rest sound h (subst (λ (x : List Token). Left s1 (bs ++ b ∷ []) (all_said x)) last m) (ap (λ (x : Frame). is_broken (frame_after r x (bs ++ b ∷ []))) (sym o) ∙ open_then))
+            (go (nest_all r n us) rest sound h (subst (λ (x : List Token). Left s1 (bs ++ b ∷ []) (all_said x)) last m)
+            (ap (λ (x : Frame). is_broken (frame_after r x (bs ++ b ∷ []))) (sym o) ∙ open_then))
         placed_by (inr (inl (o, k))) =
             let at_end : s1 ≡ words = ended-words r st s1 n c us s e k in
-            let spaces : AreSpaces (bs ++ b ∷ []) = ended-spaces r (bs ++ b ∷ []) (ap (λ (x : Frame). is_broken (frame_after r x (bs ++ b ∷ []))) (sym o) ∙ open_then) in
-            absurd (no-word rest t h (ap are_words (sym last) ∙ spaces-words (bs ++ b ∷ []) false ws spaces (subst (λ (x : State). Left x (bs ++ b ∷ []) (all_said ws)) at_end m)))
-        placed_by (inr (inr o)) = absurd (not-both true refl (ap is_broken (sym (broken-stays r (bs ++ b ∷ []))) ∙ (ap (λ (x : Frame). is_broken (frame_after r x (bs ++ b ∷ []))) (sym o) ∙ open_then)))
+            let spaces : AreSpaces (bs ++ b ∷ []) = ended-spaces r (bs ++ b ∷ []) (ap (λ (x : Frame). is_broken (frame_after r x (bs ++ b ∷ []))) (sym o)
+            ∙ open_then) in
+            absurd (no-word rest t h (ap are_words (sym last)
+            ∙ spaces-words (bs ++ b ∷ []) false ws spaces (subst (λ (x : State). Left x (bs ++ b ∷ []) (all_said ws)) at_end m)))
+        placed_by (inr (inr o)) =
+            absurd (not-both true refl (ap is_broken (sym (broken-stays r (bs ++ b ∷ [])))
+            ∙ (ap (λ (x : Frame). is_broken (frame_after r x (bs ++ b ∷ []))) (sym o) ∙ open_then)))
 
     by : (o : Outcome) → turn st c ≡ o
-        → ((s1 : State) (k : Nest) (rest : List Token) → IsSound r s1 k → ends_tag t ≡ true → Left s1 (bs ++ b ∷ []) (all_said (rest ++ t ∷ [])) → is_broken (frame_after r (open_at s1 k) (bs ++ b ∷ [])) ≡ false → Ends r s1 k bs b rest t)
+        → ((s1 : State) (k : Nest) (rest : List Token) → IsSound r s1 k → ends_tag t ≡ true → Left s1 (bs ++ b ∷ []) (all_said (rest ++ t ∷ []))
+        → is_broken (frame_after r (open_at s1 k) (bs ++ b ∷ [])) ≡ false → Ends r s1 k bs b rest t)
         → Ends r st n (c ∷ bs) b front t
     by (fails f) e go = absurd (left-fails st c f (bs ++ b ∷ []) (front ++ t ∷ []) s.live e l)
     by (leads s1 us) e go =
@@ -219,10 +242,13 @@ not-last : (ys : List ℕ) (b : ℕ) → ys ++ b ∷ [] ≡ [] → ⊥
 not-last [] b e = cons_not_nil b [] e
 not-last (y ∷ ys) b e = cons_not_nil y (ys ++ b ∷ []) e
 
-pub ends-at : (r : Rules) (bytes : List ℕ) (b : ℕ) (front : List Token) (t : Token) → ends_tag t ≡ true → Reads (bytes ++ b ∷ []) (front ++ t ∷ []) → IsShortest (bytes ++ b ∷ []) (front ++ t ∷ [])
+pub ends-at : (r : Rules) (bytes : List ℕ) (b : ℕ) (front : List Token) (t : Token) → ends_tag t ≡ true → Reads (bytes ++ b ∷ []) (front ++ t ∷ [])
+    → IsShortest (bytes ++ b ∷ []) (front ++ t ∷ [])
     → is_broken (frame_after r first_frame (bytes ++ b ∷ [])) ≡ false → LastTold r first_state start bytes b front t
-ends-at r bytes b front t h reads short w = by (last-told bytes r first_state start b front t (first-sound r) h (first-left (bytes ++ b ∷ []) (front ++ t ∷ []) reads) w)
+ends-at r bytes b front t h reads short w =
+    by (last-told bytes r first_state start b front t (first-sound r) h (first-left (bytes ++ b ∷ []) (front ++ t ∷ []) reads) w)
   where
     by : Ends r first_state start bytes b front t → LastTold r first_state start bytes b front t
-    by (inl (xs, ys, p, l)) = absurd (not-last ys b (short xs (ys ++ b ∷ []) (ap (λ (x : List ℕ). x ++ b ∷ []) p ∙ append_assoc xs ys (b ∷ [])) (left-first xs (front ++ t ∷ []) l)))
+    by (inl (xs, ys, p, l)) =
+        absurd (not-last ys b (short xs (ys ++ b ∷ []) (ap (λ (x : List ℕ). x ++ b ∷ []) p ∙ append_assoc xs ys (b ∷ [])) (left-first xs (front ++ t ∷ []) l)))
     by (inr k) = k

@@ -46,7 +46,8 @@ but-last-long : {X : Type 0} (ls : List X) (k : ℕ) → length ls ≡ suc k →
 but-last-long [] k e = absurd (omega (arith, e))
 but-last-long (l ∷ []) k e = omega (arith, e)
 but-last-long {X = X} (l ∷ m ∷ ls) zero e = absurd (let f : suc (suc (length ls)) ≡ 1 = e in omega (arith, f))
-but-last-long {X = X} (l ∷ m ∷ ls) (suc k) e = ap suc (but-last-long (m ∷ ls) k (let f : suc (suc (length ls)) ≡ suc (suc k) = e in let g : suc (length ls) ≡ suc k = omega (arith, f) in g))
+but-last-long {X = X} (l ∷ m ∷ ls) (suc k) e =
+    ap suc (but-last-long (m ∷ ls) k (let f : suc (suc (length ls)) ≡ suc (suc k) = e in let g : suc (length ls) ≡ suc k = omega (arith, f) in g))
 
 long-more : (ls : List (List Binding)) (l : List Binding) (k : ℕ) → length ls ≡ k → length (ls ++ l ∷ []) ≡ suc k
 long-more ls l k e = length-append ls (l ∷ []) ∙ (let f : length ls + 1 ≡ suc k = omega (arith, e) in f)
@@ -59,19 +60,24 @@ start-if true a b h = absurd (let bad : true ≡ false = h in cc)
 start-if false a b h = refl
 
 start-level : (k : ℕ) (b : Building) → IsLevel b k → IsLevel (build b (token.TagEnds false)) (suc k)
-start-level zero b (p, q) = subst (λ (x : Building). IsLevel (build x (token.TagEnds false)) 1) (ap (λ (ls : List (List Binding)). made b.tag ls [] b.words b.item) (sym p) ∙ ap (λ (os : List Opened). made b.tag b.layers os b.words b.item) (sym q)) (refl, refl)
+start-level zero b (p, q) =
+    subst (λ (x : Building). IsLevel (build x (token.TagEnds false)) 1) (ap (λ (ls : List (List Binding)). made b.tag ls [] b.words b.item) (sym p)
+    ∙ ap (λ (os : List Opened). made b.tag b.layers os b.words b.item) (sym q)) (refl, refl)
 start-level (suc k) b (p, q) =
     subst (λ (x : Building). IsLevel x (suc (suc k))) (sym (start-if (length b.layers == 0) _ _ (not-none (length b.layers) k p)))
     (long-more b.layers _ (suc k) p, ap suc (settled-long b.words b.opened ∙ q))
 
-hollow-level : (g : Gathered) (ls : List (List Binding)) (os : List Opened) (words : List ℕ) (i : Option Item) (k : ℕ) → IsLevel (made g ls os words i) (suc k) → IsLevel (build (made g ls os words i) (token.TagEnds true)) (suc k)
+hollow-level : (g : Gathered) (ls : List (List Binding)) (os : List Opened) (words : List ℕ) (i : Option Item) (k : ℕ) → IsLevel (made g ls os words i) (suc k)
+    → IsLevel (build (made g ls os words i) (token.TagEnds true)) (suc k)
 hollow-level g ls [] words i k h = h
 hollow-level g ls (x ∷ xs) words i k h = h
 
-close-level : (g : Gathered) (ls : List (List Binding)) (os : List Opened) (words : List ℕ) (i : Option Item) (k : ℕ) → IsLevel (made g ls os words i) (suc (suc k)) → IsLevel (build (made g ls os words i) token.CloseEnds) (suc k)
+close-level : (g : Gathered) (ls : List (List Binding)) (os : List Opened) (words : List ℕ) (i : Option Item) (k : ℕ)
+    → IsLevel (made g ls os words i) (suc (suc k)) → IsLevel (build (made g ls os words i) token.CloseEnds) (suc k)
 close-level g ls [] words i k (p, q) = absurd (let f : 0 ≡ suc k = q in omega (arith, f))
 close-level g ls (x ∷ []) words i k (p, q) = (but-last-long ls (suc k) p, let f : 1 ≡ suc k = q in omega (arith, f))
-close-level g ls (x ∷ y ∷ ys) words i k (p, q) = (but-last-long ls (suc k) p, let f : suc (suc (length ys)) ≡ suc k = q in let e : suc (length ys) ≡ k = omega (arith, f) in e)
+close-level g ls (x ∷ y ∷ ys) words i k (p, q) =
+    (but-last-long ls (suc k) p, let f : suc (suc (length ys)) ≡ suc k = q in let e : suc (length ys) ≡ k = omega (arith, f) in e)
 
 cond-levels : (t : Bool) (n : Nest) (b : Building) → Levels n b → Levels (cond t n lost) b
 cond-levels true n b h = h
@@ -81,13 +87,16 @@ root-level : (r : Rules) (b : Building) (t : Token) → IsLevel b 0 → Levels (
 root-level r b (token.TagOpens x) h = h
 root-level r b t h = tt
 
-content-level : (r : Rules) (m : RawName) (st : List RawName) (b : Building) (t : Token) → IsLevel b (suc (length st)) → Levels (in_content r m st t) (build b t)
-content-level r m st b (token.Word c) h = cond-levels (may_stand r st c) (inside (m ∷ st)) (worded_in b.opened c b) (level-word b.opened c b (suc (length st)) h)
+content-level : (r : Rules) (m : RawName) (st : List RawName) (b : Building) (t : Token) → IsLevel b (suc (length st))
+    → Levels (in_content r m st t) (build b t)
+content-level r m st b (token.Word c) h =
+    cond-levels (may_stand r st c) (inside (m ∷ st)) (worded_in b.opened c b) (level-word b.opened c b (suc (length st)) h)
 content-level r m st b (token.TagOpens x) h = cond-levels (nat_lt (length st) r.depth) (naming (m ∷ st) (x, [])) (build b (token.TagOpens x)) h
 content-level r m st b (token.CloseOpens x) h = cond-levels (x == m.0) (closing st m.1) (build b (token.CloseOpens x)) h
 content-level r m st b t h = tt
 
-name-level : (r : Rules) (st : List RawName) (n : RawName) (k : ℕ) (b : Building) (t : Token) → IsLevel b (length st) → Levels (after_name r st n k t) (build b t)
+name-level : (r : Rules) (st : List RawName) (n : RawName) (k : ℕ) (b : Building) (t : Token) → IsLevel b (length st)
+    → Levels (after_name r st n k t) (build b t)
 name-level r st n k b (token.AttrOpens x) h = cond-levels (nat_lt k r.attributes) (naming_attribute st n (k + 1)) (build b (token.AttrOpens x)) h
 name-level r [] n k b (token.TagEnds true) h = tt
 name-level r (m ∷ st) n k b (token.TagEnds true) h = hollow-level b.tag b.layers b.opened b.words b.item (length st) h

@@ -69,7 +69,8 @@ gathers (t ∷ ts) b h =
 
 gathering-more : (xs ys : List Token) → all-gathering xs ≡ true → all-gathering ys ≡ true → all-gathering (xs ++ ys) ≡ true
 gathering-more [] ys h k = k
-gathering-more (x ∷ xs) ys h k = let (one, more) = both (gathering x) (all-gathering xs) h in ap (λ (t : Bool). t && all-gathering (xs ++ ys)) one ∙ gathering-more xs ys more k
+gathering-more (x ∷ xs) ys h k = let (one, more) = both (gathering x) (all-gathering xs) h in ap (λ (t : Bool). t && all-gathering (xs ++ ys)) one
+    ∙ gathering-more xs ys more k
 
 pub gathering-name : (bs : List ℕ) → all-gathering (map token.NameByte bs) ≡ true
 gathering-name [] = refl
@@ -87,7 +88,8 @@ gathering-attributes : (xs : List RawAttribute) → all-gathering (attributes_to
 gathering-attributes [] = refl
 gathering-attributes (a ∷ xs) =
     gathering-more (attribute_tokens a) (attributes_tokens xs)
-    (gathering-more (map token.AttrByte a.name.1) (token.ValueOpens ∷ (map token.Value a.value ++ token.ValueEnds ∷ [])) (gathering-attribute-name a.name.1) (gathering-more (map token.Value a.value) (token.ValueEnds ∷ []) (gathering-value a.value) refl))
+    (gathering-more (map token.AttrByte a.name.1) (token.ValueOpens ∷ (map token.Value a.value ++ token.ValueEnds ∷ [])) (gathering-attribute-name a.name.1)
+    (gathering-more (map token.Value a.value) (token.ValueEnds ∷ []) (gathering-value a.value) refl))
     (gathering-attributes xs)
 
 -- a tag up to its `>`
@@ -95,7 +97,8 @@ abbrev pub tag-body : RawTag → List Token
 tag-body t = token.TagOpens t.name.0 ∷ (map token.NameByte t.name.1 ++ attributes_tokens t.attributes)
 
 pub body-then : (t : RawTag) (e : Bool) → tag_tokens t e ≡ tag-body t ++ token.TagEnds e ∷ []
-body-then t e = ap (λ (l : List Token). token.TagOpens t.name.0 ∷ l) (sym (append_assoc (map token.NameByte t.name.1) (attributes_tokens t.attributes) (token.TagEnds e ∷ [])))
+body-then t e = ap (λ (l : List Token). token.TagOpens t.name.0 ∷ l)
+    (sym (append_assoc (map token.NameByte t.name.1) (attributes_tokens t.attributes) (token.TagEnds e ∷ [])))
 
 pub gathering-body : (t : RawTag) → all-gathering (tag-body t) ≡ true
 gathering-body t = gathering-more (map token.NameByte t.name.1) (attributes_tokens t.attributes) (gathering-name t.name.1) (gathering-attributes t.attributes)
@@ -144,17 +147,20 @@ words-more : (words : List ℕ) (n : Node) (ns : List Node) → with_words words
 words-more [] n ns = refl
 words-more (w ∷ ws) n ns = refl
 
-pub nodes-split : (f : Content) (layers : List (List Binding)) (words : List ℕ) → nodes_on layers words f ≡ done_on layers words f ++ with_words (left_on words f) []
+pub nodes-split : (f : Content) (layers : List (List Binding)) (words : List ℕ)
+    → nodes_on layers words f ≡ done_on layers words f ++ with_words (left_on words f) []
 nodes-split nothing layers words = refl
 nodes-split (word c f) layers words = nodes-split f layers (words ++ encode_utf8 c)
 nodes-split (element t g f) layers words =
     let n : Node = roll-Node (Child (whole_on layers t g)) in
     words-more words n (nodes_on layers [] f)
-    ∙ (ap (λ (ns : List Node). with_words words (n ∷ []) ++ ns) (nodes-split f layers []) ∙ sym (append_assoc (with_words words (n ∷ [])) (done_on layers [] f) (with_words (left_on [] f) [])))
+    ∙ (ap (λ (ns : List Node). with_words words (n ∷ []) ++ ns) (nodes-split f layers [])
+    ∙ sym (append_assoc (with_words words (n ∷ [])) (done_on layers [] f) (with_words (left_on [] f) [])))
 nodes-split (hollow t f) layers words =
     let n : Node = roll-Node (Child (element_of layers t [])) in
     words-more words n (nodes_on layers [] f)
-    ∙ (ap (λ (ns : List Node). with_words words (n ∷ []) ++ ns) (nodes-split f layers []) ∙ sym (append_assoc (with_words words (n ∷ [])) (done_on layers [] f) (with_words (left_on [] f) [])))
+    ∙ (ap (λ (ns : List Node). with_words words (n ∷ []) ++ ns) (nodes-split f layers [])
+    ∙ sym (append_assoc (with_words words (n ∷ [])) (done_on layers [] f) (with_words (left_on [] f) [])))
 
 -- The same, built token by token in an open element.
 
@@ -162,7 +168,8 @@ abbrev pub with-children : Opened → List Node → Opened
 with-children x ns = record x { children = x.children ++ ns }
 
 -- an element more, and then the rest
-grown : (x : Opened) (words : List ℕ) (n : Node) (ns : List Node) → with-children (with-children x (with_words words (n ∷ []))) ns ≡ with-children x (with_words words (n ∷ []) ++ ns)
+grown : (x : Opened) (words : List ℕ) (n : Node) (ns : List Node)
+    → with-children (with-children x (with_words words (n ∷ []))) ns ≡ with-children x (with_words words (n ∷ []) ++ ns)
 grown x words n ns = ap (λ (l : List Node). record x { children = l }) (append_assoc x.children (with_words words (n ∷ [])) ns)
 
 pub not-empty : (layers : List (List Binding)) (l : List Binding) → (length (layers ++ l ∷ []) == 0) ≡ false
@@ -174,16 +181,25 @@ not-empty layers l = false_from_ne_true (length (layers ++ l ∷ []) == 0) (λ h
 
 abbrev Content-made : Content → Type 0
 Content-made f = (g : Gathered) (layers : List (List Binding)) (x : Opened) (xs : List Opened) (words : List ℕ) (i : Option Item) → (length layers == 0) ≡ false
-    → (g1 : Gathered) × (build_all (made g layers (x ∷ xs) words i) (content_tokens f) ≡ made g1 layers (with-children x (done_on layers words f) ∷ xs) (left_on words f) i)
+    → (g1 : Gathered) × (build_all (made g layers (x ∷ xs) words i) (content_tokens f) ≡ made g1 layers (with-children x (done_on layers words f) ∷ xs)
+    (left_on words f) i)
 
 pub start-if : (t : Bool) (a b : Building) → t ≡ false → (if t then a else b) ≡ b
 start-if true a b h = absurd (let bad : true ≡ false = h in cc)
 start-if false a b h = refl
 
 -- an element's tokens, where its content is done by the rule
-element-made : (t : RawTag) (g : Content) → Content-made g → (g0 : Gathered) (layers : List (List Binding)) (os : List Opened) (words : List ℕ) (i : Option Item) → (length layers == 0) ≡ false
+element-made : (t : RawTag) (g : Content) → Content-made g
+    → (g0 : Gathered) (layers : List (List Binding)) (os : List Opened) (words : List ℕ) (i : Option Item) → (length layers == 0) ≡ false
     → (g1 : Gathered) × (build_all (made g0 layers os words i) (tag_tokens t false ++ (content_tokens g ++ end_tokens t.name))
-    ≡ build (made g1 (inside_of layers (whole_tag t)) (with-children (record { name = name_on (inside_of layers (whole_tag t)) (whole_tag t).name; attrs = attrs_on (inside_of layers (whole_tag t)) (whole_tag t).attributes; children = [] }) (done_on (inside_of layers (whole_tag t)) [] g) ∷ settled_words words os) (left_on [] g) i) token.CloseEnds)
+    ≡ build (made g1 (inside_of layers (whole_tag t))
+    (with-children (record {
+      name = name_on (inside_of layers (whole_tag t)) (whole_tag t).name;
+      attrs =
+          attrs_on (inside_of layers (whole_tag t)) (whole_tag t).attributes;
+      children = [];
+    }) (done_on (inside_of layers (whole_tag t)) [] g)
+    ∷ settled_words words os) (left_on [] g) i) token.CloseEnds)
 element-made t g rule g0 layers os words i deep =
     let inner : List (List Binding) = inside_of layers (whole_tag t) in
     let new : Opened = record { name = name_on inner (whole_tag t).name; attrs = attrs_on inner (whole_tag t).attributes; children = [] } in
@@ -192,14 +208,22 @@ element-made t g rule g0 layers os words i deep =
     let (g2, last) = end-made (made g1 inner (with-children new (done_on inner [] g) ∷ rest) (left_on [] g) i) t.name in (
       g2,
       build-more (made g0 layers os words i) (tag_tokens t false) (content_tokens g ++ end_tokens t.name)
-          ∙ (ap (λ (b : Building). build_all b (content_tokens g ++ end_tokens t.name)) (tag-made (made g0 layers os words i) t false ∙ start-if (length layers == 0) _ (made nothing_gathered inner (new ∷ rest) [] i) deep)
+          ∙ (ap (λ (b : Building). build_all b (content_tokens g ++ end_tokens t.name)) (tag-made (made g0 layers os words i) t false
+          ∙ start-if (length layers == 0) _ (made nothing_gathered inner (new ∷ rest) [] i) deep)
           ∙ (build-more (made nothing_gathered inner (new ∷ rest) [] i) (content_tokens g) (end_tokens t.name)
           ∙ (ap (λ (b : Building). build_all b (end_tokens t.name)) mid ∙ last))),
     )
 
 -- at its end it is the element
 closed-whole : (layers : List (List Binding)) (t : RawTag) (g : Content)
-    → last_closed (left_on [] g) (with-children (record { name = name_on (inside_of layers (whole_tag t)) (whole_tag t).name; attrs = attrs_on (inside_of layers (whole_tag t)) (whole_tag t).attributes; children = [] }) (done_on (inside_of layers (whole_tag t)) [] g)) ≡ whole_on layers t g
+    → last_closed (left_on [] g)
+    (with-children (record {
+      name = name_on (inside_of layers (whole_tag t)) (whole_tag t).name;
+      attrs =
+          attrs_on (inside_of layers (whole_tag t)) (whole_tag t).attributes;
+      children = [];
+    }) (done_on (inside_of layers (whole_tag t)) [] g))
+    ≡ whole_on layers t g
 closed-whole layers t g = ap (λ (ns : List Node). element_of layers t ns) (sym (nodes-split g (inside_of layers (whole_tag t)) []))
 
 pub regroup : (t g e f : List Token) → t ++ (g ++ (e ++ f)) ≡ (t ++ (g ++ e)) ++ f
@@ -209,21 +233,30 @@ child-then : (x : Opened) (words : List ℕ) (n : Node) → x.children ++ (with_
 child-then x words n = ap (λ (l : List Node). x.children ++ l) (sym (words_then words n))
 
 abbrev new-element : List (List Binding) → RawTag → Opened
-new-element layers t = record { name = name_on (inside_of layers (whole_tag t)) (whole_tag t).name; attrs = attrs_on (inside_of layers (whole_tag t)) (whole_tag t).attributes; children = [] }
+new-element layers t = record {
+  name = name_on (inside_of layers (whole_tag t)) (whole_tag t).name;
+  attrs = attrs_on (inside_of layers (whole_tag t)) (whole_tag t).attributes;
+  children =
+      [];
+}
 
 -- the end tag of an element in an open element
 closes : (t : RawTag) (h : Content) (layers : List (List Binding)) (x : Opened) (xs : List Opened) (words : List ℕ) (i : Option Item) (g : Gathered)
-    → build (made g (inside_of layers (whole_tag t)) (with-children (new-element layers t) (done_on (inside_of layers (whole_tag t)) [] h) ∷ (with_last words x ∷ xs)) (left_on [] h) i) token.CloseEnds
+    → build (made g (inside_of layers (whole_tag t))
+    (with-children (new-element layers t) (done_on (inside_of layers (whole_tag t)) [] h) ∷ (with_last words x ∷ xs)) (left_on [] h) i) token.CloseEnds
     ≡ made nothing_gathered layers (record x { children = x.children ++ with_words words (roll-Node (Child (whole_on layers t h)) ∷ []) } ∷ xs) [] i
 closes t h layers x xs words i g =
     let y : Opened = with-children (new-element layers t) (done_on (inside_of layers (whole_tag t)) [] h) in
     let n : Node = roll-Node (Child (whole_on layers t h)) in
-    ap (λ (ls : List (List Binding)). made nothing_gathered ls (with_child [] (last_closed (left_on [] h) y) (with_last words x) ∷ xs) [] i) (but_last_layer layers (own (whole_tag t).attributes))
+    ap (λ (ls : List (List Binding)). made nothing_gathered ls (with_child [] (last_closed (left_on [] h) y) (with_last words x) ∷ xs) [] i)
+    (but_last_layer layers (own (whole_tag t).attributes))
     ∙ (ap (λ (e : Element). made nothing_gathered layers (with_child [] e (with_last words x) ∷ xs) [] i) (closed-whole layers t h)
-    ∙ ap (λ (ns : List Node). made nothing_gathered layers (record x { children = ns } ∷ xs) [] i) (append_assoc x.children (with_words words []) (n ∷ []) ∙ child-then x words n))
+    ∙ ap (λ (ns : List Node). made nothing_gathered layers (record x { children = ns } ∷ xs) [] i) (append_assoc x.children (with_words words []) (n ∷ [])
+    ∙ child-then x words n))
 
 pub content-made : (f : Content) → Content-made f
-content-made nothing g layers x xs words i deep = (g, ap (λ (l : List Node). made g layers (record x { children = l } ∷ xs) words i) (sym (append-nil x.children)))
+content-made nothing g layers x xs words i deep =
+    (g, ap (λ (l : List Node). made g layers (record x { children = l } ∷ xs) words i) (sym (append-nil x.children)))
 content-made (word c f) g layers x xs words i deep = content-made f g layers x xs (words ++ encode_utf8 c) i deep
 content-made (element t h f) g layers x xs words i deep =
     let n : Node = roll-Node (Child (whole_on layers t h)) in
@@ -234,7 +267,8 @@ content-made (element t h f) g layers x xs words i deep =
       ap (build_all (made g layers (x ∷ xs) words i)) (regroup (tag_tokens t false) (content_tokens h) (end_tokens t.name) (content_tokens f))
           ∙ (build-more (made g layers (x ∷ xs) words i) (tag_tokens t false ++ (content_tokens h ++ end_tokens t.name)) (content_tokens f)
           ∙ (ap (λ (b : Building). build_all b (content_tokens f)) (one ∙ closes t h layers x xs words i g1)
-          ∙ (more ∙ ap (λ (l : List Node). made g2 layers (record x { children = l } ∷ xs) (left_on [] f) i) (append_assoc x.children (with_words words (n ∷ [])) (done_on layers [] f))))),
+          ∙ (more ∙ ap (λ (l : List Node). made g2 layers (record x { children = l } ∷ xs) (left_on [] f) i)
+          (append_assoc x.children (with_words words (n ∷ [])) (done_on layers [] f))))),
     )
 content-made (hollow t f) g layers x xs words i deep =
     let n : Node = roll-Node (Child (element_of layers t [])) in
@@ -243,7 +277,8 @@ content-made (hollow t f) g layers x xs words i deep =
       g2,
       build-more (made g layers (x ∷ xs) words i) (tag_tokens t true) (content_tokens f)
           ∙ (ap (λ (b : Building). build_all b (content_tokens f)) (tag-made (made g layers (x ∷ xs) words i) t true)
-          ∙ (more ∙ ap (λ (l : List Node). made g2 layers (record x { children = l } ∷ xs) (left_on [] f) i) (append_assoc x.children (with_words words (n ∷ [])) (done_on layers [] f)))),
+          ∙ (more ∙ ap (λ (l : List Node). made g2 layers (record x { children = l } ∷ xs) (left_on [] f) i)
+          (append_assoc x.children (with_words words (n ∷ [])) (done_on layers [] f)))),
     )
 
 -- Between top elements.
@@ -255,11 +290,13 @@ last_item (e ∷ es) i = last_item es (Some (item.Top e))
 
 -- the end tag of a top element
 closes-top : (t : RawTag) (h : Content) (layers : List (List Binding)) (i : Option Item) (g : Gathered)
-    → build (made g (inside_of layers (whole_tag t)) (with-children (new-element layers t) (done_on (inside_of layers (whole_tag t)) [] h) ∷ []) (left_on [] h) i) token.CloseEnds
+    → build (made g (inside_of layers (whole_tag t)) (with-children (new-element layers t) (done_on (inside_of layers (whole_tag t)) [] h) ∷ []) (left_on [] h)
+    i) token.CloseEnds
     ≡ made nothing_gathered layers [] [] (Some (item.Top (whole_on layers t h)))
 closes-top t h layers i g =
     let y : Opened = with-children (new-element layers t) (done_on (inside_of layers (whole_tag t)) [] h) in
-    ap (λ (ls : List (List Binding)). made nothing_gathered ls [] [] (Some (item.Top (last_closed (left_on [] h) y)))) (but_last_layer layers (own (whole_tag t).attributes))
+    ap (λ (ls : List (List Binding)). made nothing_gathered ls [] [] (Some (item.Top (last_closed (left_on [] h) y))))
+    (but_last_layer layers (own (whole_tag t).attributes))
     ∙ ap (λ (e : Element). made nothing_gathered layers [] [] (Some (item.Top e))) (closed-whole layers t h)
 
 abbrev pub IsBetween : Building → List (List Binding) → Option Item → Type 0
@@ -282,7 +319,8 @@ tops-made (hollow t f) g layers words i deep =
     let (g2, w2, more) = tops-made f nothing_gathered layers [] (Some (item.Top (element_of layers t []))) deep in (
       g2,
       w2,
-      build-more (made g layers [] words i) (tag_tokens t true) (content_tokens f) ∙ (ap (λ (b : Building). build_all b (content_tokens f)) (tag-made (made g layers [] words i) t true) ∙ more),
+      build-more (made g layers [] words i) (tag_tokens t true) (content_tokens f)
+          ∙ (ap (λ (b : Building). build_all b (content_tokens f)) (tag-made (made g layers [] words i) t true) ∙ more),
     )
 
 -- The head of a stream.
@@ -292,10 +330,12 @@ declared-made true = refl
 declared-made false = refl
 
 pub head-made : (d : Bool) (root : RawTag) (f : Content)
-    → IsBetween (build_all nothing_built (head_tokens d root f)) (inside_of outside_all (whole_tag root)) (last_item (elements_on (inside_of outside_all (whole_tag root)) f) (Some (item.Header (header_of root) (default_of root))))
+    → IsBetween (build_all nothing_built (head_tokens d root f)) (inside_of outside_all (whole_tag root))
+    (last_item (elements_on (inside_of outside_all (whole_tag root)) f) (Some (item.Header (header_of root) (default_of root))))
 head-made d root f =
     let layers : List (List Binding) = inside_of outside_all (whole_tag root) in
-    let (g, words, is) = tops-made f nothing_gathered layers [] (Some (item.Header (header_of root) (default_of root))) (not-empty [] (own (whole_tag root).attributes)) in (
+    let (g, words, is) = tops-made f nothing_gathered layers [] (Some (item.Header (header_of root) (default_of root)))
+    (not-empty [] (own (whole_tag root).attributes)) in (
       g,
       words,
       build-more nothing_built (declaration_tokens d) (tag_tokens root false ++ content_tokens f)

@@ -31,7 +31,8 @@ gathering-judged (t ∷ ts) b h = let (one, more) = both (gathering t) (all-gath
 named-tag : (b : Building) (t : RawTag) (e : Bool) → fault_of_tag b.layers (whole_tag t) ≡ None → AreJudged b (tag_tokens t e)
 named-tag b t e h =
     subst (AreJudged b) (sym (body-then t e))
-    (judged-more (tag-body t) (token.TagEnds e ∷ []) b (gathering-judged (tag-body t) b (gathering-body t)) (ap (λ (x : Building). named_at x (token.TagEnds e)) (body-made b t) ∙ h, tt))
+    (judged-more (tag-body t) (token.TagEnds e ∷ []) b (gathering-judged (tag-body t) b (gathering-body t))
+    (ap (λ (x : Building). named_at x (token.TagEnds e)) (body-made b t) ∙ h, tt))
 
 end-judged : (b : Building) (n : RawName) → AreJudged b (end_tokens n)
 end-judged b n =
@@ -39,9 +40,11 @@ end-judged b n =
     judged-more ts (token.CloseEnds ∷ []) b (gathering-judged ts b (gathering-name n.1)) (refl, tt)
 
 abbrev JudgedOn : Content → Type 0
-JudgedOn f = (g : Gathered) (layers : List (List Binding)) (os : List Opened) (words : List ℕ) (i : Option Item) → (length layers == 0) ≡ false → AreNamed layers f → AreJudged (made g layers os words i) (content_tokens f)
+JudgedOn f = (g : Gathered) (layers : List (List Binding)) (os : List Opened) (words : List ℕ) (i : Option Item) → (length layers == 0) ≡ false
+    → AreNamed layers f → AreJudged (made g layers os words i) (content_tokens f)
 
-on-judged : (f : Content) → JudgedOn f → (b : Building) (layers : List (List Binding)) → (length layers == 0) ≡ false → IsOn b layers → AreNamed layers f → AreJudged b (content_tokens f)
+on-judged : (f : Content) → JudgedOn f → (b : Building) (layers : List (List Binding)) → (length layers == 0) ≡ false → IsOn b layers → AreNamed layers f
+    → AreJudged b (content_tokens f)
 on-judged f rule b layers deep (g, os, words, i, is) n = subst (λ (x : Building). AreJudged x (content_tokens f)) (sym is) (rule g layers os words i deep n)
 
 element-judged : (t : RawTag) (h f : Content) → JudgedOn h → JudgedOn f → JudgedOn (element t h f)
@@ -49,22 +52,31 @@ element-judged t h f inner later g layers os words i deep (one, (within, after))
     let b : Building = made g layers os words i in
     let into : List (List Binding) = inside_of layers (whole_tag t) in
     let new : Opened = record { name = name_on into (whole_tag t).name; attrs = attrs_on into (whole_tag t).attributes; children = [] } in
-    let begun : build_all b (tag_tokens t false) ≡ made nothing_gathered into (new ∷ settled_words words os) [] i = tag-made b t false ∙ start-if (length layers == 0) _ (made nothing_gathered into (new ∷ settled_words words os) [] i) deep in
+    let begun : build_all b (tag_tokens t false) ≡ made nothing_gathered into (new ∷ settled_words words os) [] i = tag-made b t false
+    ∙ start-if (length layers == 0) _ (made nothing_gathered into (new ∷ settled_words words os) [] i) deep in
     let mid : AreJudged (build_all b (tag_tokens t false)) (content_tokens h) =
-    on-judged h inner (build_all b (tag_tokens t false)) into (not-empty layers (own (whole_tag t).attributes)) (nothing_gathered, new ∷ settled_words words os, [], i, begun) within in
+    on-judged h inner (build_all b (tag_tokens t false)) into (not-empty layers (own (whole_tag t).attributes))
+    (nothing_gathered, new ∷ settled_words words os, [], i, begun) within in
     let whole : List Token = tag_tokens t false ++ (content_tokens h ++ end_tokens t.name) in
-    let same : content_tokens (element t h nothing) ≡ whole = ap (λ (l : List Token). tag_tokens t false ++ (content_tokens h ++ l)) (append-nil (end_tokens t.name)) in
-    let last : AreJudged (build_all b whole) (content_tokens f) = on-judged f later (build_all b whole) layers deep (subst (λ (l : List Token). IsOn (build_all b l) layers) same (leaves-on (element t h nothing) g layers os words i deep)) after in
+    let same : content_tokens (element t h nothing) ≡ whole =
+    ap (λ (l : List Token). tag_tokens t false ++ (content_tokens h ++ l)) (append-nil (end_tokens t.name)) in
+    let last : AreJudged (build_all b whole) (content_tokens f) =
+    on-judged f later (build_all b whole) layers deep
+    (subst (λ (l : List Token). IsOn (build_all b l) layers) same (leaves-on (element t h nothing) g layers os words i deep)) after in
     let front : AreJudged b whole =
     judged-more (tag_tokens t false) (content_tokens h ++ end_tokens t.name) b (named-tag b t false one)
-    (judged-more (content_tokens h) (end_tokens t.name) (build_all b (tag_tokens t false)) mid (end-judged (build_all (build_all b (tag_tokens t false)) (content_tokens h)) t.name)) in
-    subst (AreJudged b) (sym (regroup (tag_tokens t false) (content_tokens h) (end_tokens t.name) (content_tokens f))) (judged-more whole (content_tokens f) b front last)
+    (judged-more (content_tokens h) (end_tokens t.name) (build_all b (tag_tokens t false)) mid
+    (end-judged (build_all (build_all b (tag_tokens t false)) (content_tokens h)) t.name)) in
+    subst (AreJudged b) (sym (regroup (tag_tokens t false) (content_tokens h) (end_tokens t.name) (content_tokens f)))
+    (judged-more whole (content_tokens f) b front last)
 
 hollow-judged : (t : RawTag) (f : Content) → JudgedOn f → JudgedOn (hollow t f)
 hollow-judged t f later g layers os words i deep (one, after) =
     let b : Building = made g layers os words i in
     judged-more (tag_tokens t true) (content_tokens f) b (named-tag b t true one)
-    (on-judged f later (build_all b (tag_tokens t true)) layers deep (subst (λ (l : List Token). IsOn (build_all b l) layers) (append-nil (tag_tokens t true)) (leaves-on (hollow t nothing) g layers os words i deep)) after)
+    (on-judged f later (build_all b (tag_tokens t true)) layers deep
+    (subst (λ (l : List Token). IsOn (build_all b l) layers) (append-nil (tag_tokens t true)) (leaves-on (hollow t nothing) g layers os words i deep))
+    after)
 
 word-judged : (c : ℕ) (f : Content) → JudgedOn f → JudgedOn (word c f)
 word-judged c f later g layers [] words i deep n = (refl, later g layers [] words i deep n)
@@ -85,12 +97,16 @@ head-judged d root f (one, more) =
     let layers : List (List Binding) = inside_of outside_all (whole_tag root) in
     let content : AreJudged (build_all nothing_built (tag_tokens root false)) (content_tokens f) =
     subst (λ (b : Building). AreJudged b (content_tokens f)) (sym (tag-made nothing_built root false))
-    (content-judged f nothing_gathered layers [] [] (Some (item.Header (header_of root) (default_of root))) (not-empty [] (own (whole_tag root).attributes)) more) in
+    (content-judged f nothing_gathered layers [] [] (Some (item.Header (header_of root) (default_of root))) (not-empty [] (own (whole_tag root).attributes))
+    more) in
     judged-more (declaration_tokens d) (tag_tokens root false ++ content_tokens f) nothing_built (declared-judged d)
-    (subst (λ (b : Building). AreJudged b (tag_tokens root false ++ content_tokens f)) (sym (declared-made d)) (judged-more (tag_tokens root false) (content_tokens f) nothing_built (named-tag nothing_built root false one) content))
+    (subst (λ (b : Building). AreJudged b (tag_tokens root false ++ content_tokens f)) (sym (declared-made d))
+    (judged-more (tag_tokens root false) (content_tokens f) nothing_built (named-tag nothing_built root false one) content))
 
 pub stream-judged : (s : Stream) → IsNamed s.root s.content → AreJudged nothing_built (stream_tokens s)
 stream-judged s n =
     let head : List Token = head_tokens s.declared s.root s.content in
-    subst (AreJudged nothing_built) (sym (regroup-stream (declaration_tokens s.declared) (tag_tokens s.root false) (content_tokens s.content) (end_tokens s.root.name)))
-    (judged-more head (end_tokens s.root.name) nothing_built (head-judged s.declared s.root s.content n) (end-judged (build_all nothing_built head) s.root.name))
+    subst (AreJudged nothing_built)
+    (sym (regroup-stream (declaration_tokens s.declared) (tag_tokens s.root false) (content_tokens s.content) (end_tokens s.root.name)))
+    (judged-more head (end_tokens s.root.name) nothing_built (head-judged s.declared s.root s.content n)
+    (end-judged (build_all nothing_built head) s.root.name))

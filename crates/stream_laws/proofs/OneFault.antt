@@ -29,7 +29,8 @@ apart : (xs us ys vs : List ℕ) (b c : ℕ) → xs ++ (b ∷ ys) ≡ us ++ (c �
 apart [] [] ys vs b c e = inl (refl, same_head b c ys vs e)
 apart [] (u ∷ us) ys vs b c e = inr (inl (us, ap (λ (z : ℕ). z ∷ us) (sym (same_head b u ys (us ++ (c ∷ vs)) e))))
 apart (x ∷ xs) [] ys vs b c e = inr (inr (xs, ap (λ (z : ℕ). z ∷ xs) (same_head x c (xs ++ (b ∷ ys)) vs e)))
-apart (x ∷ xs) (u ∷ us) ys vs b c e = apart-more x u xs us b c (same_head x u (xs ++ (b ∷ ys)) (us ++ (c ∷ vs)) e) (apart xs us ys vs b c (same_tail x u (xs ++ (b ∷ ys)) (us ++ (c ∷ vs)) e))
+apart (x ∷ xs) (u ∷ us) ys vs b c e =
+    apart-more x u xs us b c (same_head x u (xs ++ (b ∷ ys)) (us ++ (c ∷ vs)) e) (apart xs us ys vs b c (same_tail x u (xs ++ (b ∷ ys)) (us ++ (c ∷ vs)) e))
 
 -- A reading stops at the place.
 
@@ -39,13 +40,16 @@ stopped-fault x y i j e = cc
 stopped-number : (x y : FrameFault) (i j : ℕ) → stopped x i ≡ stopped y j → i ≡ j
 stopped-number x y i j e = cc
 
-stays : (l : Limits) (xs ys : List ℕ) (b : ℕ) (f : FrameFault) (n : ℕ) → went l first_reading (xs ++ b ∷ []) ≡ stopped f n → went l first_reading (xs ++ (b ∷ ys)) ≡ stopped f n
+stays : (l : Limits) (xs ys : List ℕ) (b : ℕ) (f : FrameFault) (n : ℕ) → went l first_reading (xs ++ b ∷ []) ≡ stopped f n
+    → went l first_reading (xs ++ (b ∷ ys)) ≡ stopped f n
 stays l xs ys b f n e =
-    ap (went l first_reading) (sym (cons-after xs ys b)) ∙ (went-more l first_reading (xs ++ b ∷ []) ys ∙ (ap (λ (s : Reading). went l s ys) e ∙ stopped-went l f n ys))
+    ap (went l first_reading) (sym (cons-after xs ys b))
+    ∙ (went-more l first_reading (xs ++ b ∷ []) ys ∙ (ap (λ (s : Reading). went l s ys) e ∙ stopped-went l f n ys))
 
 pub place_stops : (l : Limits) (bytes : List ℕ) (k : ℕ) (f : FrameFault) → IsFault l bytes k f → went l first_reading bytes ≡ stopped f (told_number k)
 place_stops l bytes k f (xs, b, ys, e, number, first) =
-    ap (went l first_reading) e ∙ (stays l xs ys b f (told_number (length xs + 1)) (first_stops l xs b f first) ∙ ap (λ (i : ℕ). stopped f (told_number i)) (sym number))
+    ap (went l first_reading) e
+    ∙ (stays l xs ys b f (told_number (length xs + 1)) (first_stops l xs b f first) ∙ ap (λ (i : ℕ). stopped f (told_number i)) (sym number))
 
 -- One place, and one fault there.
 
@@ -69,27 +73,34 @@ none_else l bytes k f (xs, b, ys, e, number, first) none = none xs ys b f e firs
 abbrev Told : Limits → List ℕ → ℕ → FrameFault → Type 0
 Told l bytes n f = (k : ℕ) × (n ≡ told_number k) × IsFault l bytes k f
 
-told-on : (l : Limits) (xs ys : List ℕ) (n : ℕ) (f : FrameFault) → is_stopped (went l first_reading xs) ≡ false → went l first_reading (xs ++ ys) ≡ stopped f n → Told l (xs ++ ys) n f
+told-on : (l : Limits) (xs ys : List ℕ) (n : ℕ) (f : FrameFault) → is_stopped (went l first_reading xs) ≡ false → went l first_reading (xs ++ ys) ≡ stopped f n
+    → Told l (xs ++ ys) n f
 told-on l xs [] n f o e = false-true (sym o ∙ ap is_stopped (ap (went l first_reading) (sym (append-nil xs)) ∙ e))
-told-on l xs (b ∷ ys) n f o e = by (λ p. told-on l (xs ++ b ∷ []) ys n f p (ap (went l first_reading) (cons-after xs ys b) ∙ e)) (went l first_reading (xs ++ b ∷ [])) refl
+told-on l xs (b ∷ ys) n f o e = by (λ p. told-on l (xs ++ b ∷ []) ys n f p (ap (went l first_reading) (cons-after xs ys b) ∙ e))
+    (went l first_reading (xs ++ b ∷ [])) refl
   where
-    by : (is_stopped (went l first_reading (xs ++ b ∷ [])) ≡ false → Told l ((xs ++ b ∷ []) ++ ys) n f) → (s : Reading) → went l first_reading (xs ++ b ∷ []) ≡ s → Told l (xs ++ (b ∷ ys)) n f
+    by : (is_stopped (went l first_reading (xs ++ b ∷ [])) ≡ false → Told l ((xs ++ b ∷ []) ++ ys) n f) → (s : Reading)
+        → went l first_reading (xs ++ b ∷ []) ≡ s → Told l (xs ++ (b ∷ ys)) n f
     by go (reads x c m k) h = subst (λ (z : List ℕ). Told l z n f) (cons-after xs ys b) (go (ap is_stopped h))
     by go (stopped g m) h =
         let same : stopped g m ≡ stopped f n = sym (stays l xs ys b g m h) ∙ e in
         let (first, number) = first_waits l xs b g m (goes_faultless l xs o) h in
         (length xs + 1, sym (stopped-number g f m n same) ∙ number, (xs, b, ys, refl, refl, subst (IsFirstFault l xs b) (stopped-fault g f m n same) first))
 
-pub place_told : (l : Limits) (bytes : List ℕ) (n : ℕ) (f : FrameFault) → went l first_reading bytes ≡ stopped f n → (k : ℕ) × (n ≡ told_number k) × IsFault l bytes k f
+pub place_told : (l : Limits) (bytes : List ℕ) (n : ℕ) (f : FrameFault) → went l first_reading bytes ≡ stopped f n
+    → (k : ℕ) × (n ≡ told_number k) × IsFault l bytes k f
 place_told l bytes n f e = told-on l [] bytes n f refl e
 
 within : (l : Limits) (bytes : List ℕ) (k : ℕ) (f : FrameFault) → IsFault l bytes k f → k < length bytes + 1
-within l bytes k f (xs, b, ys, e, number, first) = let long : length bytes ≡ length xs + suc (length ys) = ap length e ∙ length-append xs (b ∷ ys) in omega (arith, long, number)
+within l bytes k f (xs, b, ys, e, number, first) = let long : length bytes ≡ length xs + suc (length ys) = ap length e
+    ∙ length-append xs (b ∷ ys) in omega (arith, long, number)
 
-pub place_exact : (l : Limits) (bytes : List ℕ) (k : ℕ) (f : FrameFault) → length bytes < 2 ^ 64 → went l first_reading bytes ≡ stopped f k → IsFault l bytes k f
+pub place_exact : (l : Limits) (bytes : List ℕ) (k : ℕ) (f : FrameFault) → length bytes < 2 ^ 64 → went l first_reading bytes ≡ stopped f k
+    → IsFault l bytes k f
 place_exact l bytes k f short e =
     let (n, number, is) = place_told l bytes k f e in
-    subst (λ (i : ℕ). IsFault l bytes i f) (let low : n < length bytes + 1 = within l bytes n f is in let same : n ≡ k = omega (arith, short, low, number) in same) is
+    subst (λ (i : ℕ). IsFault l bytes i f)
+    (let low : n < length bytes + 1 = within l bytes n f is in let same : n ≡ k = omega (arith, short, low, number) in same) is
 
 pub fault_or_none : (l : Limits) (bytes : List ℕ) → AreFaultless l bytes ⊎ ((k : ℕ) × (f : FrameFault) × IsFault l bytes k f)
 fault_or_none l bytes = by (went l first_reading bytes) refl

@@ -25,8 +25,12 @@ use Rattle.stream_laws.proofs.Waiting.{item_waits}
 -- The items of further bytes.
 
 pub next_brought : (l : Limits) (before bytes : List ℕ) → AreNext l before bytes (items_from l (went l first_reading before) bytes)
-next_brought l before bytes =
-    (items_from l first_reading before, items_are l before, subst (AreItems l (before ++ bytes)) (brings-more l first_reading before bytes) (items_are l (before ++ bytes)))
+next_brought l before bytes = (
+  items_from l first_reading before,
+  items_are l before,
+  subst (AreItems l (before ++ bytes)) (brings-more l first_reading before bytes)
+      (items_are l (before ++ bytes)),
+)
 
 pub one_next : (l : Limits) (before bytes : List ℕ) (xs ys : List Item) → AreNext l before bytes xs → AreNext l before bytes ys → xs ≡ ys
 one_next l before bytes xs ys (old, is, all) (same, too, whole) =
@@ -87,7 +91,8 @@ after-goes l (stopped f k) bs h = false-true (sym h ∙ ap is_stopped (stopped_s
 -- Bytes that were taken whole, and what waits after them.
 
 pub one_read : (l : Limits) (before : List ℕ) (b : ℕ) (bs : List ℕ) (e : Element)
-    → taken l (handed (went l first_reading before)) (b ∷ bs) ≡ length (b ∷ bs) → waiting (reading_after l (handed (went l first_reading before)) (b ∷ bs)) ≡ Some (item.Top e)
+    → taken l (handed (went l first_reading before)) (b ∷ bs) ≡ length (b ∷ bs)
+    → waiting (reading_after l (handed (went l first_reading before)) (b ∷ bs)) ≡ Some (item.Top e)
     → AreNext l before (b ∷ bs) (item.Top e ∷ []) × IsItem (rules_of l) (before ++ (b ∷ bs)) (item.Top e)
 one_read l before b bs e count waits = (subst (AreNext l before (b ∷ bs)) items (next_brought l before (b ∷ bs)), by (split-last b bs))
   where
@@ -120,8 +125,10 @@ one_read l before b bs e count waits = (subst (AreNext l before (b ∷ bs)) item
     by : ((xs : List ℕ) × (c : ℕ) × (b ∷ bs ≡ xs ++ c ∷ [])) → IsItem (rules_of l) (before ++ (b ∷ bs)) (item.Top e)
     by (xs, c, same) =
         let split : before ++ (b ∷ bs) ≡ (before ++ xs) ++ c ∷ [] = ap (λ (x : List ℕ). before ++ x) same ∙ sym (append_assoc before xs (c ∷ [])) in
-        let here : waiting (went l first_reading ((before ++ xs) ++ c ∷ [])) ≡ Some (item.Top e) = ap (λ (x : List ℕ). waiting (went l first_reading x)) (sym split) ∙ whole in
-        subst (λ (x : List ℕ). IsItem (rules_of l) x (item.Top e)) (sym split) (item_waits l (before ++ xs) c (item.Top e) (top-goes (went l first_reading ((before ++ xs) ++ c ∷ [])) e here) here)
+        let here : waiting (went l first_reading ((before ++ xs) ++ c ∷ [])) ≡ Some (item.Top e) =
+        ap (λ (x : List ℕ). waiting (went l first_reading x)) (sym split) ∙ whole in
+        subst (λ (x : List ℕ). IsItem (rules_of l) x (item.Top e)) (sym split)
+        (item_waits l (before ++ xs) c (item.Top e) (top-goes (went l first_reading ((before ++ xs) ++ c ∷ [])) e here) here)
 
 -- Bytes in which one item ends.
 
@@ -129,9 +136,11 @@ empty-right : (xs ys : List Item) → xs ++ ys ≡ [] → ys ≡ []
 empty-right [] ys h = h
 empty-right (x ∷ xs) ys h = absurd (cc)
 
-some-brought : (cs : List ℕ) (c : ℕ) (l : Limits) (s : Reading) (y : Item) → is_stopped s ≡ false → items_from l s (c ∷ cs) ≡ [] → is_stopped (went l s (c ∷ cs)) ≡ false → waiting (went l s (c ∷ cs)) ≡ Some y → ⊥
+some-brought : (cs : List ℕ) (c : ℕ) (l : Limits) (s : Reading) (y : Item) → is_stopped s ≡ false → items_from l s (c ∷ cs) ≡ []
+    → is_stopped (went l s (c ∷ cs)) ≡ false → waiting (went l s (c ∷ cs)) ≡ Some y → ⊥
 some-brought [] c l s y o none on waits =
-    let told : y ∷ [] ≡ [] = ap option_to_list (sym waits) ∙ (sym (going-brings s (waiting (went l s (c ∷ []))) o) ∙ (sym (append-nil (brought s (waiting (went l s (c ∷ []))))) ∙ none)) in
+    let told : y ∷ [] ≡ [] = ap option_to_list (sym waits)
+    ∙ (sym (going-brings s (waiting (went l s (c ∷ []))) o) ∙ (sym (append-nil (brought s (waiting (went l s (c ∷ []))))) ∙ none)) in
     some-none y told
   where
     some-none : (y : Item) → y ∷ [] ≡ [] → ⊥
@@ -151,10 +160,12 @@ item-of (reads f b n k) h o = by b.item h
 tail-empty : (i x : Item) (ys : List Item) → i ∷ ys ≡ x ∷ [] → ys ≡ []
 tail-empty i x ys h = cc
 
-whole-taken : (bs : List ℕ) (l : Limits) (s : Reading) (x y : Item) → is_stopped s ≡ false → is_ready s ≡ true → items_from l s bs ≡ x ∷ [] → is_stopped (went l s bs) ≡ false → waiting (went l s bs) ≡ Some y
+whole-taken : (bs : List ℕ) (l : Limits) (s : Reading) (x y : Item) → is_stopped s ≡ false → is_ready s ≡ true → items_from l s bs ≡ x ∷ []
+    → is_stopped (went l s bs) ≡ false → waiting (went l s bs) ≡ Some y
     → taken_reading l s bs ≡ length bs
 whole-taken [] l s x y o h items on waits = refl
-whole-taken (b ∷ bs) l s x y o h items on waits = by (is_done (reading_next l s b)) refl (λ p q r. whole-taken bs l (reading_next l s b) x y p q r on-next waits-next)
+whole-taken (b ∷ bs) l s x y o h items on waits =
+    by (is_done (reading_next l s b)) refl (λ p q r. whole-taken bs l (reading_next l s b) x y p q r on-next waits-next)
   where
     same : went l s (b ∷ []) ≡ reading_next l s b
     same = ap (λ (z : Reading). reading_next l z b) (handed-ready s h)
@@ -167,31 +178,37 @@ whole-taken (b ∷ bs) l s x y o h items on waits = by (is_done (reading_next l 
 
     first : option_to_list (waiting (reading_next l s b)) ++ items_from l (reading_next l s b) bs ≡ x ∷ []
     first =
-        sym (ap (λ (z : List Item). z ++ items_from l (went l s (b ∷ [])) bs) (going-brings s (waiting (went l s (b ∷ []))) o) ∙ ap (λ (z : Reading). option_to_list (waiting z) ++ items_from l z bs) same)
+        sym (ap (λ (z : List Item). z ++ items_from l (went l s (b ∷ [])) bs) (going-brings s (waiting (went l s (b ∷ []))) o)
+        ∙ ap (λ (z : Reading). option_to_list (waiting z) ++ items_from l z bs) same)
         ∙ items
 
     going : is_stopped (reading_next l s b) ≡ false
     going = went-goes l (reading_next l s b) bs on-next
 
-    last : (cs : List ℕ) → items_from l (reading_next l s b) cs ≡ [] → is_stopped (went l (reading_next l s b) cs) ≡ false → waiting (went l (reading_next l s b) cs) ≡ Some y → 1 ≡ length (b ∷ cs)
+    last : (cs : List ℕ) → items_from l (reading_next l s b) cs ≡ [] → is_stopped (went l (reading_next l s b) cs) ≡ false
+        → waiting (went l (reading_next l s b) cs) ≡ Some y → 1 ≡ length (b ∷ cs)
     last [] none still w = refl
     last (c ∷ cs) none still w = absurd (some-brought cs c l (reading_next l s b) y going none still w)
 
     by : (d : Bool) → is_done (reading_next l s b) ≡ d
-        → (is_stopped (reading_next l s b) ≡ false → is_ready (reading_next l s b) ≡ true → items_from l (reading_next l s b) bs ≡ x ∷ [] → taken_reading l (reading_next l s b) bs ≡ length bs)
+        → (is_stopped (reading_next l s b) ≡ false → is_ready (reading_next l s b) ≡ true → items_from l (reading_next l s b) bs ≡ x ∷ []
+        → taken_reading l (reading_next l s b) bs ≡ length bs)
         → (if d then 1 else 1 + taken_reading l (reading_next l s b) bs) ≡ length (b ∷ bs)
     by true e go =
         let (i, w) = item-of (reading_next l s b) e going in
         let none : items_from l (reading_next l s b) bs ≡ [] =
-        tail-empty i x (items_from l (reading_next l s b) bs) (ap (λ (z : Option Item). option_to_list z ++ items_from l (reading_next l s b) bs) (sym w) ∙ first) in
+        tail-empty i x (items_from l (reading_next l s b) bs) (ap (λ (z : Option Item). option_to_list z ++ items_from l (reading_next l s b) bs) (sym w)
+        ∙ first) in
         last bs none on-next waits-next
     by false e go =
         let (still, none) = going-none (reading_next l s b) e in
-        let rest : items_from l (reading_next l s b) bs ≡ x ∷ [] = ap (λ (z : Option Item). option_to_list z ++ items_from l (reading_next l s b) bs) (sym none) ∙ first in
+        let rest : items_from l (reading_next l s b) bs ≡ x ∷ [] = ap (λ (z : Option Item). option_to_list z ++ items_from l (reading_next l s b) bs) (sym none)
+        ∙ first in
         let more : taken_reading l (reading_next l s b) bs ≡ length bs = go still (going-ready (reading_next l s b) e) rest in
         omega (arith, more)
 
-next-goes : (l : Limits) (before bytes : List ℕ) (e : Element) → AreNext l before bytes (item.Top e ∷ []) → is_stopped (went l first_reading (before ++ bytes)) ≡ false
+next-goes : (l : Limits) (before bytes : List ℕ) (e : Element) → AreNext l before bytes (item.Top e ∷ [])
+    → is_stopped (went l first_reading (before ++ bytes)) ≡ false
 next-goes l before bytes e (old, is, inl (none, ending)) = faultless_goes l (before ++ bytes) none
 next-goes l before bytes e (old, is, inr (k, f, front, fault, ending, same)) =
     absurd (apart (sym (last-is old (item.Top e)) ∙ (ap last-item same ∙ last-is front (item.Broken f _))))
@@ -199,8 +216,10 @@ next-goes l before bytes e (old, is, inr (k, f, front, fault, ending, same)) =
     apart : {g : _} {n : ℕ} → Some (item.Top e) ≡ Some (item.Broken g n) → ⊥
     apart h = cc
 
-pub one_taken : (l : Limits) (before : List ℕ) (b : ℕ) (bs : List ℕ) (e : Element) → AreNext l before (b ∷ bs) (item.Top e ∷ []) → IsItem (rules_of l) (before ++ (b ∷ bs)) (item.Top e)
-    → (taken l (handed (went l first_reading before)) (b ∷ bs) ≡ length (b ∷ bs)) × (waiting (reading_after l (handed (went l first_reading before)) (b ∷ bs)) ≡ Some (item.Top e))
+pub one_taken : (l : Limits) (before : List ℕ) (b : ℕ) (bs : List ℕ) (e : Element) → AreNext l before (b ∷ bs) (item.Top e ∷ [])
+    → IsItem (rules_of l) (before ++ (b ∷ bs)) (item.Top e)
+    → (taken l (handed (went l first_reading before)) (b ∷ bs) ≡ length (b ∷ bs))
+    × (waiting (reading_after l (handed (went l first_reading before)) (b ∷ bs)) ≡ Some (item.Top e))
 one_taken l before b bs e next is = (count, ap waiting read ∙ there)
   where
     on : is_stopped (went l first_reading (before ++ (b ∷ bs))) ≡ false
@@ -216,18 +235,21 @@ one_taken l before b bs e next is = (count, ap waiting read ∙ there)
     by (xs, c, same) =
         let split : before ++ (b ∷ bs) ≡ (before ++ xs) ++ c ∷ [] = ap (λ (x : List ℕ). before ++ x) same ∙ sym (append_assoc before xs (c ∷ [])) in
         ap (λ (x : List ℕ). waiting (went l first_reading x)) split
-        ∙ item_given l (before ++ xs) c (item.Top e) (ap (λ (x : List ℕ). is_stopped (went l first_reading x)) (sym split) ∙ on) (subst (λ (x : List ℕ). IsItem (rules_of l) x (item.Top e)) split is)
+        ∙ item_given l (before ++ xs) c (item.Top e) (ap (λ (x : List ℕ). is_stopped (went l first_reading x)) (sym split)
+        ∙ on) (subst (λ (x : List ℕ). IsItem (rules_of l) x (item.Top e)) split is)
 
     there : waiting (went l (handed (went l first_reading before)) (b ∷ bs)) ≡ Some (item.Top e)
     there = ap waiting path ∙ by (split-last b bs)
 
     items : items_from l (handed (went l first_reading before)) (b ∷ bs) ≡ item.Top e ∷ []
-    items = handed-brings l (went l first_reading before) (b ∷ bs) ∙ one_next l before (b ∷ bs) (items_from l (went l first_reading before) (b ∷ bs)) (item.Top e ∷ []) (next_brought l before (b ∷ bs)) next
+    items = handed-brings l (went l first_reading before) (b ∷ bs)
+        ∙ one_next l before (b ∷ bs) (items_from l (went l first_reading before) (b ∷ bs)) (item.Top e ∷ []) (next_brought l before (b ∷ bs)) next
 
     count : taken l (handed (went l first_reading before)) (b ∷ bs) ≡ length (b ∷ bs)
     count =
         going-taken l (handed (went l first_reading before)) (b ∷ bs) still
-        ∙ whole-taken (b ∷ bs) l (handed (went l first_reading before)) (item.Top e) (item.Top e) still (handed-waits (went l first_reading before)) items (ap is_stopped path ∙ on) there
+        ∙ whole-taken (b ∷ bs) l (handed (went l first_reading before)) (item.Top e) (item.Top e) still (handed-waits (went l first_reading before)) items
+        (ap is_stopped path ∙ on) there
 
     all : take (taken l (handed (went l first_reading before)) (b ∷ bs)) (b ∷ bs) ≡ b ∷ bs
     all = take_all (taken l (handed (went l first_reading before)) (b ∷ bs)) (b ∷ bs) (omega (arith, count))

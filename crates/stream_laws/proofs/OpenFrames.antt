@@ -71,15 +71,18 @@ placed-on r s k bs on = by (placed-cases r s k)
 abbrev pub IsThere : Rules → State → Nest → List ℕ → State → List Token → Type 0
 IsThere r st n bs to ts = (frame_after r (open_at st n) bs ≡ open_at to (nest_all r n ts)) × (told_all r (open_at st n) bs ≡ ts)
 
-there-next : (r : Rules) (st s to : State) (n : Nest) (b : ℕ) (bs : List ℕ) (us vs ts : List Token) → turn st b ≡ leads s us → us ++ vs ≡ ts → placed r s (nest_all r n us) ≡ open_at s (nest_all r n us)
+there-next : (r : Rules) (st s to : State) (n : Nest) (b : ℕ) (bs : List ℕ) (us vs ts : List Token) → turn st b ≡ leads s us → us ++ vs ≡ ts
+    → placed r s (nest_all r n us) ≡ open_at s (nest_all r n us)
     → IsThere r s (nest_all r n us) bs to vs → IsThere r st n (b ∷ bs) to ts
 there-next r st s to n b bs us vs ts e same o (frame, told) =
     let next : frame_next r (open_at st n) b ≡ open_at s (nest_all r n us) = ap (settled r n) e ∙ o in (
       ap (λ (x : Frame). frame_after r x bs) next ∙ (frame ∙ ap (open_at to) (sym (all-more r n us vs) ∙ ap (nest_all r n) same)),
-      ap (λ (x : Outcome). tokens_told x ++ told_all r (frame_next r (open_at st n) b) bs) e ∙ (ap (λ (x : Frame). us ++ told_all r x bs) next ∙ (ap (λ (x : List Token). us ++ x) told ∙ same)),
+      ap (λ (x : Outcome). tokens_told x ++ told_all r (frame_next r (open_at st n) b) bs) e
+          ∙ (ap (λ (x : Frame). us ++ told_all r x bs) next ∙ (ap (λ (x : List Token). us ++ x) told ∙ same)),
     )
 
-pub frame-runs : (bs : List ℕ) (r : Rules) (st to : State) (n : Nest) (ts : List Token) → run st bs ≡ leads to ts → GoesOn (frame_after r (open_at st n) bs) → IsThere r st n bs to ts
+pub frame-runs : (bs : List ℕ) (r : Rules) (st to : State) (n : Nest) (ts : List Token) → run st bs ≡ leads to ts → GoesOn (frame_after r (open_at st n) bs)
+    → IsThere r st n bs to ts
 frame-runs [] r st to n ts e on =
     let none : [] ≡ ts = lead-told st to [] ts e in
     (ap (λ (s : State). open_at s n) (lead-state st to [] ts e) ∙ ap (λ (l : List Token). open_at to (nest_all r n l)) none, none)
@@ -90,12 +93,15 @@ frame-runs (b ∷ bs) r st to n ts e on = by (turn st b) refl e on (λ s k vs p 
         → (o : Outcome) → run s bs ≡ o → then_run us o ≡ leads to ts → IsThere r st n (b ∷ bs) to ts
     next s us h on go (leads t vs) p q =
         let o : placed r s (nest_all r n us) ≡ open_at s (nest_all r n us) = placed-on r s (nest_all r n us) bs on in
-        let there : IsThere r s (nest_all r n us) bs to vs = go (nest_all r n us) vs (p ∙ ap (λ (x : State). leads x vs) (lead-state t to (us ++ vs) ts q)) (subst (λ (f : Frame). GoesOn (frame_after r f bs)) o on) in
+        let there : IsThere r s (nest_all r n us) bs to vs =
+        go (nest_all r n us) vs (p ∙ ap (λ (x : State). leads x vs) (lead-state t to (us ++ vs) ts q))
+        (subst (λ (f : Frame). GoesOn (frame_after r f bs)) o on) in
         there-next r st s to n b bs us vs ts h (lead-told t to (us ++ vs) ts q) o there
     next s us h on go (fails f) p q = absurd (fail-lead f to ts q)
 
     by : (o : Outcome) → turn st b ≡ o → run_on o (λ s. run s bs) ≡ leads to ts → GoesOn (frame_after r (settled r n o) bs)
-        → ((s : State) (k : Nest) (vs : List Token) → run s bs ≡ leads to vs → GoesOn (frame_after r (open_at s k) bs) → IsThere r s k bs to vs) → IsThere r st n (b ∷ bs) to ts
+        → ((s : State) (k : Nest) (vs : List Token) → run s bs ≡ leads to vs → GoesOn (frame_after r (open_at s k) bs) → IsThere r s k bs to vs)
+        → IsThere r st n (b ∷ bs) to ts
     by (leads s us) h e on go = next s us h on (go s) (run s bs) refl e
     by (fails f) h e on go = absurd (fail-lead f to ts e)
 
@@ -120,19 +126,29 @@ come-on r bytes root f come = (come-whole r bytes root f come, by (has_ended (fr
     next : is_broken (frame_after r first_frame (bytes ++ 60 ∷ [])) ≡ false
     next =
         let (d, spells) = come-ends r bytes root f come in
-        goes-whole r (bytes ++ 60 ∷ []) (47 ∷ ((root.name.0 ∷ root.name.1) ++ codes ">"), record { declared = d; root = root; content = f }, subst (λ (x : List ℕ). Spells r x (record { declared = d; root = root; content = f })) (sym (append_assoc bytes (60 ∷ []) (47 ∷ ((root.name.0 ∷ root.name.1) ++ codes ">")))) spells)
+        goes-whole r (bytes ++ 60 ∷ []) (
+          47 ∷ ((root.name.0 ∷ root.name.1) ++ codes ">"),
+          record { declared = d; root = root; content = f },
+          subst
+              (λ (x : List ℕ). Spells r x (record { declared = d; root = root; content = f }))
+              (sym (append_assoc bytes (60 ∷ []) (47 ∷ ((root.name.0 ∷ root.name.1) ++ codes ">")))) spells,
+        )
 
     by : (t : Bool) → has_ended (frame_after r first_frame bytes) ≡ t → t ≡ false
-    by true e = false-true (sym (ap (λ (x : Frame). is_broken (frame_next r x 60)) (sym (is-ended (frame_after r first_frame bytes) e)) ∙ (ap is_broken (sym (after-last r bytes 60)) ∙ next)))
+    by true e = false-true (sym (ap (λ (x : Frame). is_broken (frame_next r x 60)) (sym (is-ended (frame_after r first_frame bytes) e))
+        ∙ (ap is_broken (sym (after-last r bytes 60)) ∙ next)))
     by false e = refl
 
 pub come-after : (r : Rules) (bytes : List ℕ) (root : RawTag) (f : Content) → HasCome r bytes root f → (d : Bool) × IsAfter r bytes (head_tokens d root f)
 come-after r bytes root f (d, reads, short, keeps) =
     let (g, c, run) = come-runs r bytes d root f reads in
-    let (frame, told) = frame-runs bytes r first_state (gap_state g c) start (head_tokens d root f) run.leads_so (come-on r bytes root f (d, reads, short, keeps)) in
+    let (frame, told) = frame-runs bytes r first_state (gap_state g c) start (head_tokens d root f) run.leads_so
+    (come-on r bytes root f (d, reads, short, keeps)) in
     (d, by g c frame told (head-leads r d root f))
   where
-    by : (g : Gap) (c : Bool) → frame_after r first_frame bytes ≡ open_at (gap_state g c) (nest_all r start (head_tokens d root f)) → told_all r first_frame bytes ≡ head_tokens d root f
-        → ((k : RawName) × (nest_all r start (head_tokens d root f) ≡ inside (k ∷ []))) ⊎ (nest_all r start (head_tokens d root f) ≡ lost) → IsAfter r bytes (head_tokens d root f)
+    by : (g : Gap) (c : Bool) → frame_after r first_frame bytes ≡ open_at (gap_state g c) (nest_all r start (head_tokens d root f))
+        → told_all r first_frame bytes ≡ head_tokens d root f
+        → ((k : RawName) × (nest_all r start (head_tokens d root f) ≡ inside (k ∷ []))) ⊎ (nest_all r start (head_tokens d root f) ≡ lost)
+        → IsAfter r bytes (head_tokens d root f)
     by g c frame told (inl (k, e)) = record { gap = g; returned = c; name = k; frame = frame ∙ ap (open_at (gap_state g c)) e; told = told }
     by g c frame told (inr e) = absurd (subst (Sound r) (frame ∙ ap (open_at (gap_state g c)) e) (sound-at r bytes)).opens

@@ -86,18 +86,21 @@ less-last r (x ∷ xs) h =
     let (us, b, e) = snoc x xs in
     (us, e ∙ ap (λ (y : ℕ). us ++ y ∷ []) (less-before r (At r us) b (sound-at r us) (subst AfterLess (ap (At r) e ∙ after-last r us b) h)))
 
-all-first : (vs us : List ℕ) (r : Rules) → stands_outside (At r us) ≡ true → is_broken (At r (us ++ vs)) ≡ false → IsBeforeTags (us ++ vs) → stands_outside (At r (us ++ vs)) ≡ true
+all-first : (vs us : List ℕ) (r : Rules) → stands_outside (At r us) ≡ true → is_broken (At r (us ++ vs)) ≡ false → IsBeforeTags (us ++ vs)
+    → stands_outside (At r (us ++ vs)) ≡ true
 all-first [] us r h w none = ap (λ (l : List ℕ). stands_outside (At r l)) (append-nil us) ∙ h
 all-first (v ∷ vs) us r h w none =
     by (outside-next r (At r us) v (sound-at r us) h (next-whole r us v vs w)) (append_assoc us (v ∷ []) vs) (λ o e n. all-first vs (us ++ v ∷ []) r o e n)
   where
     by : (stands_outside (frame_next r (At r us) v) ≡ true) ⊎ (AfterLess (At r us) × (begins_tag v ≡ true)) → (us ++ v ∷ []) ++ vs ≡ us ++ (v ∷ vs)
-        → (stands_outside (At r (us ++ v ∷ [])) ≡ true → is_broken (At r ((us ++ v ∷ []) ++ vs)) ≡ false → IsBeforeTags ((us ++ v ∷ []) ++ vs) → stands_outside (At r ((us ++ v ∷ []) ++ vs)) ≡ true)
+        → (stands_outside (At r (us ++ v ∷ [])) ≡ true → is_broken (At r ((us ++ v ∷ []) ++ vs)) ≡ false → IsBeforeTags ((us ++ v ∷ []) ++ vs)
+        → stands_outside (At r ((us ++ v ∷ []) ++ vs)) ≡ true)
         → stands_outside (At r (us ++ (v ∷ vs))) ≡ true
     by (inl o) group go =
         ap (λ (l : List ℕ). stands_outside (At r l)) (sym group)
         ∙ go (ap stands_outside (after-last r us v) ∙ o) (ap (λ (l : List ℕ). is_broken (At r l)) group ∙ w) (subst IsBeforeTags (sym group) none)
-    by (inr (less, name)) group go = let (ws, e) = less-last r us less in absurd (none ws v vs (ap (λ (l : List ℕ). l ++ (v ∷ vs)) e ∙ append_assoc ws (60 ∷ []) (v ∷ vs)) name)
+    by (inr (less, name)) group go = let (ws, e) =
+        less-last r us less in absurd (none ws v vs (ap (λ (l : List ℕ). l ++ (v ∷ vs)) e ∙ append_assoc ws (60 ∷ []) (v ∷ vs)) name)
 
 before-tags : (r : Rules) (bytes : List ℕ) → stands_outside (At r bytes) ≡ true → IsBeforeTags bytes
 before-tags r bytes h xs b ys split name =
@@ -141,11 +144,13 @@ level-where r xs f e l a = by f (sym (after-last r xs 60) ∙ e) l a
     by ended e l a = false-true l
     by broken e l a = false-true l
 
-opened-at : (r : Rules) (bytes xs : List ℕ) (b : ℕ) (ys : List ℕ) → IsOpenAt r bytes → bytes ≡ xs ++ (60 ∷ b ∷ ys) → IsOpenSince r xs (b ∷ ys) → HasOpenItem r bytes
+opened-at : (r : Rules) (bytes xs : List ℕ) (b : ℕ) (ys : List ℕ) → IsOpenAt r bytes → bytes ≡ xs ++ (60 ∷ b ∷ ys) → IsOpenSince r xs (b ∷ ys)
+    → HasOpenItem r bytes
 opened-at r bytes xs b ys h split (low, each) =
     let none : in_item (At r (xs ++ 60 ∷ [])) ≡ false = false-from (in_item (At r (xs ++ 60 ∷ []))) low in
     let next : in_item (frame_next r (At r (xs ++ 60 ∷ [])) b) ≡ true =
-    ap in_item (sym (after-last r (xs ++ 60 ∷ []) b)) ∙ (ap (λ (l : List ℕ). in_item (At r l)) (append_assoc xs (60 ∷ []) (b ∷ [])) ∙ each (b ∷ []) ys refl (no-nil b [])) in
+    ap in_item (sym (after-last r (xs ++ 60 ∷ []) b))
+    ∙ (ap (λ (l : List ℕ). in_item (At r l)) (append_assoc xs (60 ∷ []) (b ∷ [])) ∙ each (b ∷ []) ys refl (no-nil b [])) in
     let (less, name, level) = opened-so r (At r (xs ++ 60 ∷ [])) b (sound-at r (xs ++ 60 ∷ [])) none next in (
       open-begins r bytes (item-whole (At r bytes) h),
       (
@@ -155,7 +160,8 @@ opened-at r bytes xs b ys h split (low, each) =
         split,
         name,
         level-where r xs (At r (xs ++ 60 ∷ [])) refl level less,
-        λ us vs q e. ended-closed r ((xs ++ 60 ∷ b ∷ []) ++ us) e (subst (IsOpenAt r) (sym (append_assoc xs (60 ∷ b ∷ []) us)) (each (b ∷ us) vs (ap (λ (l : List ℕ). b ∷ l) q) (no-nil b us))),
+        λ us vs q e. ended-closed r ((xs ++ 60 ∷ b ∷ []) ++ us) e
+            (subst (IsOpenAt r) (sym (append_assoc xs (60 ∷ b ∷ []) us)) (each (b ∷ us) vs (ap (λ (l : List ℕ). b ∷ l) q) (no-nil b us))),
       ),
     )
 
@@ -173,12 +179,15 @@ stays-open [] us r h w none = subst (IsOpenAt r) (sym (append-nil us)) h
 stays-open (v ∷ vs) us r h w none = by (is_open r (us ++ v ∷ [])) refl (append_assoc us (v ∷ []) vs) (λ o e n. stays-open vs (us ++ v ∷ []) r o e n)
   where
     by : (t : Bool) → is_open r (us ++ v ∷ []) ≡ t → (us ++ v ∷ []) ++ vs ≡ us ++ (v ∷ vs)
-        → (IsOpenAt r (us ++ v ∷ []) → is_broken (At r ((us ++ v ∷ []) ++ vs)) ≡ false → NoneEnds r (us ++ v ∷ []) vs → IsOpenAt r ((us ++ v ∷ []) ++ vs)) → IsOpenAt r (us ++ (v ∷ vs))
+        → (IsOpenAt r (us ++ v ∷ []) → is_broken (At r ((us ++ v ∷ []) ++ vs)) ≡ false → NoneEnds r (us ++ v ∷ []) vs → IsOpenAt r ((us ++ v ∷ []) ++ vs))
+        → IsOpenAt r (us ++ (v ∷ vs))
     by true e group go =
         subst (IsOpenAt r) group
-        (go e (ap (λ (l : List ℕ). is_broken (At r l)) group ∙ w) (λ xs ys q k. none (v ∷ xs) ys (ap (λ (l : List ℕ). v ∷ l) q) (subst (EndsItem r) (append_assoc us (v ∷ []) xs) k)))
+        (go e (ap (λ (l : List ℕ). is_broken (At r l)) group
+        ∙ w) (λ xs ys q k. none (v ∷ xs) ys (ap (λ (l : List ℕ). v ∷ l) q) (subst (EndsItem r) (append_assoc us (v ∷ []) xs) k)))
     by false e group go =
-        let begins : Begins r (us ++ v ∷ []) = open-begins r (us ++ v ∷ []) (front-whole r (us ++ v ∷ []) vs (ap (λ (l : List ℕ). is_broken (At r l)) group ∙ w)) in
+        let begins : Begins r (us ++ v ∷ []) =
+        open-begins r (us ++ v ∷ []) (front-whole r (us ++ v ∷ []) vs (ap (λ (l : List ℕ). is_broken (At r l)) group ∙ w)) in
         absurd (none (v ∷ []) vs refl (item_ends r us v h (λ k. not-both _ k e) begins))
 
 level-less : (r : Rules) (xs : List ℕ) → is_broken (At r xs) ≡ false → is_broken (frame_next r (At r xs) 60) ≡ false → IsBeforeTags xs ⊎ IsBetweenTops xs
@@ -212,15 +221,21 @@ since-frames : (r : Rules) (xs ys : List ℕ) → IsSince r xs ys → IsOpenSinc
 since-frames r xs ys (low, each) = (λ h. low (open_by_grammar r (xs ++ 60 ∷ []) h), λ us vs q some. open_by_frames r (xs ++ (60 ∷ us)) (each us vs q some))
 
 past-grammar : (l : Limits) (bytes : List ℕ) (byte : ℕ) → IsPastAt l bytes byte → IsPastLimit l bytes byte
-past-grammar l bytes byte (o, (xs, ys, split, since, long)) =
-    (elim o [ inl h ↦ inl (open_by_grammar (rules_of l) bytes h) | inr h ↦ inr (open_by_grammar (rules_of l) (bytes ++ byte ∷ []) h) ], (xs, ys, split, since_by_grammar (rules_of l) xs ys since, long))
+past-grammar l bytes byte (o, (xs, ys, split, since, long)) = (
+  elim o [ inl h ↦ inl (open_by_grammar (rules_of l) bytes h) | inr h ↦ inr (open_by_grammar (rules_of l) (bytes ++ byte ∷ []) h) ],
+  (xs, ys, split, since_by_grammar (rules_of l) xs ys since, long),
+)
 
 pub past-frames : (l : Limits) (bytes : List ℕ) (byte : ℕ) → IsPastLimit l bytes byte → IsPastAt l bytes byte
-past-frames l bytes byte (o, (xs, ys, split, since, long)) =
-    (elim o [ inl h ↦ inl (open_by_frames (rules_of l) bytes h) | inr h ↦ inr (open_by_frames (rules_of l) (bytes ++ byte ∷ []) h) ], (xs, ys, split, since-frames (rules_of l) xs ys since, long))
+past-frames l bytes byte (o, (xs, ys, split, since, long)) = (
+  elim o [ inl h ↦ inl (open_by_frames (rules_of l) bytes h) | inr h ↦ inr (open_by_frames (rules_of l) (bytes ++ byte ∷ []) h) ],
+  (xs, ys, split, since-frames (rules_of l) xs ys since, long),
+)
 
-pub past-limit : (l : Limits) (bytes : List ℕ) (byte n : ℕ) (f : Frame) → f ≡ frame_after (rules_of l) first_frame bytes → n ≡ extent (rules_of l) first_frame 0 bytes → is_past l f (frame_next (rules_of l) f byte) n ≡ true → IsPastLimit l bytes byte
+pub past-limit : (l : Limits) (bytes : List ℕ) (byte n : ℕ) (f : Frame) → f ≡ frame_after (rules_of l) first_frame bytes
+    → n ≡ extent (rules_of l) first_frame 0 bytes → is_past l f (frame_next (rules_of l) f byte) n ≡ true → IsPastLimit l bytes byte
 past-limit l bytes byte n f e g h = past-grammar l bytes byte (past-is l bytes byte n f e g h)
 
-pub limit-past : (l : Limits) (bytes : List ℕ) (byte n : ℕ) (f : Frame) → f ≡ frame_after (rules_of l) first_frame bytes → n ≡ extent (rules_of l) first_frame 0 bytes → IsPastLimit l bytes byte → is_past l f (frame_next (rules_of l) f byte) n ≡ true
+pub limit-past : (l : Limits) (bytes : List ℕ) (byte n : ℕ) (f : Frame) → f ≡ frame_after (rules_of l) first_frame bytes
+    → n ≡ extent (rules_of l) first_frame 0 bytes → IsPastLimit l bytes byte → is_past l f (frame_next (rules_of l) f byte) n ≡ true
 limit-past l bytes byte n f e g past = is-past l bytes byte n f e g (past-frames l bytes byte past)

@@ -51,7 +51,8 @@ cond-done : (c : Bool) (n : Nest) (t : Token) → in_item_nest n ≡ true → in
 cond-done true n t h k = absurd (not-both _ h k)
 cond-done false n t h k = inl refl
 
-content-done : (r : Rules) (m x : RawName) (st : List RawName) (t : Token) → in_item_nest (in_content r m (x ∷ st) t) ≡ false → IsDone (in_content r m (x ∷ st) t) t
+content-done : (r : Rules) (m x : RawName) (st : List RawName) (t : Token) → in_item_nest (in_content r m (x ∷ st) t) ≡ false
+    → IsDone (in_content r m (x ∷ st) t) t
 content-done r m x st (token.Word c) k = cond-done (may_stand r (x ∷ st) c) (inside (m ∷ x ∷ st)) (token.Word c) refl k
 content-done r m x st (token.TagOpens b) k = cond-done (nat_lt (length (x ∷ st)) r.depth) (naming (m ∷ x ∷ st) (b, [])) (token.TagOpens b) refl k
 content-done r m x st (token.CloseOpens b) k = cond-done (b == m.0) (closing (x ∷ st) m.1) (token.CloseOpens b) refl k
@@ -99,11 +100,13 @@ unfolding nest
 lost-all r [] = refl
 lost-all r (u ∷ us) = lost-all r us
 
-words-lost : (r : Rules) (us : List Token) (n : Nest) → are_words us ≡ true → in_item_nest n ≡ true → in_item_nest (nest_all r n us) ≡ false → nest_all r n us ≡ lost
+words-lost : (r : Rules) (us : List Token) (n : Nest) → are_words us ≡ true → in_item_nest n ≡ true → in_item_nest (nest_all r n us) ≡ false
+    → nest_all r n us ≡ lost
 words-lost r [] n w h k = absurd (not-both _ h k)
 words-lost r (token.Word c ∷ us) n w h k = by (in_item_nest (nest r n (token.Word c))) refl (λ e. words-lost r us (nest r n (token.Word c)) w e k)
   where
-    by : (t : Bool) → in_item_nest (nest r n (token.Word c)) ≡ t → (in_item_nest (nest r n (token.Word c)) ≡ true → nest_all r (nest r n (token.Word c)) us ≡ lost) → nest_all r (nest r n (token.Word c)) us ≡ lost
+    by : (t : Bool) → in_item_nest (nest r n (token.Word c)) ≡ t
+        → (in_item_nest (nest r n (token.Word c)) ≡ true → nest_all r (nest r n (token.Word c)) us ≡ lost) → nest_all r (nest r n (token.Word c)) us ≡ lost
     by true e go = go e
     by false e go = elim (one-done r n (token.Word c) h e) [
       | inl is ↦ ap (λ (x : Nest). nest_all r x us) is ∙ lost-all r us
@@ -118,7 +121,8 @@ both-true true t e f = f
 both-true false t e f = false-true e
 
 -- the frame is between top elements
-between-so : (r : Rules) (to : State) (n : Nest) (m : RawName) → n ≡ inside (m ∷ []) → is_broken (placed r to n) ≡ false → is_between_tops (placed r to n) ≡ true
+between-so : (r : Rules) (to : State) (n : Nest) (m : RawName) → n ≡ inside (m ∷ []) → is_broken (placed r to n) ≡ false
+    → is_between_tops (placed r to n) ≡ true
 between-so r to n m e w = by (placed-cases r to n)
   where
     by : Placed r to n → is_between_tops (placed r to n) ≡ true
@@ -126,7 +130,8 @@ between-so r to n m e w = by (placed-cases r to n)
     by (inr (inl (o, is))) = absurd (let bad : inside (m ∷ []) ≡ inside [] = sym e ∙ is in cc)
     by (inr (inr o)) = absurd (not-both _ (ap is_broken o) w)
 
-placed-closed : (r : Rules) (to : State) (n : Nest) → in_item (placed r to n) ≡ false → is_broken (placed r to n) ≡ false → (in_item_nest n ≡ false) ⊎ (n ≡ inside [])
+placed-closed : (r : Rules) (to : State) (n : Nest) → in_item (placed r to n) ≡ false → is_broken (placed r to n) ≡ false
+    → (in_item_nest n ≡ false) ⊎ (n ≡ inside [])
 placed-closed r to n h w = by (placed-cases r to n)
   where
     by : Placed r to n → (in_item_nest n ≡ false) ⊎ (n ≡ inside [])
@@ -150,7 +155,8 @@ frame-done r broken b h k w = false-true h
 frame-done r (open_at st n) b h k w = by (turn st b) refl k w
   where
     one : (to : State) (t : Token) → in_item (placed r to (nest r n t)) ≡ false → is_broken (placed r to (nest r n t)) ≡ false
-        → ((is_between_tops (placed r to (nest r n t)) && is_start_end (t ∷ [])) ≡ true) ⊎ ((is_between_tops (placed r to (nest r n t)) && is_element_end (t ∷ [])) ≡ true)
+        → ((is_between_tops (placed r to (nest r n t)) && is_start_end (t ∷ [])) ≡ true)
+        ⊎ ((is_between_tops (placed r to (nest r n t)) && is_element_end (t ∷ [])) ≡ true)
     one to t k w = elim (one-done r n t h (closed-nest (nest r n t) (placed-closed r to (nest r n t) k w))) [
       | inl is ↦ absurd (never-lost r to (nest r n t) is w)
       | inr p ↦ elim p.2 [
@@ -159,14 +165,19 @@ frame-done r (open_at st n) b h k w = by (turn st b) refl k w
       ]
     ]
 
-    all : (to : State) (us : List Token) → is_few us ≡ true → in_item (placed r to (nest_all r n us)) ≡ false → is_broken (placed r to (nest_all r n us)) ≡ false
-        → ((is_between_tops (placed r to (nest_all r n us)) && is_start_end us) ≡ true) ⊎ ((is_between_tops (placed r to (nest_all r n us)) && is_element_end us) ≡ true)
+    all : (to : State) (us : List Token) → is_few us ≡ true → in_item (placed r to (nest_all r n us)) ≡ false
+        → is_broken (placed r to (nest_all r n us)) ≡ false
+        → ((is_between_tops (placed r to (nest_all r n us)) && is_start_end us) ≡ true)
+        ⊎ ((is_between_tops (placed r to (nest_all r n us)) && is_element_end us) ≡ true)
     all to [] few k w = absurd (not-both _ h (closed-nest n (placed-closed r to n k w)))
     all to (t ∷ []) few k w = one to t k w
-    all to (t ∷ u ∷ us) few k w = absurd (never-lost r to (nest_all r n (t ∷ u ∷ us)) (words-lost r (t ∷ u ∷ us) n few h (closed-nest (nest_all r n (t ∷ u ∷ us)) (placed-closed r to (nest_all r n (t ∷ u ∷ us)) k w))) w)
+    all to (t ∷ u ∷ us) few k w =
+        absurd (never-lost r to (nest_all r n (t ∷ u ∷ us))
+        (words-lost r (t ∷ u ∷ us) n few h (closed-nest (nest_all r n (t ∷ u ∷ us)) (placed-closed r to (nest_all r n (t ∷ u ∷ us)) k w))) w)
 
     by : (o : Outcome) → turn st b ≡ o → in_item (settled r n o) ≡ false → is_broken (settled r n o) ≡ false
-        → ((is_between_tops (settled r n o) && is_start_end (tokens_told o)) ≡ true) ⊎ ((is_between_tops (settled r n o) && is_element_end (tokens_told o)) ≡ true)
+        → ((is_between_tops (settled r n o) && is_start_end (tokens_told o)) ≡ true)
+        ⊎ ((is_between_tops (settled r n o) && is_element_end (tokens_told o)) ≡ true)
     by (leads to us) e k w = all to us (turn-few st to b us e) k w
     by (fails x) e k w = absurd (not-both true refl w)
 
@@ -181,11 +192,13 @@ not-true : (t : Bool) → (t ≡ true → ⊥) → t ≡ false
 not-true true h = absurd (h refl)
 not-true false h = refl
 
-pub item_ends : (r : Rules) (bytes : List ℕ) (b : ℕ) → IsOpenAt r bytes → (IsOpenAt r (bytes ++ b ∷ []) → ⊥) → Begins r (bytes ++ b ∷ []) → EndsHeader r (bytes ++ b ∷ []) ⊎ EndsTop r (bytes ++ b ∷ [])
+pub item_ends : (r : Rules) (bytes : List ℕ) (b : ℕ) → IsOpenAt r bytes → (IsOpenAt r (bytes ++ b ∷ []) → ⊥) → Begins r (bytes ++ b ∷ [])
+    → EndsHeader r (bytes ++ b ∷ []) ⊎ EndsTop r (bytes ++ b ∷ [])
 item_ends r bytes b h never begins =
     let f : Frame = frame_after r first_frame bytes in
     let next : frame_after r first_frame (bytes ++ b ∷ []) ≡ frame_next r f b = after-last r bytes b in
-    by (frame-done r f b h (not-true (in_item (frame_next r f b)) (λ k. never (ap in_item next ∙ k))) (ap is_broken (sym next) ∙ goes-whole r (bytes ++ b ∷ []) begins))
+    by (frame-done r f b h (not-true (in_item (frame_next r f b)) (λ k. never (ap in_item next ∙ k))) (ap is_broken (sym next)
+    ∙ goes-whole r (bytes ++ b ∷ []) begins))
   where
     by : EndsSome r (frame_after r first_frame bytes) b → EndsHeader r (bytes ++ b ∷ []) ⊎ EndsTop r (bytes ++ b ∷ [])
     by (inl e) = inl (header-ends r bytes b e)
@@ -202,7 +215,8 @@ hollow-open : (st : List RawName) (b : Building) → in_item_nest (after_hollow 
 hollow-open [] b h l e = false-true h
 hollow-open (m ∷ st) b h l e = inside-open (m ∷ st) b h l e
 
-after-open : (r : Rules) (n : Nest) (t : Token) (b : Building) → ends_tag t ≡ true → in_item_nest (nest r n t) ≡ true → Levels (nest r n t) b → b.opened ≡ [] → ⊥
+after-open : (r : Rules) (n : Nest) (t : Token) (b : Building) → ends_tag t ≡ true → in_item_nest (nest r n t) ≡ true → Levels (nest r n t) b → b.opened ≡ []
+    → ⊥
 unfolding nest
 after-open r (naming st n) (token.TagEnds true) b h k l e = hollow-open st b k l e
 after-open r (naming st n) (token.TagEnds false) b h k l e = inside-open (n ∷ st) b k l e
@@ -241,7 +255,8 @@ closes-stream : (os : List Opened) (b : Building) → length os ≡ 0 → (close
 closes-stream [] b e = refl
 closes-stream (o ∷ os) b e = absurd (omega (arith, e))
 
-before-open : (r : Rules) (n : Nest) (t : Token) (b : Building) → ends_tag t ≡ true → (nest r n t ≡ lost → ⊥) → Levels n b → ((build b t).item ≡ Some item.CloseTag → ⊥) → in_item_nest n ≡ true
+before-open : (r : Rules) (n : Nest) (t : Token) (b : Building) → ends_tag t ≡ true → (nest r n t ≡ lost → ⊥) → Levels n b
+    → ((build b t).item ≡ Some item.CloseTag → ⊥) → in_item_nest n ≡ true
 unfolding nest
 before-open r (naming st n) t b h w l c = refl
 before-open r (in_tag st n i) t b h w l c = refl
@@ -272,27 +287,38 @@ none-close (x ∷ es) i h e = none-close es (Some (item.Top x)) (λ k. let bad :
 header-not : (e : Element) (space : List ℕ) → Some (item.Header e space) ≡ Some item.CloseTag → ⊥
 header-not e space k = cc
 
-come-open : (r : Rules) (bytes : List ℕ) (b : ℕ) (d : Bool) (root : RawTag) (f : Content) (front : List Token) (t : Token) → head_tokens d root f ≡ front ++ t ∷ [] → ends_tag t ≡ true → Reads (bytes ++ b ∷ []) (head_tokens d root f) → IsShortest (bytes ++ b ∷ []) (head_tokens d root f)
+come-open : (r : Rules) (bytes : List ℕ) (b : ℕ) (d : Bool) (root : RawTag) (f : Content) (front : List Token) (t : Token)
+    → head_tokens d root f ≡ front ++ t ∷ [] → ends_tag t ≡ true → Reads (bytes ++ b ∷ []) (head_tokens d root f)
+    → IsShortest (bytes ++ b ∷ []) (head_tokens d root f)
     → is_broken (frame_after r first_frame (bytes ++ b ∷ [])) ≡ false → IsOpenAt r bytes × (IsOpenAt r (bytes ++ b ∷ []) → ⊥)
 come-open r bytes b d root f front t split h told short whole =
-    let (to, m, s, at_it, step, same) = ends-at r bytes b front t h (subst (Reads (bytes ++ b ∷ [])) split told) (subst (IsShortest (bytes ++ b ∷ [])) split short) whole in
+    let (to, m, s, at_it, step, same) =
+    ends-at r bytes b front t h (subst (Reads (bytes ++ b ∷ [])) split told) (subst (IsShortest (bytes ++ b ∷ [])) split short) whole in
     let (leads_to, carried) = came bytes r _ to start m (first-sound r).live at_it in
     let led : nest_all r start front ≡ m = ap (nest_all r start) (sym same) ∙ leads_to in
-    let all : nest_all r start (head_tokens d root f) ≡ nest r m t = ap (nest_all r start) split ∙ (all-more r start front (t ∷ []) ∙ ap (λ (x : Nest). nest r x t) led) in
-    let next : frame_after r first_frame (bytes ++ b ∷ []) ≡ placed r s (nest r m t) = after-last r bytes b ∙ (ap (λ (x : Frame). frame_next r x b) at_it ∙ ap (settled r m) step) in
+    let all : nest_all r start (head_tokens d root f) ≡ nest r m t = ap (nest_all r start) split
+    ∙ (all-more r start front (t ∷ []) ∙ ap (λ (x : Nest). nest r x t) led) in
+    let next : frame_after r first_frame (bytes ++ b ∷ []) ≡ placed r s (nest r m t) = after-last r bytes b
+    ∙ (ap (λ (x : Frame). frame_next r x b) at_it ∙ ap (settled r m) step) in
     let (g, ws, is) = head-made d root f in
-    let levels : Levels (nest r m t) (build_all nothing_built (head_tokens d root f)) = subst (λ (x : Nest). Levels x (build_all nothing_built (head_tokens d root f))) all (level-from r (head_tokens d root f)) in
+    let levels : Levels (nest r m t) (build_all nothing_built (head_tokens d root f)) =
+    subst (λ (x : Nest). Levels x (build_all nothing_built (head_tokens d root f))) all (level-from r (head_tokens d root f)) in
     let before : Levels m (build_all nothing_built front) = subst (λ (x : Nest). Levels x (build_all nothing_built front)) led (level-from r front) in
-    let made_so : build (build_all nothing_built front) t ≡ build_all nothing_built (head_tokens d root f) = sym (build-more nothing_built front (t ∷ [])) ∙ ap (build_all nothing_built) (sym split) in (
+    let made_so : build (build_all nothing_built front) t ≡ build_all nothing_built (head_tokens d root f) = sym (build-more nothing_built front (t ∷ []))
+    ∙ ap (build_all nothing_built) (sym split) in (
       ap in_item at_it ∙ before-open r m t (build_all nothing_built front) h (λ e. never-lost r s (nest r m t) e (ap is_broken (sym next) ∙ whole)) before
-          (λ k. none-close (tops_of root f) _ (header-not (header_of root) (default_of root)) (sym (ap (λ (y : Building). y.item) is) ∙ (ap (λ (y : Building). y.item) (sym made_so) ∙ k))),
-      λ k. after-open r m t (build_all nothing_built (head_tokens d root f)) h (placed-item r s (nest r m t) (ap in_item (sym next) ∙ k)) levels (ap (λ (y : Building). y.opened) is),
+          (λ k. none-close (tops_of root f) _ (header-not (header_of root) (default_of root)) (sym (ap (λ (y : Building). y.item) is)
+          ∙ (ap (λ (y : Building). y.item) (sym made_so) ∙ k))),
+      λ k. after-open r m t (build_all nothing_built (head_tokens d root f)) h (placed-item r s (nest r m t) (ap in_item (sym next) ∙ k)) levels
+          (ap (λ (y : Building). y.opened) is),
     )
 
 pub come-whole : (r : Rules) (bytes : List ℕ) (root : RawTag) (f : Content) → HasCome r bytes root f → is_broken (frame_after r first_frame bytes) ≡ false
-come-whole r bytes root f come = let (d, spells) = come-ends r bytes root f come in goes-whole r bytes (end_tag_of root, record { declared = d; root = root; content = f }, spells)
+come-whole r bytes root f come = let (d, spells) =
+    come-ends r bytes root f come in goes-whole r bytes (end_tag_of root, record { declared = d; root = root; content = f }, spells)
 
-pub item_was_open : (r : Rules) (bytes : List ℕ) (b : ℕ) → EndsHeader r (bytes ++ b ∷ []) ⊎ EndsTop r (bytes ++ b ∷ []) → IsOpenAt r bytes × (IsOpenAt r (bytes ++ b ∷ []) → ⊥)
+pub item_was_open : (r : Rules) (bytes : List ℕ) (b : ℕ) → EndsHeader r (bytes ++ b ∷ []) ⊎ EndsTop r (bytes ++ b ∷ [])
+    → IsOpenAt r bytes × (IsOpenAt r (bytes ++ b ∷ []) → ⊥)
 item_was_open r bytes b (inl (root, (d, told, short, keeps))) =
     let (front, t, e) = head-snoc d root nothing in
     let is : token.TagEnds false ≡ t = sym (last-nothing (token.TagEnds false)) ∙ head-last d root nothing front t e in
@@ -300,4 +326,5 @@ item_was_open r bytes b (inl (root, (d, told, short, keeps))) =
 item_was_open r bytes b (inr (root, f, (d, told, short, keeps), h)) =
     let (front, t, e) = head-snoc d root f in
     let last : last_in f (token.TagEnds false) ≡ t = head-last d root f front t e in
-    come-open r bytes b d root f front t e (element-tag t (ap ends_element (sym last) ∙ (last-ends f (token.TagEnds false) ∙ h))) told short (come-whole r (bytes ++ b ∷ []) root f (d, told, short, keeps))
+    come-open r bytes b d root f front t e (element-tag t (ap ends_element (sym last) ∙ (last-ends f (token.TagEnds false) ∙ h))) told short
+    (come-whole r (bytes ++ b ∷ []) root f (d, told, short, keeps))

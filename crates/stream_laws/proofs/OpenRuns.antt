@@ -170,7 +170,9 @@ start-tag-leads : (r : Rules) (n : Nest) (st : List RawName) (t : RawTag) → Op
 start-tag-leads r n st t o = subst (OpenedIn st) (sym (tag-all r n t false)) (tag-opened r st (nest_all r n (tag-body t)) (body-stays r n st t o).1)
 
 hollow-tag-leads : (r : Rules) (x : RawName) (st : List RawName) (t : RawTag) → Leads r (inside (x ∷ st)) (tag_tokens t true) (inside (x ∷ st))
-hollow-tag-leads r x st t = subst (λ (n : Nest). OrLost n (inside (x ∷ st))) (sym (tag-all r (inside (x ∷ st)) t true)) (tag-hollow r x st (nest_all r (inside (x ∷ st)) (tag-body t)) (body-stays r (inside (x ∷ st)) (x ∷ st) t (opening-in r x st)).1)
+hollow-tag-leads r x st t =
+    subst (λ (n : Nest). OrLost n (inside (x ∷ st))) (sym (tag-all r (inside (x ∷ st)) t true))
+    (tag-hollow r x st (nest_all r (inside (x ∷ st)) (tag-body t)) (body-stays r (inside (x ∷ st)) (x ∷ st) t (opening-in r x st)).1)
 
 -- End tags.
 
@@ -195,7 +197,8 @@ close-next r st (closing s (y ∷ m)) z h = cond-close (z == y) st (closing s m)
 close-next r st lost z h = tt
 close-next r st n z h = absurd h
 
-close-name : (r : Rules) (x : RawName) (st : List RawName) (bs : List ℕ) (n : Nest) → InClose (x ∷ st) n → Stays r n (map token.NameByte bs) × InClose (x ∷ st) (nest_all r n (map token.NameByte bs))
+close-name : (r : Rules) (x : RawName) (st : List RawName) (bs : List ℕ) (n : Nest) → InClose (x ∷ st) n
+    → Stays r n (map token.NameByte bs) × InClose (x ∷ st) (nest_all r n (map token.NameByte bs))
 close-name r x st [] n h = (tt, h)
 close-name r x st (b ∷ bs) n h =
     let next : InClose (x ∷ st) (nest r n (token.NameByte b)) = close-next r (x ∷ st) n b h in
@@ -210,7 +213,8 @@ close-opens : (r : Rules) (k : RawName) (st : List RawName) (b : ℕ) → InClos
 unfolding nest
 close-opens r k st b = cond-close (b == k.0) st (closing st k.1) refl
 
-end-stays : (r : Rules) (k x : RawName) (st : List RawName) (n : RawName) → Stays r (inside (k ∷ x ∷ st)) (end-body n) × InClose (x ∷ st) (nest_all r (inside (k ∷ x ∷ st)) (end-body n))
+end-stays : (r : Rules) (k x : RawName) (st : List RawName) (n : RawName)
+    → Stays r (inside (k ∷ x ∷ st)) (end-body n) × InClose (x ∷ st) (nest_all r (inside (k ∷ x ∷ st)) (end-body n))
 end-stays r k x st n =
     let first : InClose (x ∷ st) (nest r (inside (k ∷ x ∷ st)) (token.CloseOpens n.0)) = close-opens r k (x ∷ st) n.0 in
     let (stays, last) = close-name r x st n.1 (nest r (inside (k ∷ x ∷ st)) (token.CloseOpens n.0)) first in
@@ -245,20 +249,27 @@ round_tokens t g = tag_tokens t false ++ (content_tokens g ++ end_tokens t.name)
 regroup-round : (t g e f : List Token) → t ++ (g ++ (e ++ f)) ≡ (t ++ (g ++ e)) ++ f
 regroup-round t g e f = simp append_assoc
 
-round-leads : (r : Rules) (x : RawName) (st : List RawName) (t : RawTag) (g : Content) → ((k : RawName) → Leads r (inside (k ∷ x ∷ st)) (content_tokens g) (inside (k ∷ x ∷ st))) → Leads r (inside (x ∷ st)) (round_tokens t g) (inside (x ∷ st))
+round-leads : (r : Rules) (x : RawName) (st : List RawName) (t : RawTag) (g : Content)
+    → ((k : RawName) → Leads r (inside (k ∷ x ∷ st)) (content_tokens g) (inside (k ∷ x ∷ st))) → Leads r (inside (x ∷ st)) (round_tokens t g) (inside (x ∷ st))
 round-leads r x st t g inner = elim (start-tag-leads r (inside (x ∷ st)) (x ∷ st) t (opening-in r x st)) [
   | inl p ↦ leads-more r (inside (x ∷ st)) (inside (p.0 ∷ x ∷ st)) (inside (x ∷ st)) (tag_tokens t false) (content_tokens g ++ end_tokens t.name) (inl p.1)
-      (leads-more r (inside (p.0 ∷ x ∷ st)) (inside (p.0 ∷ x ∷ st)) (inside (x ∷ st)) (content_tokens g) (end_tokens t.name) (inner p.0) (end-leads r p.0 x st t.name))
-  | inr e ↦ inr (all-more r (inside (x ∷ st)) (tag_tokens t false) (content_tokens g ++ end_tokens t.name) ∙ (ap (λ (n : Nest). nest_all r n (content_tokens g ++ end_tokens t.name)) e ∙ lost-all r (content_tokens g ++ end_tokens t.name)))
+      (leads-more r (inside (p.0 ∷ x ∷ st)) (inside (p.0 ∷ x ∷ st)) (inside (x ∷ st)) (content_tokens g) (end_tokens t.name) (inner p.0)
+      (end-leads r p.0 x st t.name))
+  | inr e ↦ inr (all-more r (inside (x ∷ st)) (tag_tokens t false) (content_tokens g ++ end_tokens t.name)
+      ∙ (ap (λ (n : Nest). nest_all r n (content_tokens g ++ end_tokens t.name)) e ∙ lost-all r (content_tokens g ++ end_tokens t.name)))
 ]
 
 pub content-leads : (f : Content) (r : Rules) (x : RawName) (st : List RawName) → Leads r (inside (x ∷ st)) (content_tokens f) (inside (x ∷ st))
 content-leads nothing r x st = inl refl
-content-leads (word c f) r x st = leads-more r (inside (x ∷ st)) (inside (x ∷ st)) (inside (x ∷ st)) (token.Word c ∷ []) (content_tokens f) (word-leads r x st c) (content-leads f r x st)
+content-leads (word c f) r x st = leads-more r (inside (x ∷ st)) (inside (x ∷ st)) (inside (x ∷ st)) (token.Word c ∷ []) (content_tokens f)
+    (word-leads r x st c) (content-leads f r x st)
 content-leads (element t g f) r x st =
-    subst (λ (l : List Token). Leads r (inside (x ∷ st)) l (inside (x ∷ st))) (sym (regroup-round (tag_tokens t false) (content_tokens g) (end_tokens t.name) (content_tokens f)))
-    (leads-more r (inside (x ∷ st)) (inside (x ∷ st)) (inside (x ∷ st)) (round_tokens t g) (content_tokens f) (round-leads r x st t g (λ k. content-leads g r k (x ∷ st))) (content-leads f r x st))
-content-leads (hollow t f) r x st = leads-more r (inside (x ∷ st)) (inside (x ∷ st)) (inside (x ∷ st)) (tag_tokens t true) (content_tokens f) (hollow-tag-leads r x st t) (content-leads f r x st)
+    subst (λ (l : List Token). Leads r (inside (x ∷ st)) l (inside (x ∷ st)))
+    (sym (regroup-round (tag_tokens t false) (content_tokens g) (end_tokens t.name) (content_tokens f)))
+    (leads-more r (inside (x ∷ st)) (inside (x ∷ st)) (inside (x ∷ st)) (round_tokens t g) (content_tokens f)
+    (round-leads r x st t g (λ k. content-leads g r k (x ∷ st))) (content-leads f r x st))
+content-leads (hollow t f) r x st = leads-more r (inside (x ∷ st)) (inside (x ∷ st)) (inside (x ∷ st)) (tag_tokens t true) (content_tokens f)
+    (hollow-tag-leads r x st t) (content-leads f r x st)
 
 -- Content of an element below the stream is deep.
 
@@ -272,7 +283,10 @@ one-deep r n xs t s d = stays-more r xs (t ∷ []) n s (d, tt)
 start-tag-stays : (r : Rules) (x : RawName) (st : List RawName) (t : RawTag) → Stays r (inside (x ∷ st)) (tag_tokens t false)
 start-tag-stays r x st t =
     let (stays, last) = body-stays r (inside (x ∷ st)) (x ∷ st) t (opening-in r x st) in
-    subst (Stays r (inside (x ∷ st))) (sym (body-then t false)) (one-deep r (inside (x ∷ st)) (tag-body t) (token.TagEnds false) stays (deep (nest r (nest_all r (inside (x ∷ st)) (tag-body t)) (token.TagEnds false)) (tag-opened r (x ∷ st) (nest_all r (inside (x ∷ st)) (tag-body t)) last)))
+    subst (Stays r (inside (x ∷ st))) (sym (body-then t false))
+    (one-deep r (inside (x ∷ st)) (tag-body t) (token.TagEnds false) stays
+    (deep (nest r (nest_all r (inside (x ∷ st)) (tag-body t)) (token.TagEnds false))
+    (tag-opened r (x ∷ st) (nest_all r (inside (x ∷ st)) (tag-body t)) last)))
   where
     deep : (n : Nest) → OpenedIn (x ∷ st) n → IsDeep n
     deep n (inl (k, e)) = inl (ap in_item_nest e)
@@ -282,19 +296,23 @@ hollow-tag-stays : (r : Rules) (x y : RawName) (st : List RawName) (t : RawTag) 
 hollow-tag-stays r x y st t =
     let (stays, last) = body-stays r (inside (x ∷ y ∷ st)) (x ∷ y ∷ st) t (opening-in r x (y ∷ st)) in
     subst (Stays r (inside (x ∷ y ∷ st))) (sym (body-then t true))
-    (one-deep r (inside (x ∷ y ∷ st)) (tag-body t) (token.TagEnds true) stays (deep-of _ (inside (x ∷ y ∷ st)) (tag-hollow r x (y ∷ st) (nest_all r (inside (x ∷ y ∷ st)) (tag-body t)) last) refl))
+    (one-deep r (inside (x ∷ y ∷ st)) (tag-body t) (token.TagEnds true) stays
+    (deep-of _ (inside (x ∷ y ∷ st)) (tag-hollow r x (y ∷ st) (nest_all r (inside (x ∷ y ∷ st)) (tag-body t)) last) refl))
 
 -- an element without its last token
 abbrev pub round_body : RawTag → Content → List Token
 round_body t g = tag_tokens t false ++ (content_tokens g ++ end-body t.name)
 
-round-stays : (r : Rules) (x : RawName) (st : List RawName) (t : RawTag) (g : Content) → ((k : RawName) → Stays r (inside (k ∷ x ∷ st)) (content_tokens g)) → Stays r (inside (x ∷ st)) (round_body t g)
-round-stays r x st t g inner = stays-more r (tag_tokens t false) (content_tokens g ++ end-body t.name) (inside (x ∷ st)) (start-tag-stays r x st t) (by (nest_all r (inside (x ∷ st)) (tag_tokens t false)) (start-tag-leads r (inside (x ∷ st)) (x ∷ st) t (opening-in r x st)))
+round-stays : (r : Rules) (x : RawName) (st : List RawName) (t : RawTag) (g : Content) → ((k : RawName) → Stays r (inside (k ∷ x ∷ st)) (content_tokens g))
+    → Stays r (inside (x ∷ st)) (round_body t g)
+round-stays r x st t g inner = stays-more r (tag_tokens t false) (content_tokens g ++ end-body t.name) (inside (x ∷ st)) (start-tag-stays r x st t)
+    (by (nest_all r (inside (x ∷ st)) (tag_tokens t false)) (start-tag-leads r (inside (x ∷ st)) (x ∷ st) t (opening-in r x st)))
   where
     by : (n : Nest) → OpenedIn (x ∷ st) n → Stays r n (content_tokens g ++ end-body t.name)
     by n (inl (k, e)) =
         subst (λ (m : Nest). Stays r m (content_tokens g ++ end-body t.name)) (sym e)
-        (stays-then r (inside (k ∷ x ∷ st)) (inside (k ∷ x ∷ st)) (content_tokens g) (end-body t.name) (content-leads g r k (x ∷ st)) (inner k) (end-stays r k x st t.name).0)
+        (stays-then r (inside (k ∷ x ∷ st)) (inside (k ∷ x ∷ st)) (content_tokens g) (end-body t.name) (content-leads g r k (x ∷ st)) (inner k)
+        (end-stays r k x st t.name).0)
     by n (inr e) = subst (λ (m : Nest). Stays r m (content_tokens g ++ end-body t.name)) (sym e) (stays-lost r (content_tokens g ++ end-body t.name))
 
 pub round-split : (t : RawTag) (g : Content) → round_tokens t g ≡ round_body t g ++ token.CloseEnds ∷ []
@@ -306,21 +324,26 @@ round-split t g = regroup (tag_tokens t false) (content_tokens g) (end-body t.na
 content-stays : (f : Content) (r : Rules) (x y : RawName) (st : List RawName) → Stays r (inside (x ∷ y ∷ st)) (content_tokens f)
 content-stays nothing r x y st = tt
 content-stays (word c f) r x y st =
-    stays-then r (inside (x ∷ y ∷ st)) (inside (x ∷ y ∷ st)) (token.Word c ∷ []) (content_tokens f) (word-leads r x (y ∷ st) c) (deep-of _ (inside (x ∷ y ∷ st)) (word-leads r x (y ∷ st) c) refl, tt) (content-stays f r x y st)
+    stays-then r (inside (x ∷ y ∷ st)) (inside (x ∷ y ∷ st)) (token.Word c ∷ []) (content_tokens f) (word-leads r x (y ∷ st) c)
+    (deep-of _ (inside (x ∷ y ∷ st)) (word-leads r x (y ∷ st) c) refl, tt) (content-stays f r x y st)
 content-stays (element t g f) r x y st =
     let here : Nest = inside (x ∷ y ∷ st) in
     let back : Leads r here (round_tokens t g) here = round-leads r x (y ∷ st) t g (λ k. content-leads g r k (x ∷ y ∷ st)) in
     let body : Stays r here (round_body t g) = round-stays r x (y ∷ st) t g (λ k. content-stays g r k x (y ∷ st)) in
-    let last : IsDeep (nest r (nest_all r here (round_body t g)) token.CloseEnds) = subst IsDeep (ap (nest_all r here) (round-split t g) ∙ all-more r here (round_body t g) (token.CloseEnds ∷ [])) (deep-of _ here back refl) in
+    let last : IsDeep (nest r (nest_all r here (round_body t g)) token.CloseEnds) =
+    subst IsDeep (ap (nest_all r here) (round-split t g) ∙ all-more r here (round_body t g) (token.CloseEnds ∷ [])) (deep-of _ here back refl) in
     let all : Stays r here (round_tokens t g) = subst (Stays r here) (sym (round-split t g)) (one-deep r here (round_body t g) token.CloseEnds body last) in
-    subst (Stays r here) (sym (regroup-round (tag_tokens t false) (content_tokens g) (end_tokens t.name) (content_tokens f))) (stays-then r here here (round_tokens t g) (content_tokens f) back all (content-stays f r x y st))
+    subst (Stays r here) (sym (regroup-round (tag_tokens t false) (content_tokens g) (end_tokens t.name) (content_tokens f)))
+    (stays-then r here here (round_tokens t g) (content_tokens f) back all (content-stays f r x y st))
 content-stays (hollow t f) r x y st =
-    stays-then r (inside (x ∷ y ∷ st)) (inside (x ∷ y ∷ st)) (tag_tokens t true) (content_tokens f) (hollow-tag-leads r x (y ∷ st) t) (hollow-tag-stays r x y st t) (content-stays f r x y st)
+    stays-then r (inside (x ∷ y ∷ st)) (inside (x ∷ y ∷ st)) (tag_tokens t true) (content_tokens f) (hollow-tag-leads r x (y ∷ st) t)
+    (hollow-tag-stays r x y st t) (content-stays f r x y st)
 
 -- A top element: its tokens but the last.
 
 abbrev pub TopInit : Rules → RawName → RawTag → Option Content → Type 0
-TopInit r x t b = (us : List Token) × (u : Token) × (front_tokens t b ≡ us ++ u ∷ []) × (ends_element u ≡ true) × Stays r (inside (x ∷ [])) us × ((v : Token) × (vs : List Token) × (us ≡ v ∷ vs))
+TopInit r x t b = (us : List Token) × (u : Token) × (front_tokens t b ≡ us ++ u ∷ []) × (ends_element u ≡ true) × Stays r (inside (x ∷ [])) us
+    × ((v : Token) × (vs : List Token) × (us ≡ v ∷ vs))
 
 pub top-init : (r : Rules) (x : RawName) (t : RawTag) (b : Option Content) → TopInit r x t b
 top-init r x t None = (tag-body t, token.TagEnds true, body-then t true, refl, (body-stays r (inside (x ∷ [])) (x ∷ []) t (opening-in r x [])).0, (_, _, refl))
@@ -331,15 +354,19 @@ top-init r x t (Some g) = (round_body t g, token.CloseEnds, round-split t g, ref
 root-leads : (r : Rules) (n : Nest) (root : RawTag) (f : Content) → Opening r n [] → OpenedIn [] (nest_all r n (tag_tokens root false ++ content_tokens f))
 root-leads r n root f o = by (start-tag-leads r n [] root o)
   where
-    more : (k : RawName) → OrLost (nest_all r (inside (k ∷ [])) (content_tokens f)) (inside (k ∷ [])) → nest_all r n (tag_tokens root false) ≡ inside (k ∷ []) → OpenedIn [] (nest_all r n (tag_tokens root false ++ content_tokens f))
+    more : (k : RawName) → OrLost (nest_all r (inside (k ∷ [])) (content_tokens f)) (inside (k ∷ [])) → nest_all r n (tag_tokens root false) ≡ inside (k ∷ [])
+        → OpenedIn [] (nest_all r n (tag_tokens root false ++ content_tokens f))
     more k (inl e) h = inl (k, all-more r n (tag_tokens root false) (content_tokens f) ∙ (ap (λ (x : Nest). nest_all r x (content_tokens f)) h ∙ e))
     more k (inr e) h = inr (all-more r n (tag_tokens root false) (content_tokens f) ∙ (ap (λ (x : Nest). nest_all r x (content_tokens f)) h ∙ e))
 
     by : OpenedIn [] (nest_all r n (tag_tokens root false)) → OpenedIn [] (nest_all r n (tag_tokens root false ++ content_tokens f))
     by (inl (k, e)) = more k (content-leads f r k []) e
-    by (inr e) = inr (all-more r n (tag_tokens root false) (content_tokens f) ∙ (ap (λ (x : Nest). nest_all r x (content_tokens f)) e ∙ lost-all r (content_tokens f)))
+    by (inr e) = inr (all-more r n (tag_tokens root false) (content_tokens f)
+        ∙ (ap (λ (x : Nest). nest_all r x (content_tokens f)) e ∙ lost-all r (content_tokens f)))
 
-pub head-leads : (r : Rules) (d : Bool) (root : RawTag) (f : Content) → ((k : RawName) × (nest_all r start (declaration_tokens d ++ (tag_tokens root false ++ content_tokens f)) ≡ inside (k ∷ []))) ⊎ (nest_all r start (declaration_tokens d ++ (tag_tokens root false ++ content_tokens f)) ≡ lost)
+pub head-leads : (r : Rules) (d : Bool) (root : RawTag) (f : Content)
+    → ((k : RawName) × (nest_all r start (declaration_tokens d ++ (tag_tokens root false ++ content_tokens f)) ≡ inside (k ∷ [])))
+    ⊎ (nest_all r start (declaration_tokens d ++ (tag_tokens root false ++ content_tokens f)) ≡ lost)
 unfolding nest
 head-leads r true root f = root-leads r declared root f (opening-declared r)
 head-leads r false root f = root-leads r start root f (opening-start r)

@@ -174,7 +174,8 @@ pub outside-next : (r : Rules) (f : Frame) (b : ℕ) → Sound r f → stands_ou
 unfolding OutsideNext
 outside-next r (open_at st n) b s h w = by (turn st b) refl w (turn-opening st b s.calm_is) (λ l. less-opens st b s.calm_is l)
   where
-    next : (to : State) (us : List Token) → is_broken (placed r to (nest_all r n us)) ≡ false → IsOpening st b (leads to us) → (after_less st ≡ true → OpensBy b (leads to us)) → OutsideNext (nest_all r n us) us
+    next : (to : State) (us : List Token) → is_broken (placed r to (nest_all r n us)) ≡ false → IsOpening st b (leads to us)
+        → (after_less st ≡ true → OpensBy b (leads to us)) → OutsideNext (nest_all r n us) us
         → (stands_outside (placed r to (nest_all r n us)) ≡ true) ⊎ ((after_less st ≡ true) × (begins_tag b ≡ true))
     next to us w l k (inl e) = inl (ap stands_outside (placed-there r to (nest_all r n us) w (outside-open (nest_all r n us) e)) ∙ e)
     next to us w l k (inr (inl e)) = let less : after_less st ≡ true = l.1 e in inr (less, sym (k less) ∙ e)
@@ -195,14 +196,17 @@ first-sort st start h (inr e) = ap is_first e
 first-sort st declared h e = ap is_first e
 first-sort st n h e = false-true h
 
-pub less-first : (r : Rules) (f : Frame) → Sound r f → stands_outside f ≡ true → is_broken (frame_next r f 60) ≡ false → AfterLess (frame_next r f 60) × (stands_outside (frame_next r f 60) ≡ true)
+pub less-first : (r : Rules) (f : Frame) → Sound r f → stands_outside f ≡ true → is_broken (frame_next r f 60) ≡ false
+    → AfterLess (frame_next r f 60) × (stands_outside (frame_next r f 60) ≡ true)
 less-first r (open_at st n) s h w = by (turn st 60) w (by-sixty st)
   where
-    by : (o : Outcome) → is_broken (frame_settled r n o) ≡ false → BySixty st o → AfterLess (frame_settled r n o) × (stands_outside (frame_settled r n o) ≡ true)
+    by : (o : Outcome) → is_broken (frame_settled r n o) ≡ false → BySixty st o
+        → AfterLess (frame_settled r n o) × (stands_outside (frame_settled r n o) ≡ true)
     by (leads to us) w k =
         let (less, none) = k.0 (first-sort st n h s.fits) in
         let still : is_outside (nest_all r n us) ≡ true = ap (λ (l : List Token). is_outside (nest_all r n l)) none ∙ h in
-        let there : placed r to (nest_all r n us) ≡ open_at to (nest_all r n us) = placed-there r to (nest_all r n us) w (outside-open (nest_all r n us) still) in
+        let there : placed r to (nest_all r n us) ≡ open_at to (nest_all r n us) =
+        placed-there r to (nest_all r n us) w (outside-open (nest_all r n us) still) in
         (subst AfterLess (sym there) less, ap stands_outside there ∙ still)
     by (fails x) w k = absurd (not-both true refl w)
 less-first r ended s h w = false-true h
@@ -229,7 +233,8 @@ level-opened r (inside (m ∷ y ∷ st)) x h = false-true h
 level-opened r (inside []) x h = false-true h
 level-opened r n x h = false-true h
 
-pub opened-next : (r : Rules) (f : Frame) (b : ℕ) → Sound r f → stands_level f ≡ true → AfterLess f → begins_tag b ≡ true → is_broken (frame_next r f b) ≡ false → in_item (frame_next r f b) ≡ true
+pub opened-next : (r : Rules) (f : Frame) (b : ℕ) → Sound r f → stands_level f ≡ true → AfterLess f → begins_tag b ≡ true → is_broken (frame_next r f b) ≡ false
+    → in_item (frame_next r f b) ≡ true
 opened-next r (open_at st n) b s h l k w = by (turn st b) refl w (less-opens st b s.calm_is l)
   where
     by : (o : Outcome) → turn st b ≡ o → is_broken (frame_settled r n o) ≡ false → OpensBy b o → in_item (frame_settled r n o) ≡ true
@@ -262,10 +267,12 @@ level-before r (closing [] []) x h k = false-true k
 level-before r (closing [] (y ∷ m)) x h k = false-true k
 level-before r lost x h k = false-true k
 
-pub opened-so : (r : Rules) (f : Frame) (b : ℕ) → Sound r f → in_item f ≡ false → in_item (frame_next r f b) ≡ true → AfterLess f × (begins_tag b ≡ true) × (stands_level f ≡ true)
+pub opened-so : (r : Rules) (f : Frame) (b : ℕ) → Sound r f → in_item f ≡ false → in_item (frame_next r f b) ≡ true
+    → AfterLess f × (begins_tag b ≡ true) × (stands_level f ≡ true)
 opened-so r (open_at st n) b s h k = by (turn st b) refl k (turn-opening st b s.calm_is) (λ l. less-opens st b s.calm_is l)
   where
-    by : (o : Outcome) → turn st b ≡ o → in_item (frame_settled r n o) ≡ true → IsOpening st b o → (after_less st ≡ true → OpensBy b o) → (after_less st ≡ true) × (begins_tag b ≡ true) × (is_level n ≡ true)
+    by : (o : Outcome) → turn st b ≡ o → in_item (frame_settled r n o) ≡ true → IsOpening st b o → (after_less st ≡ true → OpensBy b o)
+        → (after_less st ≡ true) × (begins_tag b ≡ true) × (is_level n ≡ true)
     by (leads to us) e k l o =
         let opened : in_item_nest (nest_all r n us) ≡ true = placed-item r to (nest_all r n us) k in
         let tells : opens us ≡ true = few-opens r n us (turn-few st to b us e) h opened in

@@ -64,19 +64,23 @@ less-returns stage.PrologLess h k = false-true k
 less-returns stage.Less h k = false-true k
 less-returns s h k = false-true h
 
-settled-opening : (s : Stage) (r r1 : Bool) (b : ℕ) (t : Turn) → (to_less t ≡ true → b ≡ 60) → (opens_tag t ≡ true → is_less s ≡ true) → IsOpening (at s pending.Nothing r) b (settled r1 t)
+settled-opening : (s : Stage) (r r1 : Bool) (b : ℕ) (t : Turn) → (to_less t ≡ true → b ≡ 60) → (opens_tag t ≡ true → is_less s ≡ true)
+    → IsOpening (at s pending.Nothing r) b (settled r1 t)
 settled-opening s r r1 b (goes t) h k = (h, λ e. false-true e)
 settled-opening s r r1 b (tells_and_goes us t) h k = (h, k)
 settled-opening s r r1 b (stops f) h k = tt
 
-ascii-opening : (s : Stage) (r : Bool) (b : ℕ) → b < 128 → calm (at s pending.Nothing r) ≡ true → IsOpening (at s pending.Nothing r) b (turn_ascii (at s pending.Nothing r) b)
+ascii-opening : (s : Stage) (r : Bool) (b : ℕ) → b < 128 → calm (at s pending.Nothing r) ≡ true
+    → IsOpening (at s pending.Nothing r) b (turn_ascii (at s pending.Nothing r) b)
 unfolding turn_ascii
 ascii-opening s r b low h =
     cond_both (r && b == 10) _ _ (IsOpening (at s pending.Nothing r) b)
     (λ e. (λ l. absurd (less-returns s l (calm-was r s h (and_parts r (b == 10) e).0)), λ l. false-true l))
     (λ f. cond_both (b == 13) _ _ (IsOpening (at s pending.Nothing r) b)
-    (λ e. let known = moves-ascii s (ascii_kind 10) 10 in settled-opening s r true b (ascii s (ascii_kind 10) 10) (λ l. absurd (space-less (implied _ _ known.4 l))) (λ l. implied _ _ known.5 l))
-    (λ g. let known = moves-ascii s (ascii_kind b) b in settled-opening s r false b (ascii s (ascii_kind b) b) (λ l. kind-less b low (implied _ _ known.4 l)) (λ l. implied _ _ known.5 l)))
+    (λ e. let known = moves-ascii s (ascii_kind 10) 10 in settled-opening s r true b (ascii s (ascii_kind 10) 10)
+    (λ l. absurd (space-less (implied _ _ known.4 l))) (λ l. implied _ _ known.5 l))
+    (λ g. let known = moves-ascii s (ascii_kind b) b in settled-opening s r false b (ascii s (ascii_kind b) b) (λ l. kind-less b low (implied _ _ known.4 l))
+    (λ l. implied _ _ known.5 l)))
   where
     space-less : is_less_kind (ascii_kind 10) ≡ true → ⊥
     space-less e = let bad : false ≡ true = ap (λ (x : ℕ). x == 60) (kind-less 10 (ltb-true 10 128 refl) e) in false-true bad
@@ -96,7 +100,8 @@ no-less stage.InTag h = false-true h
 no-less s h = false-true h
 
 abbrev IsSilent : Stage → Pending → Type 0
-IsSilent s p = (b n : ℕ) → (opens (byte_told (voice s) p b) ≡ true → (is_nothing p && is_less s) ≡ true) × (opens (byte_told (voice s) p b ++ end_told (voice s) n) ≡ true → (is_nothing p && is_less s) ≡ true)
+IsSilent s p = (b n : ℕ) → (opens (byte_told (voice s) p b) ≡ true → (is_nothing p && is_less s) ≡ true)
+    × (opens (byte_told (voice s) p b ++ end_told (voice s) n) ≡ true → (is_nothing p && is_less s) ≡ true)
 
 silent : (s : Stage) (p : Pending) → IsSilent s p
 unfolding voice
@@ -141,7 +146,8 @@ begun-not (pending.Three x y z) p b l e h = false-true h
 wide-opening : (s : Stage) (p : Pending) (r : Bool) (b : ℕ) (x : Reach) → Spelt (bytes_of p ++ b ∷ []) x → IsOpening (at s p r) b (turn_wide (at s p r) b x)
 unfolding turn_wide
 wide-opening s p r b (Begun q low high) spelt =
-    cond_both (has_between (class_of (allowed_at s)) low high) _ _ (IsOpening (at s p r) b) (λ e. (λ l. absurd (begun-not q p b (is_less s) spelt.0 l), (silent s p b 0).0)) (λ e. tt)
+    cond_both (has_between (class_of (allowed_at s)) low high) _ _ (IsOpening (at s p r) b)
+    (λ e. (λ l. absurd (begun-not q p b (is_less s) spelt.0 l), (silent s p b 0).0)) (λ e. tt)
 wide-opening s p r b (Whole n) spelt =
     cond_both (has_between (class_of (allowed_at s)) n n) _ _ (IsOpening (at s p r) b) (λ e. (λ l. absurd (no-less s l), (silent s p b n).1)) (λ e. tt)
 wide-opening s p r b Broken spelt = tt
@@ -151,7 +157,8 @@ turn-opening st b h = led st.stage st.pending st.returned b h
   where
     led : (s : Stage) (p : Pending) (r : Bool) (b : ℕ) → calm (at s p r) ≡ true → IsOpening (at s p r) b (turn (at s p r) b)
     led s pending.Nothing r b h =
-        cond_both (nat_lt b 128) (turn_ascii (at s pending.Nothing r) b) (turn_wide (at s pending.Nothing r) b (reach pending.Nothing b)) (IsOpening (at s pending.Nothing r) b)
+        cond_both (nat_lt b 128) (turn_ascii (at s pending.Nothing r) b) (turn_wide (at s pending.Nothing r) b (reach pending.Nothing b))
+        (IsOpening (at s pending.Nothing r) b)
         (λ e. ascii-opening s r b (ltb-true b 128 e) h) (λ e. wide-opening s pending.Nothing r b (reach pending.Nothing b) (reach-spelt pending.Nothing b))
     led s p r b h = wide-opening s p r b (reach p b) (reach-spelt p b)
 

@@ -24,15 +24,19 @@ if-on false a b layers h k = k
 start-on : (t : RawTag) (b : Building) (layers : List (List Binding)) → IsOn b layers → IsOn (build_all b (tag_tokens t false)) (inside_of layers (whole_tag t))
 start-on t b layers (g, os, words, i, is) =
     subst (λ (x : Building). IsOn (build_all x (tag_tokens t false)) (inside_of layers (whole_tag t))) (sym is)
-    (subst (λ (x : Building). IsOn x (inside_of layers (whole_tag t))) (sym (tag-made (made g layers os words i) t false)) (if-on (length layers == 0) _ _ (inside_of layers (whole_tag t)) (_, _, _, _, refl) (_, _, _, _, refl)))
+    (subst (λ (x : Building). IsOn x (inside_of layers (whole_tag t))) (sym (tag-made (made g layers os words i) t false))
+    (if-on (length layers == 0) _ _ (inside_of layers (whole_tag t)) (_, _, _, _, refl) (_, _, _, _, refl)))
 
-content-on : (f : Content) (b : Building) (layers : List (List Binding)) → (length layers == 0) ≡ false → IsOn b layers → IsOn (build_all b (content_tokens f)) layers
-content-on f b layers deep (g, os, words, i, is) = subst (λ (x : Building). IsOn (build_all x (content_tokens f)) layers) (sym is) (leaves-on f g layers os words i deep)
+content-on : (f : Content) (b : Building) (layers : List (List Binding)) → (length layers == 0) ≡ false → IsOn b layers
+    → IsOn (build_all b (content_tokens f)) layers
+content-on f b layers deep (g, os, words, i, is) =
+    subst (λ (x : Building). IsOn (build_all x (content_tokens f)) layers) (sym is) (leaves-on f g layers os words i deep)
 
 regroup-step : (d p b t f : List Token) → d ++ ((p ++ (b ++ t)) ++ f) ≡ ((d ++ (p ++ b)) ++ t) ++ f
 regroup-step d p b t f = simp append_assoc
 
-pub step-tokens : (d : Bool) (x : Step) (path : List Step) (f : Content) → tokens_in d (x ∷ path) f ≡ (tokens_in d path x.before ++ tag_tokens x.tag false) ++ content_tokens f
+pub step-tokens : (d : Bool) (x : Step) (path : List Step) (f : Content)
+    → tokens_in d (x ∷ path) f ≡ (tokens_in d path x.before ++ tag_tokens x.tag false) ++ content_tokens f
 step-tokens d x path f = regroup-step (declaration_tokens d) (path_tokens path) (content_tokens x.before) (tag_tokens x.tag false) (content_tokens f)
 
 none-tokens : (d : Bool) → build_all nothing_built (tokens_in d [] nothing) ≡ nothing_built
@@ -45,7 +49,8 @@ path-on d [] f h =
 path-on d (x ∷ path) f h =
     let front : List Token = tokens_in d path x.before ++ tag_tokens x.tag false in
     let opened : IsOn (build_all nothing_built front) (scope_of (x ∷ path)) =
-    subst (λ (b : Building). IsOn b (scope_of (x ∷ path))) (sym (build-more nothing_built (tokens_in d path x.before) (tag_tokens x.tag false))) (start-on x.tag (build_all nothing_built (tokens_in d path x.before)) (scope_of path) (path-on d path x.before h)) in
+    subst (λ (b : Building). IsOn b (scope_of (x ∷ path))) (sym (build-more nothing_built (tokens_in d path x.before) (tag_tokens x.tag false)))
+    (start-on x.tag (build_all nothing_built (tokens_in d path x.before)) (scope_of path) (path-on d path x.before h)) in
     subst (λ (l : List Token). IsOn (build_all nothing_built l) (scope_of (x ∷ path))) (sym (step-tokens d x path f))
     (subst (λ (b : Building). IsOn b (scope_of (x ∷ path))) (sym (build-more nothing_built front (content_tokens f)))
     (content-on f (build_all nothing_built front) (scope_of (x ∷ path)) (not-empty (scope_of path) (own (whole_tag x.tag).attributes)) opened))
@@ -54,9 +59,11 @@ path-on d (x ∷ path) f h =
 abbrev pub IsTagAt : Building → List (List Binding) → RawTag → Type 0
 IsTagAt b layers t = (b.layers ≡ layers) × (b.tag ≡ whole_tag t)
 
-pub tag-at : (d : Bool) (path : List Step) (f : Content) (t : RawTag) → IsRooted path f → IsTagAt (build_all nothing_built (tokens_in d path f ++ tag-body t)) (scope_of path) t
+pub tag-at : (d : Bool) (path : List Step) (f : Content) (t : RawTag) → IsRooted path f
+    → IsTagAt (build_all nothing_built (tokens_in d path f ++ tag-body t)) (scope_of path) t
 tag-at d path f t h =
     let b : Building = build_all nothing_built (tokens_in d path f) in
     let (g, os, words, i, is) = path-on d path f h in
-    let all : build_all nothing_built (tokens_in d path f ++ tag-body t) ≡ record b { tag = whole_tag t } = build-more nothing_built (tokens_in d path f) (tag-body t) ∙ body-made b t in
+    let all : build_all nothing_built (tokens_in d path f ++ tag-body t) ≡ record b { tag = whole_tag t } =
+    build-more nothing_built (tokens_in d path f) (tag-body t) ∙ body-made b t in
     (ap (λ (x : Building). x.layers) all ∙ ap (λ (x : Building). x.layers) is, ap (λ (x : Building). x.tag) all)

@@ -39,10 +39,13 @@ Before (inside []) ts = Unit {0}
 Before (inside (m ∷ st)) ts = InContent (m ∷ st) ts
 Before (naming st n) ts = InTag st n [] ts
 Before (in_tag st n k) ts = (xs : List RawAttribute) × InTag st n xs ts
-Before (naming_attribute st n k) ts = (us : List Token) × (xs : List RawAttribute) × (a : ℕ) × (bs : List ℕ) × InTag st n xs us × (ts ≡ us ++ (token.AttrOpens a ∷ map token.AttrByte bs))
+Before (naming_attribute st n k) ts = (us : List Token) × (xs : List RawAttribute) × (a : ℕ) × (bs : List ℕ) × InTag st n xs us
+    × (ts ≡ us ++ (token.AttrOpens a ∷ map token.AttrByte bs))
 Before (in_value st n k) ts =
-    (us : List Token) × (xs : List RawAttribute) × (a : ℕ) × (bs : List ℕ) × (v : List ℕ) × InTag st n xs us × (ts ≡ us ++ (token.AttrOpens a ∷ (map token.AttrByte bs ++ (token.ValueOpens ∷ map token.Value v))))
-Before (closing st m) ts = (us : List Token) × (p : RawName) × (done : List ℕ) × InContent (p ∷ st) us × (p.1 ≡ done ++ m) × (ts ≡ us ++ (token.CloseOpens p.0 ∷ map token.NameByte done))
+    (us : List Token) × (xs : List RawAttribute) × (a : ℕ) × (bs : List ℕ) × (v : List ℕ) × InTag st n xs us
+    × (ts ≡ us ++ (token.AttrOpens a ∷ (map token.AttrByte bs ++ (token.ValueOpens ∷ map token.Value v))))
+Before (closing st m) ts = (us : List Token) × (p : RawName) × (done : List ℕ) × InContent (p ∷ st) us × (p.1 ≡ done ++ m)
+    × (ts ≡ us ++ (token.CloseOpens p.0 ∷ map token.NameByte done))
 Before lost ts = Unit {0}
 
 cond-before : (t : Bool) (n : Nest) (ts : List Token) → (t ≡ true → Before n ts) → Before (cond t n lost) ts
@@ -65,7 +68,8 @@ some-rooted : (path : List Step) (f g : Content) (m : RawName) (st : List RawNam
 some-rooted [] f g m st e h = absurd (cc)
 some-rooted (x ∷ path) f g m st e h = h
 
-content-grown : (m : RawName) (st : List RawName) (ts x : List Token) (g : Content) → content_tokens g ≡ x → InContent (m ∷ st) ts → InContent (m ∷ st) (ts ++ x)
+content-grown : (m : RawName) (st : List RawName) (ts x : List Token) (g : Content) → content_tokens g ≡ x → InContent (m ∷ st) ts
+    → InContent (m ∷ st) (ts ++ x)
 content-grown m st ts x g e (d, path, f, names, rooted, is) =
     (d, path, then_content f g, names, some-rooted path f (then_content f g) m st names rooted, ap (λ (l : List Token). l ++ x) is ∙ more-in d path f g x e)
 
@@ -80,17 +84,24 @@ name-longer n x =
     ∙ ap (λ (l : List Token). token.TagOpens n.0 ∷ l) (sym (map-append token.NameByte n.1 (x ∷ [])) ∙ sym (append-nil (map token.NameByte (n.1 ++ x ∷ []))))
 
 name-more : (st : List RawName) (n : RawName) (ts : List Token) (x : ℕ) → InTag st n [] ts → InTag st (n.0, n.1 ++ x ∷ []) [] (ts ++ token.NameByte x ∷ [])
-name-more st n ts x (us, h, is) =
-    (us, h, ap (λ (l : List Token). l ++ token.NameByte x ∷ []) is ∙ (append_assoc us (tag-body (raw-tag n [])) (token.NameByte x ∷ []) ∙ ap (λ (l : List Token). us ++ l) (name-longer n x)))
+name-more st n ts x (us, h, is) = (
+  us,
+  h,
+  ap (λ (l : List Token). l ++ token.NameByte x ∷ []) is
+      ∙ (append_assoc us (tag-body (raw-tag n [])) (token.NameByte x ∷ []) ∙ ap (λ (l : List Token). us ++ l) (name-longer n x)),
+)
 
 attributes-more : (xs ys : List RawAttribute) → attributes_tokens (xs ++ ys) ≡ attributes_tokens xs ++ attributes_tokens ys
 attributes-more [] ys = refl
-attributes-more (x ∷ xs) ys = ap (λ (l : List Token). attribute_tokens x ++ l) (attributes-more xs ys) ∙ sym (append_assoc (attribute_tokens x) (attributes_tokens xs) (attributes_tokens ys))
+attributes-more (x ∷ xs) ys = ap (λ (l : List Token). attribute_tokens x ++ l) (attributes-more xs ys)
+    ∙ sym (append_assoc (attribute_tokens x) (attributes_tokens xs) (attributes_tokens ys))
 
-regroup-attribute : (us n xs bs v : List Token) (o a p e : Token) → ((us ++ (o ∷ (n ++ xs))) ++ (a ∷ (bs ++ (p ∷ v)))) ++ e ∷ [] ≡ us ++ (o ∷ (n ++ (xs ++ ((a ∷ (bs ++ (p ∷ (v ++ e ∷ [])))) ++ []))))
+regroup-attribute : (us n xs bs v : List Token) (o a p e : Token)
+    → ((us ++ (o ∷ (n ++ xs))) ++ (a ∷ (bs ++ (p ∷ v)))) ++ e ∷ [] ≡ us ++ (o ∷ (n ++ (xs ++ ((a ∷ (bs ++ (p ∷ (v ++ e ∷ [])))) ++ []))))
 regroup-attribute us n xs bs v o a p e = simp (append_assoc, append-nil)
 
-attribute-more : (st : List RawName) (n : RawName) (xs : List RawAttribute) (ts us : List Token) (a : ℕ) (bs v : List ℕ) → InTag st n xs us → ts ≡ us ++ (token.AttrOpens a ∷ (map token.AttrByte bs ++ (token.ValueOpens ∷ map token.Value v)))
+attribute-more : (st : List RawName) (n : RawName) (xs : List RawAttribute) (ts us : List Token) (a : ℕ) (bs v : List ℕ) → InTag st n xs us
+    → ts ≡ us ++ (token.AttrOpens a ∷ (map token.AttrByte bs ++ (token.ValueOpens ∷ map token.Value v)))
     → InTag st n (xs ++ (record { name = (a, bs); value = v }) ∷ []) (ts ++ token.ValueEnds ∷ [])
 attribute-more st n xs ts us a bs v (ws, h, is) e =
     let new : RawAttribute = record { name = (a, bs); value = v } in
@@ -98,18 +109,22 @@ attribute-more st n xs ts us a bs v (ws, h, is) e =
       ws,
       h,
       ap (λ (l : List Token). l ++ token.ValueEnds ∷ []) (e ∙ ap (λ (l : List Token). l ++ all) is)
-          ∙ (regroup-attribute ws (map token.NameByte n.1) (attributes_tokens xs) (map token.AttrByte bs) (map token.Value v) (token.TagOpens n.0) (token.AttrOpens a) token.ValueOpens token.ValueEnds
+          ∙ (regroup-attribute ws (map token.NameByte n.1) (attributes_tokens xs) (map token.AttrByte bs) (map token.Value v) (token.TagOpens n.0)
+          (token.AttrOpens a) token.ValueOpens token.ValueEnds
           ∙ ap (λ (l : List Token). ws ++ (token.TagOpens n.0 ∷ (map token.NameByte n.1 ++ l))) (sym (attributes-more xs (new ∷ [])))),
     )
 
 -- the whole tag, in its element
 tag-ends : (ts us : List Token) (t : RawTag) (e : Bool) → ts ≡ us ++ tag-body t → ts ++ token.TagEnds e ∷ [] ≡ us ++ tag_tokens t e
-tag-ends ts us t e is = ap (λ (l : List Token). l ++ token.TagEnds e ∷ []) is ∙ (append_assoc us (tag-body t) (token.TagEnds e ∷ []) ∙ ap (λ (l : List Token). us ++ l) (sym (body-then t e)))
+tag-ends ts us t e is = ap (λ (l : List Token). l ++ token.TagEnds e ∷ []) is
+    ∙ (append_assoc us (tag-body t) (token.TagEnds e ∷ []) ∙ ap (λ (l : List Token). us ++ l) (sym (body-then t e)))
 
-hollow-in : (m : RawName) (st : List RawName) (n : RawName) (xs : List RawAttribute) (ts : List Token) → InTag (m ∷ st) n xs ts → InContent (m ∷ st) (ts ++ token.TagEnds true ∷ [])
+hollow-in : (m : RawName) (st : List RawName) (n : RawName) (xs : List RawAttribute) (ts : List Token) → InTag (m ∷ st) n xs ts
+    → InContent (m ∷ st) (ts ++ token.TagEnds true ∷ [])
 hollow-in m st n xs ts (us, h, is) =
     let t : RawTag = raw-tag n xs in
-    subst (InContent (m ∷ st)) (sym (tag-ends ts us t true is)) (content-grown m st us (tag_tokens t true) (hollow t nothing) (append-nil (tag_tokens t true)) h)
+    subst (InContent (m ∷ st)) (sym (tag-ends ts us t true is))
+    (content-grown m st us (tag_tokens t true) (hollow t nothing) (append-nil (tag_tokens t true)) h)
 
 regroup-path : (d p f t : List Token) → (d ++ (p ++ f)) ++ t ≡ d ++ ((p ++ (f ++ t)) ++ [])
 regroup-path d p f t = simp (append_assoc, append-nil)
@@ -141,7 +156,8 @@ regroup-close d q b t f c = simp (append_assoc, append-nil)
 regroup-name : (us m : List Token) (o c : Token) → (us ++ (o ∷ m)) ++ c ∷ [] ≡ us ++ (o ∷ (m ++ c ∷ []))
 regroup-name us m o c = simp append_assoc
 
-end-in : (m : RawName) (st : List RawName) (p : RawName) (us ts : List Token) (done : List ℕ) → InContent (p ∷ m ∷ st) us → p.1 ≡ done ++ [] → ts ≡ us ++ (token.CloseOpens p.0 ∷ map token.NameByte done) → InContent (m ∷ st) (ts ++ token.CloseEnds ∷ [])
+end-in : (m : RawName) (st : List RawName) (p : RawName) (us ts : List Token) (done : List ℕ) → InContent (p ∷ m ∷ st) us → p.1 ≡ done ++ []
+    → ts ≡ us ++ (token.CloseOpens p.0 ∷ map token.NameByte done) → InContent (m ∷ st) (ts ++ token.CloseEnds ∷ [])
 end-in m st p us ts done (d, [], f, names, rooted, is) e g = absurd (cc)
 end-in m st p us ts done (d, x ∷ path, f, names, rooted, is) e g =
     let name : x.tag.name ≡ p = first-name x path p (m ∷ st) names in
@@ -154,8 +170,10 @@ end-in m st p us ts done (d, x ∷ path, f, names, rooted, is) e g =
     ∙ (ap (λ (l : List ℕ). us ++ (token.CloseOpens p.0 ∷ (map token.NameByte l ++ token.CloseEnds ∷ []))) bytes
     ∙ (ap (λ (q : RawName). us ++ end_tokens q) (sym name)
     ∙ (ap (λ (l : List Token). l ++ end_tokens x.tag.name) is
-    ∙ regroup-close (declaration_tokens d) (path_tokens path) (content_tokens x.before) (tag_tokens x.tag false) (content_tokens f) (end_tokens x.tag.name))))) in
-    subst (InContent (m ∷ st)) (sym same) (content-grown m st (tokens_in d path x.before) (content_tokens (element x.tag f nothing)) (element x.tag f nothing) refl h)
+    ∙ regroup-close (declaration_tokens d) (path_tokens path) (content_tokens x.before) (tag_tokens x.tag false) (content_tokens f) (end_tokens x.tag.name)))))
+    in
+    subst (InContent (m ∷ st)) (sym same)
+    (content-grown m st (tokens_in d path x.before) (content_tokens (element x.tag f nothing)) (element x.tag f nothing) refl h)
 
 -- Each token.
 
@@ -163,14 +181,17 @@ root-before : (b : List Token) (t : Token) → InContent [] b → Before (before
 root-before b (token.TagOpens x) h = opens-tag [] b x h
 root-before b t h = tt
 
-content-before : (r : Rules) (m : RawName) (st : List RawName) (ts : List Token) (t : Token) → InContent (m ∷ st) ts → Before (in_content r m st t) (ts ++ t ∷ [])
-content-before r m st ts (token.Word c) h = cond-before (may_stand r st c) (inside (m ∷ st)) _ (λ e. content-grown m st ts (token.Word c ∷ []) (word c nothing) refl h)
+content-before : (r : Rules) (m : RawName) (st : List RawName) (ts : List Token) (t : Token) → InContent (m ∷ st) ts
+    → Before (in_content r m st t) (ts ++ t ∷ [])
+content-before r m st ts (token.Word c) h =
+    cond-before (may_stand r st c) (inside (m ∷ st)) _ (λ e. content-grown m st ts (token.Word c ∷ []) (word c nothing) refl h)
 content-before r m st ts (token.TagOpens b) h = cond-before (nat_lt (length st) r.depth) (naming (m ∷ st) (b, [])) _ (λ e. opens-tag (m ∷ st) ts b h)
 content-before r m st ts (token.CloseOpens b) h =
     cond-before (b == m.0) (closing st m.1) _ (λ e. (ts, m, [], h, refl, ap (λ (x : ℕ). ts ++ token.CloseOpens x ∷ []) (eqb-true b m.0 e)))
 content-before r m st ts t h = tt
 
-name-before : (r : Rules) (st : List RawName) (n : RawName) (k : ℕ) (xs : List RawAttribute) (ts : List Token) (t : Token) → InTag st n xs ts → Before (after_name r st n k t) (ts ++ t ∷ [])
+name-before : (r : Rules) (st : List RawName) (n : RawName) (k : ℕ) (xs : List RawAttribute) (ts : List Token) (t : Token) → InTag st n xs ts
+    → Before (after_name r st n k t) (ts ++ t ∷ [])
 name-before r st n k xs ts (token.AttrOpens b) h = cond-before (nat_lt k r.attributes) (naming_attribute st n (k + 1)) _ (λ e. (ts, xs, b, [], h, refl))
 name-before r [] n k xs ts (token.TagEnds true) h = tt
 name-before r (m ∷ st) n k xs ts (token.TagEnds true) h = hollow-in m st n xs ts h
@@ -204,7 +225,8 @@ before-next r (naming_attribute st n k) ts (token.AttrByte x) (us, xs, a, bs, h,
   bs ++ x ∷ [],
   h,
   ap (λ (l : List Token). l ++ token.AttrByte x ∷ []) is
-      ∙ (regroup-one us (map token.AttrByte bs) (token.AttrOpens a) (token.AttrByte x) ∙ ap (λ (l : List Token). us ++ (token.AttrOpens a ∷ l)) (sym (map-append token.AttrByte bs (x ∷ [])))),
+      ∙ (regroup-one us (map token.AttrByte bs) (token.AttrOpens a) (token.AttrByte x)
+      ∙ ap (λ (l : List Token). us ++ (token.AttrOpens a ∷ l)) (sym (map-append token.AttrByte bs (x ∷ [])))),
 )
 before-next r (naming_attribute st n k) ts token.ValueOpens (us, xs, a, bs, h, is) =
     (us, xs, a, bs, [], h, ap (λ (l : List Token). l ++ token.ValueOpens ∷ []) is ∙ regroup-one us (map token.AttrByte bs) (token.AttrOpens a) token.ValueOpens)
@@ -231,7 +253,8 @@ before-next r (closing st (x ∷ m)) ts (token.NameByte y) (us, p, done, h, e, i
       h,
       e ∙ (ap (λ (z : ℕ). done ++ (z ∷ m)) (sym (eqb-true y x f)) ∙ sym (append_assoc done (y ∷ []) m)),
       ap (λ (l : List Token). l ++ token.NameByte y ∷ []) is
-          ∙ (regroup-one us (map token.NameByte done) (token.CloseOpens p.0) (token.NameByte y) ∙ ap (λ (l : List Token). us ++ (token.CloseOpens p.0 ∷ l)) (sym (map-append token.NameByte done (y ∷ [])))),
+          ∙ (regroup-one us (map token.NameByte done) (token.CloseOpens p.0) (token.NameByte y)
+          ∙ ap (λ (l : List Token). us ++ (token.CloseOpens p.0 ∷ l)) (sym (map-append token.NameByte done (y ∷ [])))),
     ))
 before-next r (closing st (x ∷ m)) ts t h = tt
 before-next r (closing st []) ts token.CloseEnds h = end-before st ts h
@@ -240,7 +263,8 @@ before-next r lost ts t h = tt
 
 before-all : (r : Rules) (us : List Token) (n : Nest) (ts : List Token) → Before n ts → Before (nest_all r n us) (ts ++ us)
 before-all r [] n ts h = subst (Before n) (sym (append-nil ts)) h
-before-all r (u ∷ us) n ts h = subst (Before (nest_all r (nest r n u) us)) (append_assoc ts (u ∷ []) us) (before-all r us (nest r n u) (ts ++ u ∷ []) (before-next r n ts u h))
+before-all r (u ∷ us) n ts h =
+    subst (Before (nest_all r (nest r n u) us)) (append_assoc ts (u ∷ []) us) (before-all r us (nest r n u) (ts ++ u ∷ []) (before-next r n ts u h))
 
 pub before-from : (r : Rules) (ts : List Token) → Before (nest_all r start ts) ts
 before-from r ts = before-all r ts start [] refl
@@ -252,8 +276,15 @@ TagTokens ts e = (d : Bool) × (path : List Step) × (f : Content) × (t : RawTa
 
 in-tag-ends : (st : List RawName) (n : RawName) (xs : List RawAttribute) (ts : List Token) (e : Bool) → InTag st n xs ts → TagTokens ts e
 in-tag-ends st n xs ts e (us, (d, path, f, names, rooted, same), is) =
-    let t : RawTag = raw-tag n xs in
-    (d, path, f, t, rooted, tag-ends ts us t e is ∙ (ap (λ (l : List Token). l ++ tag_tokens t e) same ∙ regroup-in (declaration_tokens d) (path_tokens path) (content_tokens f) (tag_tokens t e)))
+    let t : RawTag = raw-tag n xs in (
+      d,
+      path,
+      f,
+      t,
+      rooted,
+      tag-ends ts us t e is
+          ∙ (ap (λ (l : List Token). l ++ tag_tokens t e) same ∙ regroup-in (declaration_tokens d) (path_tokens path) (content_tokens f) (tag_tokens t e)),
+    )
 
 pub tag-tokens : (r : Rules) (n : Nest) (ts : List Token) (e : Bool) → Before n ts → (nest r n (token.TagEnds e) ≡ lost → ⊥) → TagTokens ts e
 unfolding nest

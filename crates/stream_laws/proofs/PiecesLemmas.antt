@@ -17,29 +17,36 @@ joined-left [] pieces = refl
 joined-left (b ∷ bs) pieces = refl
 
 -- the pieces are what is fed, cut anywhere
-one-piece : (l : Limits) (s : Reading) (fed piece : List ℕ) (pieces : List (List ℕ)) (n : ℕ) (calls : List Call) → n ≤ taken l s fed → fed ≡ piece → IsFedBy (joined (left_before (drop n piece) pieces)) calls []
+one-piece : (l : Limits) (s : Reading) (fed piece : List ℕ) (pieces : List (List ℕ)) (n : ℕ) (calls : List Call) → n ≤ taken l s fed → fed ≡ piece
+    → IsFedBy (joined (left_before (drop n piece) pieces)) calls []
     → ((more : List ℕ) × (joined (piece ∷ pieces) ≡ fed ++ more)) × IsFedBy (drop n (joined (piece ∷ pieces))) calls []
 one-piece l s fed piece pieces n calls few same go =
     let fits : taken l s fed ≤ length fed = taken-fits l s fed in
     let long : length fed ≡ length piece = ap length same in
     let short : n ≤ length piece = omega (arith, few, fits, long) in
-    let left : joined (left_before (drop n piece) pieces) ≡ drop n (joined (piece ∷ pieces)) = joined-left (drop n piece) pieces ∙ sym (drop-append-le n piece (joined pieces) short) in
+    let left : joined (left_before (drop n piece) pieces) ≡ drop n (joined (piece ∷ pieces)) = joined-left (drop n piece) pieces
+    ∙ sym (drop-append-le n piece (joined pieces) short) in
     ((joined pieces, ap (λ (x : List ℕ). x ++ joined pieces) (sym same)), subst (λ (x : List ℕ). IsFedBy x calls []) left go)
 
-pieces-fed : (calls : List Call) (l : Limits) (s t : Reading) (items : List Item) (pieces : List (List ℕ)) → Called l s calls items t → AreFed pieces calls → IsFedBy (joined pieces) calls []
+pieces-fed : (calls : List Call) (l : Limits) (s t : Reading) (items : List Item) (pieces : List (List ℕ)) → Called l s calls items t → AreFed pieces calls
+    → IsFedBy (joined pieces) calls []
 pieces-fed [] l s t items pieces fed are = ap joined are
 pieces-fed (hands next ∷ calls) l s t items pieces (is, (later, all, more)) are = pieces-fed calls l (handed s) t later pieces more are
 pieces-fed (feeds fed n ∷ calls) l s t items [] (h, count, more) are = absurd are
 pieces-fed (feeds fed n ∷ calls) l s t items (piece ∷ pieces) (h, count, more) (same, are) =
-    one-piece l s fed piece pieces n calls (let e : n ≤ taken l s fed = omega (arith, count) in e) same (pieces-fed calls l (reading_after l s (take n fed)) t items (left_before (drop n piece) pieces) more are)
+    one-piece l s fed piece pieces n calls (let e : n ≤ taken l s fed = omega (arith, count) in e) same
+    (pieces-fed calls l (reading_after l s (take n fed)) t items (left_before (drop n piece) pieces) more are)
 pieces-fed (falls_short fed n ∷ calls) l s t items [] (h, count, more) are = absurd are
 pieces-fed (falls_short fed n ∷ calls) l s t items (piece ∷ pieces) (h, count, more) (same, are) =
-    one-piece l s fed piece pieces n calls (let e : n ≤ taken l s fed = omega (arith, count) in e) same (pieces-fed calls l (reading_after l s (take n fed)) t items (left_before (drop n piece) pieces) more are)
+    one-piece l s fed piece pieces n calls (let e : n ≤ taken l s fed = omega (arith, count) in e) same
+    (pieces-fed calls l (reading_after l s (take n fed)) t items (left_before (drop n piece) pieces) more are)
 
-pub pieces_handed : (l : Limits) (pieces : List (List ℕ)) (calls : List Call) (items : List Item) (t : Reading) → Called l first_reading calls items t → AreFed pieces calls → AreItems l (joined pieces) (to_fault (items ++ option_to_list (waiting t)))
+pub pieces_handed : (l : Limits) (pieces : List (List ℕ)) (calls : List Call) (items : List Item) (t : Reading) → Called l first_reading calls items t
+    → AreFed pieces calls → AreItems l (joined pieces) (to_fault (items ++ option_to_list (waiting t)))
 pieces_handed l pieces calls items t fed are =
     subst (λ (x : List ℕ). AreItems l x (to_fault (items ++ option_to_list (waiting t))))
-    (sym (fed-bytes calls l first_reading t items (joined pieces) [] fed (pieces-fed calls l first_reading t items pieces fed are) ∙ append-nil (bytes_taken calls))) (all_handed l calls items t fed)
+    (sym (fed-bytes calls l first_reading t items (joined pieces) [] fed (pieces-fed calls l first_reading t items pieces fed are)
+    ∙ append-nil (bytes_taken calls))) (all_handed l calls items t fed)
 
 -- Any pieces can be fed so.
 
@@ -91,7 +98,9 @@ drive (suc m) l s (piece ∷ pieces) h low =
     let n : ℕ = taken l s piece in
     let next : Reading = reading_after l s (take n piece) in
     let less : size (left_before (drop n piece) pieces) < size (piece ∷ pieces) = left-size n piece pieces (some-taken l s piece) in
-    let (calls, items, t, fed, are, ready) = drive m l (handed next) (left_before (drop n piece) pieces) (handed-is-ready next) (let e : size (left_before (drop n piece) pieces) < m = omega (arith, less, low) in e) in
+    let (calls, items, t, fed, are, ready) =
+    drive m l (handed next) (left_before (drop n piece) pieces) (handed-is-ready next)
+    (let e : size (left_before (drop n piece) pieces) < m = omega (arith, less, low) in e) in
     (feeds piece n ∷ hands (waiting next) ∷ calls, option_to_list (waiting next) ++ items, t, (h, refl, (refl, (items, refl, fed))), (refl, are), ready)
 
 pub any_pieces : (l : Limits) (pieces : List (List ℕ)) → Driven l first_reading pieces

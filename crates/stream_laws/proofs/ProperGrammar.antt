@@ -67,7 +67,8 @@ text-told : (p : Context) (c : ℕ) → is_xml c ≡ true → (n : List ℕ) →
 text-told p c h n e = ([], inl refl, text-may p c h n)
 
 pass-numeric : (p : Context) → Pass (numeric p)
-pass-numeric p = pass-union _ _ (pass-digits Decimal (λ c. text_token p c ∷ []) (text-told p)) (pass-concat _ _ (pass-silent _) (pass-digits Hexadecimal (λ c. text_token p c ∷ []) (text-told p)))
+pass-numeric p = pass-union _ _ (pass-digits Decimal (λ c. text_token p c ∷ []) (text-told p))
+    (pass-concat _ _ (pass-silent _) (pass-digits Hexadecimal (λ c. text_token p c ∷ []) (text-told p)))
 
 pass-named : (p : Context) (c : ℕ) → is_xml c ≡ true → Pass (named p c)
 pass-named p c h = pass-union _ _ (pass-told kinds.Semicolon (text_token p c) (λ n e. text-may p c h n)) (pass-refused _)
@@ -78,7 +79,8 @@ pass-expects k q h = pass-union _ _ (pass-concat _ q (pass-silent _) h) (pass-re
 pass-after_a : (p : Context) → Pass (after_a p)
 pass-after_a p =
     pass-union _ _ (pass-concat _ _ (pass-silent _) (pass-expects kinds.SmallP (named p 38) (pass-named p 38 refl)))
-    (pass-union _ _ (pass-concat _ _ (pass-silent _) (pass-expects kinds.SmallO (expects kinds.SmallS (named p 39)) (pass-expects kinds.SmallS (named p 39) (pass-named p 39 refl)))) (pass-refused _))
+    (pass-union _ _ (pass-concat _ _ (pass-silent _)
+    (pass-expects kinds.SmallO (expects kinds.SmallS (named p 39)) (pass-expects kinds.SmallS (named p 39) (pass-named p 39 refl)))) (pass-refused _))
 
 pass-entity : (p : Context) → Pass (entity_reference p)
 pass-entity p =
@@ -98,24 +100,29 @@ pass-equals q h = pass-concat _ _ pass-spaces (pass-concat _ _ (pass-silent _) (
 
 pass-value : (q : Quote) → Pass (value_part q)
 pass-value q =
-    pass-union _ _ (pass-tells (is_value_character q) (λ c. text_token (Value q) c ∷ []) (λ c h. text-told (Value q) c (allowed-kind c (value-allowed q (kind c) h))))
+    pass-union _ _ (pass-tells (is_value_character q) (λ c. text_token (Value q) c ∷ [])
+    (λ c h. text-told (Value q) c (allowed-kind c (value-allowed q (kind c) h))))
     (pass-union _ _ (pass-told kinds.Space (text_token (Value q) 32) (λ n e. text-may (Value q) 32 refl n)) (pass-reference (Value q)))
 
 pass-quoted : (q : Quote) → Pass (quoted q)
 pass-quoted q =
-    pass-concat _ _ (pass-told (quote q) token.ValueOpens (λ n e. (e, refl))) (pass-concat _ _ (pass-star _ (pass-value q)) (pass-told (quote q) token.ValueEnds (λ n e. (tt, refl))))
+    pass-concat _ _ (pass-told (quote q) token.ValueOpens (λ n e. (e, refl)))
+    (pass-concat _ _ (pass-star _ (pass-value q)) (pass-told (quote q) token.ValueEnds (λ n e. (tt, refl))))
 
 pass-attribute : Pass attribute_text
-pass-attribute = pass-concat _ _ (pass-silent _) (pass-concat _ _ pass-spaces (pass-concat _ _ (pass-name Attribute) (pass-equals _ (pass-union _ _ (pass-quoted Double) (pass-quoted Single)))))
+pass-attribute = pass-concat _ _ (pass-silent _)
+    (pass-concat _ _ pass-spaces (pass-concat _ _ (pass-name Attribute) (pass-equals _ (pass-union _ _ (pass-quoted Double) (pass-quoted Single)))))
 
 pass-tag_end : Pass tag_end
-pass-tag_end = pass-union _ _ (pass-told kinds.Greater (token.TagEnds false) (λ n e. (e, refl))) (pass-concat _ _ (pass-silent _) (pass-told kinds.Greater (token.TagEnds true) (λ n e. (e, refl))))
+pass-tag_end = pass-union _ _ (pass-told kinds.Greater (token.TagEnds false) (λ n e. (e, refl)))
+    (pass-concat _ _ (pass-silent _) (pass-told kinds.Greater (token.TagEnds true) (λ n e. (e, refl))))
 
 pass-tag : Pass tag
 pass-tag = pass-concat _ _ (pass-name StartTag) (pass-concat _ _ (pass-star _ pass-attribute) (pass-concat _ _ pass-spaces pass-tag_end))
 
 pass-end : Pass end_tag
-pass-end = pass-concat _ _ (pass-silent _) (pass-concat _ _ (pass-name EndTag) (pass-concat _ _ pass-spaces (pass-told kinds.Greater token.CloseEnds (λ n e. (e, refl)))))
+pass-end = pass-concat _ _ (pass-silent _)
+    (pass-concat _ _ (pass-name EndTag) (pass-concat _ _ pass-spaces (pass-told kinds.Greater token.CloseEnds (λ n e. (e, refl)))))
 
 -- CDATA.
 
@@ -124,13 +131,17 @@ pass-bracket = pass-star _ (pass-told kinds.RightBracket bracket (λ n e. (refl,
 
 pass-clump : Pass clump
 pass-clump =
-    pass-concat _ _ (pass-star _ (pass-union _ _ (pass-tells is_cdata (λ c. token.Word c ∷ []) (λ c h n e. ([], inl refl, (allowed-kind c (cdata-allowed (kind c) h), refl))))
-    (pass-concat _ _ (pass-silent _) (pass-tells is_cdata (λ c. bracket ∷ token.Word c ∷ []) (λ c h n e. ([], inl refl, (refl, (allowed-kind c (cdata-allowed (kind c) h), refl))))))))
+    pass-concat _ _ (pass-star _
+    (pass-union _ _ (pass-tells is_cdata (λ c. token.Word c ∷ []) (λ c h n e. ([], inl refl, (allowed-kind c (cdata-allowed (kind c) h), refl))))
+    (pass-concat _ _ (pass-silent _)
+    (pass-tells is_cdata (λ c. bracket ∷ token.Word c ∷ []) (λ c h n e. ([], inl refl, (refl, (allowed-kind c (cdata-allowed (kind c) h), refl))))))))
     (pass-concat _ _ (pass-silent _) (pass-concat _ _ (pass-silent _) pass-bracket))
 
 pass-clumps : Pass clumps
 pass-clumps =
-    pass-star _ (pass-concat _ _ (pass-tells is_cdata_after (λ c. bracket ∷ bracket ∷ token.Word c ∷ []) (λ c h n e. ([], inl refl, (refl, (refl, (allowed-kind c (cdata_after-allowed (kind c) h), refl)))))) pass-clump)
+    pass-star _ (pass-concat _ _
+    (pass-tells is_cdata_after (λ c. bracket ∷ bracket ∷ token.Word c ∷ [])
+    (λ c h n e. ([], inl refl, (refl, (refl, (allowed-kind c (cdata_after-allowed (kind c) h), refl)))))) pass-clump)
 
 pass-section : Pass section
 pass-section = pass-concat _ _ (pass-silent _) (pass-word (codes "CDATA[") _ (pass-concat _ _ pass-clump (pass-concat _ _ pass-clumps (pass-silent _))))
@@ -147,13 +158,16 @@ pass-one_bracket : Pass (told kinds.RightBracket bracket)
 pass-one_bracket = pass-told kinds.RightBracket bracket (λ n e. (refl, refl))
 
 pass-run : Pass run
-pass-run = pass-union _ _ pass-plain (pass-concat _ _ pass-one_bracket (pass-union _ _ pass-plain (pass-concat _ _ pass-one_bracket (pass-concat _ _ pass-bracket pass-plain_after))))
+pass-run = pass-union _ _ pass-plain
+    (pass-concat _ _ pass-one_bracket (pass-union _ _ pass-plain (pass-concat _ _ pass-one_bracket (pass-concat _ _ pass-bracket pass-plain_after))))
 
 pass-char_data : Pass char_data
 pass-char_data = pass-concat _ _ (pass-star _ pass-run) pass-bracket
 
 pass-markup : Pass markup
-pass-markup = pass-concat _ _ (pass-silent _) (pass-union _ _ pass-tag (pass-union _ _ pass-end (pass-union _ _ (pass-concat _ _ (pass-silent _) (pass-union _ _ pass-section (pass-refused _))) (pass-refused _))))
+pass-markup = pass-concat _ _ (pass-silent _)
+    (pass-union _ _ pass-tag (pass-union _ _ pass-end
+    (pass-union _ _ (pass-concat _ _ (pass-silent _) (pass-union _ _ pass-section (pass-refused _))) (pass-refused _))))
 
 pass-content : Pass content
 pass-content = pass-join char_data _ pass-char_data (pass-star _ (pass-concat _ _ (pass-union _ _ pass-markup (pass-reference Words)) pass-char_data))
@@ -167,7 +181,8 @@ pass-prolog : Pass prolog
 pass-prolog = pass-concat _ _ pass-spaces (pass-concat _ _ (pass-silent _) (pass-first_tag _))
 
 pass-declaration_end : Pass declaration_end
-pass-declaration_end = pass-concat _ _ pass-spaces (pass-concat _ _ (pass-silent _) (pass-concat _ _ (pass-told kinds.Greater token.Declaration (λ n e. (tt, refl))) pass-prolog))
+pass-declaration_end = pass-concat _ _ pass-spaces
+    (pass-concat _ _ (pass-silent _) (pass-concat _ _ (pass-told kinds.Greater token.Declaration (λ n e. (tt, refl))) pass-prolog))
 
 pass-choice : (q : Quote) → Pass (choice q)
 pass-choice q =
@@ -178,7 +193,8 @@ pass-quotes : (p : Quote → Expression) → ((q : Quote) → Pass (p q)) → Pa
 pass-quotes p h = pass-union _ _ (pass-concat _ (p Double) (pass-silent _) (h Double)) (pass-concat _ (p Single) (pass-silent _) (h Single))
 
 pass-standalone : Pass standalone
-pass-standalone = pass-concat _ _ (pass-silent _) (pass-concat _ _ pass-spaces (pass-concat _ _ (pass-silent _) (pass-word (codes "tandalone") _ (pass-equals _ (pass-quotes choice pass-choice)))))
+pass-standalone = pass-concat _ _ (pass-silent _)
+    (pass-concat _ _ pass-spaces (pass-concat _ _ (pass-silent _) (pass-word (codes "tandalone") _ (pass-equals _ (pass-quotes choice pass-choice)))))
 
 pass-of_charset : (P : Kind → ℕ → Bool) (q : Expression) → Pass q → Pass (expects_of_charset P q)
 pass-of_charset P q h = pass-union _ _ (pass-concat _ q (pass-silent P) h) (pass-concat _ _ (pass-refused_symbol (λ k c. not (P k c)) BadEncoding) pass-prolog)
@@ -192,19 +208,26 @@ pass-charset_end q = pass-of_charset _ _ (pass-union _ _ pass-standalone pass-de
 
 pass-encoding : Pass encoding
 pass-encoding =
-    pass-concat _ _ (pass-silent _) (pass-concat _ _ pass-spaces (pass-concat _ _ (pass-silent _) (pass-word (codes "ncoding") _ (pass-equals _ (pass-quotes charset_value (λ q. pass-charset (codes "utf-8") (charset_end q) (pass-charset_end q)))))))
+    pass-concat _ _ (pass-silent _)
+    (pass-concat _ _ pass-spaces
+    (pass-concat _ _ (pass-silent _)
+    (pass-word (codes "ncoding") _ (pass-equals _ (pass-quotes charset_value (λ q. pass-charset (codes "utf-8") (charset_end q) (pass-charset_end q)))))))
 
 pass-minor : (q : Quote) → Pass (rest_of_minor q)
-pass-minor q = pass-concat _ _ (pass-star _ (pass-silent _)) (pass-concat _ _ (pass-silent _) (pass-union _ _ pass-encoding (pass-union _ _ pass-standalone pass-declaration_end)))
+pass-minor q = pass-concat _ _ (pass-star _ (pass-silent _))
+    (pass-concat _ _ (pass-silent _) (pass-union _ _ pass-encoding (pass-union _ _ pass-standalone pass-declaration_end)))
 
 pass-version_value : (q : Quote) → Pass (version_value q)
 pass-version_value q = pass-word (codes "1.") _ (pass-concat _ _ (pass-silent _) (pass-minor q))
 
 pass-version : Pass version
-pass-version = pass-concat _ _ (pass-silent _) (pass-concat _ _ pass-spaces (pass-concat _ _ (pass-silent _) (pass-word (codes "ersion") _ (pass-equals _ (pass-quotes version_value pass-version_value)))))
+pass-version = pass-concat _ _ (pass-silent _)
+    (pass-concat _ _ pass-spaces
+    (pass-concat _ _ (pass-silent _) (pass-word (codes "ersion") _ (pass-equals _ (pass-quotes version_value pass-version_value)))))
 
 pass-declaration : Pass rest_of_declaration
 pass-declaration = pass-concat _ _ (pass-silent _) (pass-word (codes "xml") version pass-version)
 
 pub pass-document : Pass document
-pass-document = pass-union _ _ (pass-concat _ _ (pass-silent _) pass-declaration) (pass-union _ _ (pass-concat _ _ (pass-silent _) pass-prolog) (pass-concat _ _ (pass-silent _) (pass-first_tag _)))
+pass-document = pass-union _ _ (pass-concat _ _ (pass-silent _) pass-declaration)
+    (pass-union _ _ (pass-concat _ _ (pass-silent _) pass-prolog) (pass-concat _ _ (pass-silent _) (pass-first_tag _)))

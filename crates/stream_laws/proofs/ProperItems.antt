@@ -22,7 +22,8 @@ split-last b (c ∷ cs) = let (xs, d, e) = split-last c cs in (b ∷ xs, d, ap (
 
 top-of : (l : Limits) (bytes : List ℕ) (e : Element) → IsItem (rules_of l) bytes (item.Top e) → IsProper e
 top-of l bytes e (root, f, come, named, ends, (es, tops)) =
-    All-contains IsProper (tops_of root f) e (come-all (rules_of l) bytes root f come named) (subst (λ (xs : List Element). Contains xs e) (sym tops) (Contains-push es e))
+    All-contains IsProper (tops_of root f) e (come-all (rules_of l) bytes root f come named)
+    (subst (λ (xs : List Element). Contains xs e) (sym tops) (Contains-push es e))
 
 header-of : (l : Limits) (bytes : List ℕ) (e : Element) (space : List ℕ) → IsItem (rules_of l) bytes (item.Header e space) → IsProper e
 header-of l bytes e space (root, come, named, same, spaces) = subst IsProper (sym same) (header-proper (rules_of l) bytes root nothing come named)
@@ -37,12 +38,14 @@ top_proper l (b ∷ bs) e h = by (split-last b bs)
       | inr (k, f, other, is) ↦ absurd (cc)
     ]
 
-pub header_proper : (l : Limits) (bytes : List ℕ) (e : Element) (space : List ℕ) → waiting (went l first_reading bytes) ≡ Some (item.Header e space) → IsProper e
+pub header_proper : (l : Limits) (bytes : List ℕ) (e : Element) (space : List ℕ) → waiting (went l first_reading bytes) ≡ Some (item.Header e space)
+    → IsProper e
 header_proper l [] e space h = absurd (cc)
 header_proper l (b ∷ bs) e space h = by (split-last b bs)
   where
     by : ((xs : List ℕ) × (c : ℕ) × (b ∷ bs ≡ xs ++ c ∷ [])) → IsProper e
-    by (xs, c, same) = elim (item_or_fault l xs c (item.Header e space) (subst (λ (x : List ℕ). waiting (went l first_reading x) ≡ Some (item.Header e space)) same h)) [
-      | inl is ↦ header-of l (xs ++ c ∷ []) e space is
-      | inr (k, f, other, is) ↦ absurd (cc)
-    ]
+    by (xs, c, same) = elim (item_or_fault l xs c (item.Header e space)
+        (subst (λ (x : List ℕ). waiting (went l first_reading x) ≡ Some (item.Header e space)) same h)) [
+          | inl is ↦ header-of l (xs ++ c ∷ []) e space is
+          | inr (k, f, other, is) ↦ absurd (cc)
+        ]

@@ -52,7 +52,8 @@ from-value (x ∷ v) R m c = let (a, b) = from-value v R m c.1 in ((c.0, a), b)
 regroup-attribute : (o p e : Token) (n v R : List Token) → (o ∷ (n ++ (p ∷ (v ++ e ∷ [])))) ++ R ≡ o ∷ (n ++ (p ∷ (v ++ (e ∷ R))))
 regroup-attribute o p e n v R = simp append_assoc
 
-from-attributes : (xs : List RawAttribute) (n : List ℕ) (e : Bool) (R : List Token) (m : List ℕ) → From n (attributes_tokens xs ++ (token.TagEnds e ∷ R)) m → EndsName n × AllByRecursion IsReadAttribute xs × From [] R m
+from-attributes : (xs : List RawAttribute) (n : List ℕ) (e : Bool) (R : List Token) (m : List ℕ) → From n (attributes_tokens xs ++ (token.TagEnds e ∷ R)) m
+    → EndsName n × AllByRecursion IsReadAttribute xs × From [] R m
 from-attributes [] n e R m c = (c.0, tt, c.1)
 from-attributes (x ∷ xs) n e R m c =
     let more : List Token = attributes_tokens xs ++ (token.TagEnds e ∷ R) in
@@ -70,8 +71,10 @@ regroup-tag o e n a R = simp append_assoc
 
 pub from-tag : (t : RawTag) (e : Bool) (n : List ℕ) (R : List Token) (m : List ℕ) → From n (tag_tokens t e ++ R) m → IsReadTag t × From [] R m
 from-tag t e n R m c =
-    let d = subst (λ (l : List Token). From n l m) (regroup-tag (token.TagOpens t.name.0) (token.TagEnds e) (map token.NameByte t.name.1) (attributes_tokens t.attributes) R) c in
-    let (named, all, rest) = from-attributes t.attributes (t.name.0 ∷ t.name.1) e R m (from-name t.name.1 (t.name.0 ∷ []) (attributes_tokens t.attributes ++ (token.TagEnds e ∷ R)) m d.1) in
+    let d = subst (λ (l : List Token). From n l m)
+    (regroup-tag (token.TagOpens t.name.0) (token.TagEnds e) (map token.NameByte t.name.1) (attributes_tokens t.attributes) R) c in
+    let (named, all, rest) = from-attributes t.attributes (t.name.0 ∷ t.name.1) e R m
+    (from-name t.name.1 (t.name.0 ∷ []) (attributes_tokens t.attributes ++ (token.TagEnds e ∷ R)) m d.1) in
     ((whole-name t.name.0 t.name.1 named, all), rest)
 
 regroup-end : (o e : Token) (n R : List Token) → (o ∷ (n ++ e ∷ [])) ++ R ≡ o ∷ (n ++ (e ∷ R))
@@ -118,5 +121,6 @@ head-read bytes d root f r =
 pub stream-read : (bytes : List ℕ) (s : Stream) → Reads bytes (stream_tokens s) → IsReadTag s.root × IsRead s.content
 stream-read bytes s r =
     let (m, c) = reads-checks bytes (stream_tokens s) r in
-    let (tagged, x) = from-tag s.root false [] (content_tokens s.content ++ end_tokens s.root.name) m (from-declaration s.declared (tag_tokens s.root false ++ (content_tokens s.content ++ end_tokens s.root.name)) m c) in
+    let (tagged, x) = from-tag s.root false [] (content_tokens s.content ++ end_tokens s.root.name) m
+    (from-declaration s.declared (tag_tokens s.root false ++ (content_tokens s.content ++ end_tokens s.root.name)) m c) in
     (tagged, (from-content s.content (end_tokens s.root.name) m x).0)

@@ -37,7 +37,8 @@ every-nodes (n ∷ ns) h = (every-node n h.0, every-nodes ns h.1)
 node-every : (n : Node) → IsEvery n → IsProperNode (out-Node n)
 node-every n every = let (x, e) = every_held-Node (λ m. Unit {0}) IsProperPart n every in by x e
   where
-    by : (x : Node-F ((m : Node) × IsEvery m) ((e : Element) × IsProper e)) → map-Node ((m : Node) × IsEvery m) ((e : Element) × IsProper e) Node Element (λ y. y.0) (λ y. y.0) x ≡ out-Node n → IsProperNode (out-Node n)
+    by : (x : Node-F ((m : Node) × IsEvery m) ((e : Element) × IsProper e))
+        → map-Node ((m : Node) × IsEvery m) ((e : Element) × IsProper e) Node Element (λ y. y.0) (λ y. y.0) x ≡ out-Node n → IsProperNode (out-Node n)
     by (Child c) e = subst IsProperNode e c.1
     by (Words w) e = subst IsProperNode e tt
 
@@ -95,16 +96,20 @@ ascii-text bytes h = let (e, all) = parts bytes h in (bytes, e, all)
 abbrev one_attr : List ℕ → List ℕ → Attr
 one_attr local value = record { name = record { space = []; local = local }; value = value }
 
-with-attributes : (local value : List ℕ) (attrs : List Attr) → IsAttribute (one_attr local value) → AllByRecursion IsAttribute attrs → AllByRecursion IsAttribute (with_attr local value attrs)
+with-attributes : (local value : List ℕ) (attrs : List Attr) → IsAttribute (one_attr local value) → AllByRecursion IsAttribute attrs
+    → AllByRecursion IsAttribute (with_attr local value attrs)
 with-attributes local value [] is all = (is, tt)
 with-attributes local value (a ∷ more) is all =
-    cond_both (is_named local a) (record a { value = value } ∷ more) (a ∷ with_attr local value more) (AllByRecursion IsAttribute) (λ e. ((all.0.0, all.0.1, is.2, all.0.3, all.0.4), all.1))
+    cond_both (is_named local a) (record a { value = value } ∷ more) (a ∷ with_attr local value more) (AllByRecursion IsAttribute)
+    (λ e. ((all.0.0, all.0.1, is.2, all.0.3, all.0.4), all.1))
     (λ e. (all.0, with-attributes local value more is all.1))
 
-with-other : (local value : List ℕ) (a : Attr) (attrs : List Attr) → is_named local a ≡ false → AllByRecursion (λ b. same_name a b ≡ false) attrs → AllByRecursion (λ b. same_name a b ≡ false) (with_attr local value attrs)
+with-other : (local value : List ℕ) (a : Attr) (attrs : List Attr) → is_named local a ≡ false → AllByRecursion (λ b. same_name a b ≡ false) attrs
+    → AllByRecursion (λ b. same_name a b ≡ false) (with_attr local value attrs)
 with-other local value a [] e all = (e, tt)
 with-other local value a (b ∷ more) e all =
-    cond_both (is_named local b) (record b { value = value } ∷ more) (b ∷ with_attr local value more) (AllByRecursion (λ b. same_name a b ≡ false)) (λ f. all) (λ f. (all.0, with-other local value a more e all.1))
+    cond_both (is_named local b) (record b { value = value } ∷ more) (b ∷ with_attr local value more) (AllByRecursion (λ b. same_name a b ≡ false)) (λ f. all)
+    (λ f. (all.0, with-other local value a more e all.1))
 
 with-distinct : (local value : List ℕ) (attrs : List Attr) → IsDistinct same_name attrs → IsDistinct same_name (with_attr local value attrs)
 unfolding IsDistinct
@@ -115,7 +120,8 @@ with-distinct local value (a ∷ more) d =
 
 without-all : (P : Attr → Type 0) (local : List ℕ) (attrs : List Attr) → AllByRecursion P attrs → AllByRecursion P (without_attr local attrs)
 without-all P local [] all = tt
-without-all P local (a ∷ more) all = cond_both (is_named local a) (without_attr local more) (a ∷ without_attr local more) (AllByRecursion P) (λ e. without-all P local more all.1) (λ e. (all.0, without-all P local more all.1))
+without-all P local (a ∷ more) all = cond_both (is_named local a) (without_attr local more) (a ∷ without_attr local more) (AllByRecursion P)
+    (λ e. without-all P local more all.1) (λ e. (all.0, without-all P local more all.1))
 
 without-distinct : (local : List ℕ) (attrs : List Attr) → IsDistinct same_name attrs → IsDistinct same_name (without_attr local attrs)
 unfolding IsDistinct
@@ -124,11 +130,13 @@ without-distinct local (a ∷ more) d =
     cond_both (is_named local a) (without_attr local more) (a ∷ without_attr local more) (IsDistinct same_name) (λ e. without-distinct local more d.1)
     (λ e. (without-all (λ b. same_name a b ≡ false) local more d.0, without-distinct local more d.1))
 
-pub with-proper : (local value : List ℕ) (e : Element) → IsNcName local → bytes_eq local (codes "xmlns") ≡ false → IsXmlText value → IsProper e → IsProper (record e { attrs = with_attr local value e.attrs })
+pub with-proper : (local value : List ℕ) (e : Element) → IsNcName local → bytes_eq local (codes "xmlns") ≡ false → IsXmlText value → IsProper e
+    → IsProper (record e { attrs = with_attr local value e.attrs })
 with-proper local value e n other v proper =
     let p : IsProperInParts e = in-parts e proper in
     let is : IsAttribute (one_attr local value) = (n, ([], refl, tt), v, refl, and-first (bytes_eq local (codes "xmlns")) true other) in
-    from-parts (record e { attrs = with_attr local value e.attrs }) (p.0, with-attributes local value e.attrs is p.1, with-distinct local value e.attrs p.2, p.3, p.4)
+    from-parts (record e { attrs = with_attr local value e.attrs })
+    (p.0, with-attributes local value e.attrs is p.1, with-distinct local value e.attrs p.2, p.3, p.4)
   where
     and-first : (s t : Bool) → s ≡ false → (s && t) ≡ false
     and-first true t e = false-true (sym e)
@@ -140,4 +148,5 @@ without-proper local e proper =
     from-parts (record e { attrs = without_attr local e.attrs }) (p.0, without-all IsAttribute local e.attrs p.1, without-distinct local e.attrs p.2, p.3, p.4)
 
 pub sent-proper : (from : List ℕ) (e : Element) → IsXmlText from → IsProper e → IsProper (sent_by from e)
-sent-proper from e x proper = with-proper (codes "from") from (record e { attrs = without_attr (codes "to") e.attrs }) (ascii-name (codes "from") refl) refl x (without-proper (codes "to") e proper)
+sent-proper from e x proper = with-proper (codes "from") from (record e { attrs = without_attr (codes "to") e.attrs }) (ascii-name (codes "from") refl) refl x
+    (without-proper (codes "to") e proper)

@@ -87,8 +87,12 @@ own-fair (x ∷ xs) r h =
     let name : List ℕ = x.name.0 ∷ x.name.1 in
     let value : List ℕ = encode_utf8_all x.value in
     let (fair, more) = or-false (is_forbidden (record { name = x.name.0 ∷ x.name.1; value = encode_utf8_all x.value })) (has_forbidden (written xs)) h in
-    cond_both (is_declaration name) (record { prefix = declared_prefix name; space = value } ∷ own (written xs)) (own (written xs)) (AllByRecursion IsFairBinding)
-    (λ d. (may-fair (declared_prefix name) value (x.value, refl, r.0.1) (allowed (is_declaration name) (may_declare (declared_prefix name) value) fair d), own-fair xs r.1 more))
+    cond_both (is_declaration name) (record { prefix = declared_prefix name; space = value } ∷ own (written xs)) (own (written xs))
+    (AllByRecursion IsFairBinding)
+    (λ d. (
+      may-fair (declared_prefix name) value (x.value, refl, r.0.1) (allowed (is_declaration name) (may_declare (declared_prefix name) value) fair d),
+      own-fair xs r.1 more,
+    ))
     (λ d. own-fair xs r.1 more)
 
 last_space-fair : (g : Option (List ℕ)) (l : List Binding) (p : List ℕ) → IsFound p g → AllByRecursion IsFairBinding l → IsFound p (last_space g l p)
@@ -119,16 +123,20 @@ xml-fair = ((xml_space, refl, xml_all), refl, inr refl)
 
 before-fair : (p : List ℕ) → IsFound p (space_before p)
 before-fair p =
-    cond_both (bytes_eq p []) (Some []) (if bytes_eq p (codes "xml") then Some xml_space else None) (IsFound p) (λ h. subst (λ (q : List ℕ). IsFair q []) (sym (same-bytes p [] h)) (([], refl, tt), refl, inl refl))
-    (λ h. cond_both (bytes_eq p (codes "xml")) (Some xml_space) None (IsFound p) (λ e. subst (λ (q : List ℕ). IsFair q xml_space) (sym (same-bytes p (codes "xml") e)) xml-fair) (λ e. tt))
+    cond_both (bytes_eq p []) (Some []) (if bytes_eq p (codes "xml") then Some xml_space else None) (IsFound p)
+    (λ h. subst (λ (q : List ℕ). IsFair q []) (sym (same-bytes p [] h)) (([], refl, tt), refl, inl refl))
+    (λ h. cond_both (bytes_eq p (codes "xml")) (Some xml_space) None (IsFound p)
+    (λ e. subst (λ (q : List ℕ). IsFair q xml_space) (sym (same-bytes p (codes "xml") e)) xml-fair) (λ e. tt))
 
 pub space-fair : (L : List (List Binding)) (p : List ℕ) → AreFair L → IsFound p (space_of L p)
-space-fair L p e = cond_both (bytes_eq p (codes "xmlns")) None (last_layer (space_before p) L p) (IsFound p) (λ h. tt) (λ h. last_layer-fair (space_before p) L p (before-fair p) e)
+space-fair L p e = cond_both (bytes_eq p (codes "xmlns")) None (last_layer (space_before p) L p) (IsFound p) (λ h. tt)
+    (λ h. last_layer-fair (space_before p) L p (before-fair p) e)
 
 -- Names.
 
 abbrev IsParted : List ℕ → Type 0
-IsParted name = IsNcName (local_of name) × ((has_prefix name ≡ false) × (local_of name ≡ name) ⊎ (has_prefix name ≡ true) × (bytes_eq (prefix_of name) [] ≡ false))
+IsParted name = IsNcName (local_of name)
+    × ((has_prefix name ≡ false) × (local_of name ≡ name) ⊎ (has_prefix name ≡ true) × (bytes_eq (prefix_of name) [] ≡ false))
 
 qname-parts : (name : List ℕ) → IsQName name → IsParted name
 qname-parts name (inl n) =
@@ -142,10 +150,12 @@ qname-parts name (inr (p, l, e, n, m)) =
     some : ((b : ℕ) × (bs : List ℕ) × (p ≡ b ∷ bs)) → bytes_eq p [] ≡ false
     some (b, bs, e) = ap (λ (x : List ℕ). bytes_eq x []) e
 
-pub name-proper : (L : List (List Binding)) (name : List ℕ) → AreFair L → IsQName name → is_unbound (space_of L (prefix_of name)) ≡ false → is_bound_to (space_of L (prefix_of name)) xml_space ≡ false → IsElementName (name_on L name)
+pub name-proper : (L : List (List Binding)) (name : List ℕ) → AreFair L → IsQName name → is_unbound (space_of L (prefix_of name)) ≡ false
+    → is_bound_to (space_of L (prefix_of name)) xml_space ≡ false → IsElementName (name_on L name)
 name-proper L name fair q bound other = by (space_of L (prefix_of name)) (space-fair L (prefix_of name) fair) bound other
   where
-    by : (o : Option (List ℕ)) → IsFound (prefix_of name) o → is_unbound o ≡ false → is_bound_to o xml_space ≡ false → IsElementName (record { space = or_none o; local = local_of name })
+    by : (o : Option (List ℕ)) → IsFound (prefix_of name) o → is_unbound o ≡ false → is_bound_to o xml_space ≡ false
+        → IsElementName (record { space = or_none o; local = local_of name })
     by None f b x = false-true (sym b)
     by (Some s) f b x = ((qname-parts name q).0, f.0, x, f.1)
 
@@ -159,7 +169,8 @@ and-later : (s t : Bool) → t ≡ false → (s && t) ≡ false
 and-later true t e = e
 and-later false t e = refl
 
-attribute-proper : (L : List (List Binding)) (w : Written) → AreFair L → IsQName w.name → IsXmlText w.value → is_declaration w.name ≡ false → is_unbound (attribute_space L w.name) ≡ false → IsAttribute (attr_on L w)
+attribute-proper : (L : List (List Binding)) (w : Written) → AreFair L → IsQName w.name → IsXmlText w.value → is_declaration w.name ≡ false
+    → is_unbound (attribute_space L w.name) ≡ false → IsAttribute (attr_on L w)
 attribute-proper L w fair q v d bound = by (qname-parts w.name q).1
   where
     local_is : IsNcName (local_of w.name)
@@ -173,11 +184,19 @@ attribute-proper L w fair q v d bound = by (qname-parts w.name q).1
     prefixed (Some s) (x, other, inl h) b e = absurd (true-false h e)
     prefixed (Some s) (x, other, inr h) b e = (local_is, x, v, other, and-later (bytes_eq (local_of w.name) (codes "xmlns")) (bytes_eq s []) h)
 
-    by : ((has_prefix w.name ≡ false) × (local_of w.name ≡ w.name) ⊎ (has_prefix w.name ≡ true) × (bytes_eq (prefix_of w.name) [] ≡ false)) → IsAttribute (attr_on L w)
+    by : ((has_prefix w.name ≡ false) × (local_of w.name ≡ w.name) ⊎ (has_prefix w.name ≡ true) × (bytes_eq (prefix_of w.name) [] ≡ false))
+        → IsAttribute (attr_on L w)
     by (inl (b, l)) =
         let here : attribute_space L w.name ≡ Some [] = cond-false _ _ _ d ∙ cond-false _ _ _ b in
         let plain : bytes_eq w.name (codes "xmlns") ≡ false = sym (cond-false _ _ _ b) ∙ d in
-        subst Of (sym here) (local_is, ([], refl, tt), v, refl, and-first (bytes_eq (local_of w.name) (codes "xmlns")) true (ap (λ (x : List ℕ). bytes_eq x (codes "xmlns")) l ∙ plain))
+        subst Of (sym here) (
+          local_is,
+          ([], refl, tt),
+          v,
+          refl,
+          and-first (bytes_eq (local_of w.name) (codes "xmlns")) true
+              (ap (λ (x : List ℕ). bytes_eq x (codes "xmlns")) l ∙ plain),
+        )
     by (inr (b, e)) =
         let here : attribute_space L w.name ≡ space_of L (prefix_of w.name) = cond-false _ _ _ d ∙ cond-true _ _ _ b in
         subst Of (sym here) (prefixed (space_of L (prefix_of w.name)) (space-fair L (prefix_of w.name) fair) (ap is_unbound (sym here) ∙ bound) e)
@@ -190,7 +209,8 @@ pub written-read : (xs : List RawAttribute) → AllByRecursion IsReadAttribute x
 written-read [] r = tt
 written-read (x ∷ xs) r = ((r.0.0, (x.value, refl, r.0.1)), written-read xs r.1)
 
-pub attributes-proper : (L : List (List Binding)) (ws : List Written) → AreFair L → AreRead ws → has_unbound L ws ≡ false → AllByRecursion IsAttribute (attrs_on L ws)
+pub attributes-proper : (L : List (List Binding)) (ws : List Written) → AreFair L → AreRead ws → has_unbound L ws ≡ false
+    → AllByRecursion IsAttribute (attrs_on L ws)
 attributes-proper L [] fair r h = tt
 attributes-proper L (w ∷ ws) fair r h =
     let (bound, more) = or-false (is_unbound (attribute_space L w.name)) (has_unbound L ws) h in
@@ -198,7 +218,8 @@ attributes-proper L (w ∷ ws) fair r h =
     (λ d. (attribute-proper L w fair r.0.0 r.0.1 d bound, attributes-proper L ws fair r.1 more))
 
 -- two attributes that are bound, and no twins
-twin-other : (L : List (List Binding)) (w v : Written) → is_unbound (attribute_space L w.name) ≡ false → is_unbound (attribute_space L v.name) ≡ false → is_twin L w v ≡ false → same_name (attr_on L w) (attr_on L v) ≡ false
+twin-other : (L : List (List Binding)) (w v : Written) → is_unbound (attribute_space L w.name) ≡ false → is_unbound (attribute_space L v.name) ≡ false
+    → is_twin L w v ≡ false → same_name (attr_on L w) (attr_on L v) ≡ false
 twin-other L w v a b h = by (attribute_space L w.name) (attribute_space L v.name) a b h
   where
     turned : (t : Bool) (s u : List ℕ) → (t && bytes_eq u s) ≡ false → (t && bytes_eq s u) ≡ false
@@ -211,12 +232,14 @@ twin-other L w v a b h = by (attribute_space L w.name) (attribute_space L v.name
     by (Some s) None a b h = false-true (sym b)
     by (Some s) (Some t) a b h = turned (bytes_eq (local_of w.name) (local_of v.name)) s t h
 
-other-each : (L : List (List Binding)) (w : Written) (ws : List Written) → is_unbound (attribute_space L w.name) ≡ false → has_unbound L ws ≡ false → has_twin L w ws ≡ false → AllByRecursion (λ b. same_name (attr_on L w) b ≡ false) (attrs_on L ws)
+other-each : (L : List (List Binding)) (w : Written) (ws : List Written) → is_unbound (attribute_space L w.name) ≡ false → has_unbound L ws ≡ false
+    → has_twin L w ws ≡ false → AllByRecursion (λ b. same_name (attr_on L w) b ≡ false) (attrs_on L ws)
 other-each L w [] a u h = tt
 other-each L w (v ∷ ws) a u h =
     let (bound, more) = or-false (is_unbound (attribute_space L v.name)) (has_unbound L ws) u in
     let (here, later) = or-false (is_twin L w v) (has_twin L w ws) h in
-    cond_both (is_declaration v.name) (attrs_on L ws) (attr_on L v ∷ attrs_on L ws) (AllByRecursion (λ b. same_name (attr_on L w) b ≡ false)) (λ d. other-each L w ws a more later)
+    cond_both (is_declaration v.name) (attrs_on L ws) (attr_on L v ∷ attrs_on L ws) (AllByRecursion (λ b. same_name (attr_on L w) b ≡ false))
+    (λ d. other-each L w ws a more later)
     (λ d. (twin-other L w v a bound here, other-each L w ws a more later))
 
 attributes-distinct : (L : List (List Binding)) (ws : List Written) → has_unbound L ws ≡ false → has_twins L ws ≡ false → IsDistinct same_name (attrs_on L ws)
@@ -239,9 +262,11 @@ unfolding pairs
 pairs-are P [] e = refl
 pairs-are P (n ∷ ns) e = ap (λ (l : List Node). n ∷ l) (pairs-are P ns e.1)
 
-pub made : (name : Name) (attrs : List Attr) (ns : List Node) → IsElementName name → AllByRecursion IsAttribute attrs → IsDistinct same_name attrs → AreJoined false ns → AllByRecursion IsEvery ns → IsProper (record { name = name; attrs = attrs; children = ns })
+pub made : (name : Name) (attrs : List Attr) (ns : List Node) → IsElementName name → AllByRecursion IsAttribute attrs → IsDistinct same_name attrs
+    → AreJoined false ns → AllByRecursion IsEvery ns → IsProper (record { name = name; attrs = attrs; children = ns })
 made name attrs ns a b c d each =
-    every_made-Element (λ m. Unit {0}) IsProperPart (record { name = name; attrs = attrs; children = ns }) (record { name = name; attrs = attrs; children = pairs IsEvery ns each })
+    every_made-Element (λ m. Unit {0}) IsProperPart (record { name = name; attrs = attrs; children = ns })
+    (record { name = name; attrs = attrs; children = pairs IsEvery ns each })
     (ap (λ (l : List Node). record { name = name; attrs = attrs; children = l }) (pairs-are IsEvery ns each)) (a, b, c, d)
 
 pub child-proper : (e : Element) → IsProper e → IsEvery (roll-Node (Child e))
@@ -259,47 +284,59 @@ joined-child after_words e ns j = subst (λ (x : Node-F Node Element). IsJoined 
 
 joined-words : (words : List ℕ) (ns : List Node) → IsXmlText words → ((a : Bool) → AreJoined a ns) → AreJoined false (with_words words ns)
 joined-words [] ns x j = j false
-joined-words (b ∷ bs) ns x j = subst (λ (y : Node-F Node Element). IsJoined false y (λ a. AreJoined a ns)) (sym (out-roll-Node (Words (b ∷ bs)))) (refl, x, refl, j true)
+joined-words (b ∷ bs) ns x j = subst (λ (y : Node-F Node Element). IsJoined false y (λ a. AreJoined a ns)) (sym (out-roll-Node (Words (b ∷ bs))))
+    (refl, x, refl, j true)
 
 encode-more : (cs : List ℕ) (c : ℕ) → encode_utf8_all (cs ++ c ∷ []) ≡ encode_utf8_all cs ++ encode_utf8 c
 encode-more [] c = append-nil (encode_utf8 c)
 encode-more (d ∷ cs) c = ap (λ (l : List ℕ). encode_utf8 d ++ l) (encode-more cs c) ∙ sym (append_assoc (encode_utf8 d) (encode_utf8_all cs) (encode_utf8 c))
 
 longer : (words : List ℕ) (c : ℕ) → IsXmlText words → is_xml c ≡ true → IsXmlText (words ++ encode_utf8 c)
-longer words c (cs, e, x) h = (cs ++ c ∷ [], encode-more cs c ∙ ap (λ (l : List ℕ). l ++ encode_utf8 c) e, each-append (λ d. is_xml d ≡ true) cs (c ∷ []) x (h, tt))
+longer words c (cs, e, x) h =
+    (cs ++ c ∷ [], encode-more cs c ∙ ap (λ (l : List ℕ). l ++ encode_utf8 c) e, each-append (λ d. is_xml d ≡ true) cs (c ∷ []) x (h, tt))
 
 -- Elements.
 
 pub inside-fair : (L : List (List Binding)) (t : RawTag) → AreFair L → IsReadTag t → fault_of_tag L (whole_tag t) ≡ None → AreFair (inside_of L (whole_tag t))
 inside-fair L t fair r sound =
-    let s : IsSoundTag (inside_of L (whole_tag t)) (t.name.0 ∷ t.name.1) (written t.attributes) = sound-tag (inside_of L (whole_tag t)) (t.name.0 ∷ t.name.1) (written t.attributes) sound in
+    let s : IsSoundTag (inside_of L (whole_tag t)) (t.name.0 ∷ t.name.1) (written t.attributes) =
+    sound-tag (inside_of L (whole_tag t)) (t.name.0 ∷ t.name.1) (written t.attributes) sound in
     each-append (AllByRecursion IsFairBinding) L (own (written t.attributes) ∷ []) fair (own-fair t.attributes r.1 s.declared, tt)
 
-tag-proper : (L : List (List Binding)) (t : RawTag) (ns : List Node) → AreFair L → IsReadTag t → fault_of_tag L (whole_tag t) ≡ None → AreJoined false ns → AllByRecursion IsEvery ns → IsProper (element_with (inside_of L (whole_tag t)) (whole_tag t) ns)
+tag-proper : (L : List (List Binding)) (t : RawTag) (ns : List Node) → AreFair L → IsReadTag t → fault_of_tag L (whole_tag t) ≡ None → AreJoined false ns
+    → AllByRecursion IsEvery ns → IsProper (element_with (inside_of L (whole_tag t)) (whole_tag t) ns)
 tag-proper L t ns fair r sound j each =
     let M : List (List Binding) = inside_of L (whole_tag t) in
     let s : IsSoundTag M (t.name.0 ∷ t.name.1) (written t.attributes) = sound-tag M (t.name.0 ∷ t.name.1) (written t.attributes) sound in
     let inner : AreFair M = inside-fair L t fair r sound in
     made (name_on M (t.name.0 ∷ t.name.1)) (attrs_on M (written t.attributes)) ns (name-proper M (t.name.0 ∷ t.name.1) inner r.0 s.bound s.element)
-    (attributes-proper M (written t.attributes) inner (written-read t.attributes r.1) s.all_bound) (attributes-distinct M (written t.attributes) s.all_bound s.distinct) j each
+    (attributes-proper M (written t.attributes) inner (written-read t.attributes r.1) s.all_bound)
+    (attributes-distinct M (written t.attributes) s.all_bound s.distinct) j each
 
 abbrev AreProperNodes : List Node → Type 0
 AreProperNodes ns = AreJoined false ns × AllByRecursion IsEvery ns
 
-nodes-proper : (L : List (List Binding)) (words : List ℕ) (f : Content) → AreFair L → IsXmlText words → IsRead f → AreNamed L f → AreProperNodes (nodes_on L words f)
+nodes-proper : (L : List (List Binding)) (words : List ℕ) (f : Content) → AreFair L → IsXmlText words → IsRead f → AreNamed L f
+    → AreProperNodes (nodes_on L words f)
 nodes-proper L words nothing fair x r n = (joined-words words [] x (λ a. tt), with-proper words [] tt)
 nodes-proper L words (word c f) fair x r n = nodes-proper L (words ++ encode_utf8 c) f fair (longer words c x r.0) r.1 n
 nodes-proper L words (element t g f) fair x r n =
     let M : List (List Binding) = inside_of L (whole_tag t) in
     let (joined, each) = nodes-proper M [] g (inside-fair L t fair r.0 n.0) ([], refl, tt) r.1.0 n.1.0 in
     let e : IsProper (element_with M (whole_tag t) (nodes_on M [] g)) = tag-proper L t (nodes_on M [] g) fair r.0 n.0 joined each in
-    let (later, all) = nodes-proper L [] f fair ([], refl, tt) r.1.1 n.1.1 in
-    (joined-words words _ x (λ a. joined-child a (element_with M (whole_tag t) (nodes_on M [] g)) (nodes_on L [] f) later), with-proper words _ (child-proper (element_with M (whole_tag t) (nodes_on M [] g)) e, all))
+    let (later, all) = nodes-proper L [] f fair ([], refl, tt) r.1.1 n.1.1 in (
+      joined-words words _ x (λ a. joined-child a (element_with M (whole_tag t) (nodes_on M [] g)) (nodes_on L [] f) later),
+      with-proper words _
+          (child-proper (element_with M (whole_tag t) (nodes_on M [] g)) e, all),
+    )
 nodes-proper L words (hollow t f) fair x r n =
     let M : List (List Binding) = inside_of L (whole_tag t) in
     let e : IsProper (element_with M (whole_tag t) []) = tag-proper L t [] fair r.0 n.0 tt tt in
-    let (later, all) = nodes-proper L [] f fair ([], refl, tt) r.1 n.1 in
-    (joined-words words _ x (λ a. joined-child a (element_with M (whole_tag t) []) (nodes_on L [] f) later), with-proper words _ (child-proper (element_with M (whole_tag t) []) e, all))
+    let (later, all) = nodes-proper L [] f fair ([], refl, tt) r.1 n.1 in (
+      joined-words words _ x (λ a. joined-child a (element_with M (whole_tag t) []) (nodes_on L [] f) later),
+      with-proper words _
+          (child-proper (element_with M (whole_tag t) []) e, all),
+    )
 
 elements-proper : (L : List (List Binding)) (f : Content) → AreFair L → IsRead f → AreNamed L f → AllByRecursion IsProper (elements_on L f)
 elements-proper L nothing fair r n = tt
@@ -321,7 +358,8 @@ tops-proper r bytes s (read_text, after, e, spaces, (reads, short, keeps)) named
     elements-proper (inside_of outside_all (whole_tag s.root)) s.content (inside-fair outside_all s.root first-fair root_read named.0) all named.1
 
 -- the top elements that have come, and the header
-pub come-proper : (r : Rules) (bytes : List ℕ) (root : RawTag) (f : Content) → HasCome r bytes root f → IsNamed root f → AllByRecursion IsProper (tops_of root f)
+pub come-proper : (r : Rules) (bytes : List ℕ) (root : RawTag) (f : Content) → HasCome r bytes root f → IsNamed root f
+    → AllByRecursion IsProper (tops_of root f)
 come-proper r bytes root f (d, reads, short, keeps) named =
     let (root_read, all) = head-read bytes d root f reads in
     elements-proper (inside_of outside_all (whole_tag root)) f (inside-fair outside_all root first-fair root_read named.0) all named.1

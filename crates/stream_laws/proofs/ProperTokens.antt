@@ -79,7 +79,8 @@ pub pass-union : (p q : Expression) → Pass p → Pass q → Pass (union p q)
 unfolding IsText
 pass-union p q a b = λ n e cs ms s. elim s [ inl l ↦ a n e cs ms l | inr r ↦ b n e cs ms r ]
 
-pass-times : (p : Expression) (k : ℕ) (n : List ℕ) (cs : List ℕ) (ms : List Sign) → Pass p → EndsName n → Times (IsText p) k cs ms → (m : List ℕ) × EndsName m × Checks n ms m
+pass-times : (p : Expression) (k : ℕ) (n : List ℕ) (cs : List ℕ) (ms : List Sign) → Pass p → EndsName n → Times (IsText p) k cs ms
+    → (m : List ℕ) × EndsName m × Checks n ms m
 pass-times p zero n cs ms a e (f, g) = (n, e, subst (λ (l : List Sign). Checks n l n) (sym g) refl)
 pass-times p (suc k) n cs ms a e (c, xs, us, ys, vs, l, r, f, g) =
     let (m, h, x) = a n e (c ∷ xs) us l in
@@ -149,19 +150,29 @@ all-allowed_low = refl
 wide-starts : (c : ℕ) → (is_name_start (wide_kind c) || is_wide_name_start (wide_kind c)) ≡ true → starts_name c ≡ true
 unfolding wide_kind
 wide-starts c =
-    cond_both (has_between name_starts c c) kinds.WideStart (if has_between name_characters c c then kinds.WideName else (if has_between characters c c then kinds.WideOther else kinds.WideRefused)) (λ (k : Kind). (is_name_start k || is_wide_name_start k) ≡ true → starts_name c ≡ true)
+    cond_both (has_between name_starts c c) kinds.WideStart
+    (if has_between name_characters c c then kinds.WideName else (if has_between characters c c then kinds.WideOther else kinds.WideRefused))
+    (λ (k : Kind). (is_name_start k || is_wide_name_start k) ≡ true → starts_name c ≡ true)
     (λ e h. or-later (nat_le 65 c && nat_le c 90) _ (or-later (c == 95) _ (or-later (nat_le 97 c && nat_le c 122) (has_between name_starts c c) e)))
-    (λ e. cond_both (has_between name_characters c c) kinds.WideName (if has_between characters c c then kinds.WideOther else kinds.WideRefused) (λ (k : Kind). (is_name_start k || is_wide_name_start k) ≡ true → starts_name c ≡ true) (λ f h. false-true h)
-    (λ f. cond_both (has_between characters c c) kinds.WideOther kinds.WideRefused (λ (k : Kind). (is_name_start k || is_wide_name_start k) ≡ true → starts_name c ≡ true) (λ g h. false-true h) (λ g h. false-true h)))
+    (λ e. cond_both (has_between name_characters c c) kinds.WideName (if has_between characters c c then kinds.WideOther else kinds.WideRefused)
+    (λ (k : Kind). (is_name_start k || is_wide_name_start k) ≡ true → starts_name c ≡ true) (λ f h. false-true h)
+    (λ f. cond_both (has_between characters c c) kinds.WideOther kinds.WideRefused (λ (k : Kind). (is_name_start k || is_wide_name_start k) ≡ true
+    → starts_name c ≡ true) (λ g h. false-true h) (λ g h. false-true h)))
 
 wide-further : (c : ℕ) → (is_name_further (wide_kind c) || is_wide_name_further (wide_kind c)) ≡ true → continues_name c ≡ true
 unfolding wide_kind
 wide-further c =
-    cond_both (has_between name_starts c c) kinds.WideStart (if has_between name_characters c c then kinds.WideName else (if has_between characters c c then kinds.WideOther else kinds.WideRefused)) (λ (k : Kind). (is_name_further k || is_wide_name_further k) ≡ true → continues_name c ≡ true)
-    (λ e h. start-continues c (or-later (nat_le 65 c && nat_le c 90) _ (or-later (c == 95) _ (or-later (nat_le 97 c && nat_le c 122) (has_between name_starts c c) e))))
-    (λ e. cond_both (has_between name_characters c c) kinds.WideName (if has_between characters c c then kinds.WideOther else kinds.WideRefused) (λ (k : Kind). (is_name_further k || is_wide_name_further k) ≡ true → continues_name c ≡ true)
-    (λ f h. or-later (starts_name c) _ (or-later (c == 45) _ (or-later (c == 46) _ (or-later (nat_le 48 c && nat_le c 57) (has_between name_characters c c) f))))
-    (λ f. cond_both (has_between characters c c) kinds.WideOther kinds.WideRefused (λ (k : Kind). (is_name_further k || is_wide_name_further k) ≡ true → continues_name c ≡ true) (λ g h. false-true h) (λ g h. false-true h)))
+    cond_both (has_between name_starts c c) kinds.WideStart
+    (if has_between name_characters c c then kinds.WideName else (if has_between characters c c then kinds.WideOther else kinds.WideRefused))
+    (λ (k : Kind). (is_name_further k || is_wide_name_further k) ≡ true → continues_name c ≡ true)
+    (λ e h. start-continues c
+    (or-later (nat_le 65 c && nat_le c 90) _ (or-later (c == 95) _ (or-later (nat_le 97 c && nat_le c 122) (has_between name_starts c c) e))))
+    (λ e. cond_both (has_between name_characters c c) kinds.WideName (if has_between characters c c then kinds.WideOther else kinds.WideRefused)
+    (λ (k : Kind). (is_name_further k || is_wide_name_further k) ≡ true → continues_name c ≡ true)
+    (λ f h. or-later (starts_name c) _
+    (or-later (c == 45) _ (or-later (c == 46) _ (or-later (nat_le 48 c && nat_le c 57) (has_between name_characters c c) f))))
+    (λ f. cond_both (has_between characters c c) kinds.WideOther kinds.WideRefused (λ (k : Kind). (is_name_further k || is_wide_name_further k) ≡ true
+    → continues_name c ≡ true) (λ g h. false-true h) (λ g h. false-true h)))
 
 or-first : (s t : Bool) → s ≡ true → (s || t) ≡ true
 or-first true t e = refl
@@ -213,11 +224,15 @@ character-xml c h = grind (arith, nat_tests, h)
 wide-allowed : (c : ℕ) → is_allowed (wide_kind c) ≡ true → is_xml c ≡ true
 unfolding wide_kind
 wide-allowed c =
-    cond_both (has_between name_starts c c) kinds.WideStart (if has_between name_characters c c then kinds.WideName else (if has_between characters c c then kinds.WideOther else kinds.WideRefused)) (λ (k : Kind). is_allowed k ≡ true → is_xml c ≡ true)
+    cond_both (has_between name_starts c c) kinds.WideStart
+    (if has_between name_characters c c then kinds.WideName else (if has_between characters c c then kinds.WideOther else kinds.WideRefused))
+    (λ (k : Kind). is_allowed k ≡ true → is_xml c ≡ true)
     (λ e h. character-xml c (class-has name_starts characters c starts-within e))
-    (λ e. cond_both (has_between name_characters c c) kinds.WideName (if has_between characters c c then kinds.WideOther else kinds.WideRefused) (λ (k : Kind). is_allowed k ≡ true → is_xml c ≡ true)
+    (λ e. cond_both (has_between name_characters c c) kinds.WideName (if has_between characters c c then kinds.WideOther else kinds.WideRefused)
+    (λ (k : Kind). is_allowed k ≡ true → is_xml c ≡ true)
     (λ f h. character-xml c (class-has name_characters characters c names-within f))
-    (λ f. cond_both (has_between characters c c) kinds.WideOther kinds.WideRefused (λ (k : Kind). is_allowed k ≡ true → is_xml c ≡ true) (λ g h. character-xml c g) (λ g h. false-true h)))
+    (λ f. cond_both (has_between characters c c) kinds.WideOther kinds.WideRefused (λ (k : Kind). is_allowed k ≡ true
+    → is_xml c ≡ true) (λ g h. character-xml c g) (λ g h. false-true h)))
 
 pub start-kind : (c : ℕ) → (is_name_start (kind c) || is_wide_name_start (kind c)) ≡ true → starts_name c ≡ true
 unfolding starts_low
@@ -240,14 +255,18 @@ allowed-kind c =
 all-wide : (c : ℕ) → is_wide (wide_kind c) ≡ true
 unfolding wide_kind
 all-wide c =
-    cond_both (has_between name_starts c c) kinds.WideStart (if has_between name_characters c c then kinds.WideName else (if has_between characters c c then kinds.WideOther else kinds.WideRefused)) (λ (k : Kind). is_wide k ≡ true) (λ e. refl)
-    (λ e. cond_both (has_between name_characters c c) kinds.WideName (if has_between characters c c then kinds.WideOther else kinds.WideRefused) (λ (k : Kind). is_wide k ≡ true) (λ f. refl)
+    cond_both (has_between name_starts c c) kinds.WideStart
+    (if has_between name_characters c c then kinds.WideName else (if has_between characters c c then kinds.WideOther else kinds.WideRefused))
+    (λ (k : Kind). is_wide k ≡ true) (λ e. refl)
+    (λ e. cond_both (has_between name_characters c c) kinds.WideName (if has_between characters c c then kinds.WideOther else kinds.WideRefused)
+    (λ (k : Kind). is_wide k ≡ true) (λ f. refl)
     (λ f. cond_both (has_between characters c c) kinds.WideOther kinds.WideRefused (λ (k : Kind). is_wide k ≡ true) (λ g. refl) (λ g. refl)))
 
 -- a kind below 128 is that of such a character
 low-kind : (c : ℕ) → is_wide (kind c) ≡ false → c < 128
 low-kind c =
-    cond_both (nat_lt c 128) (ascii_kind c) (wide_kind c) (λ (k : Kind). is_wide k ≡ false → c < 128) (λ e h. ltb-true c 128 e) (λ e h. absurd (true-false (all-wide c) h))
+    cond_both (nat_lt c 128) (ascii_kind c) (wide_kind c) (λ (k : Kind). is_wide k ≡ false
+    → c < 128) (λ e h. ltb-true c 128 e) (λ e h. absurd (true-false (all-wide c) h))
 
 start-low : (k : Kind) → is_name_start k ≡ true → is_wide k ≡ false
 start-low kinds.WideStart h = false-true h
@@ -268,21 +287,41 @@ further-low k h = refl
 first-told : (r : NameOwner) (cs : List ℕ) (ms : List Sign) → IsText (first_character r) cs ms
     → (c : ℕ) × (starts_name c ≡ true) × (ms ≡ all_said (spread (first_name_token r) (next_name_token r) (encode_utf8 c)))
 unfolding IsText
-first-told r cs ms (inl (c, is, f, g)) =
-    (c, start-kind c (or-first (is_name_start (kind c)) _ is), g ∙ ap (λ (l : List ℕ). all_said (spread (first_name_token r) (next_name_token r) l)) (sym (encode1 c (low-kind c (start-low (kind c) is)))))
+first-told r cs ms (inl (c, is, f, g)) = (
+  c,
+  start-kind c (or-first (is_name_start (kind c)) _ is),
+  g
+      ∙ ap (λ (l : List ℕ). all_said (spread (first_name_token r) (next_name_token r) l)) (sym (encode1 c (low-kind c (start-low (kind c) is)))),
+)
 first-told r cs ms (inr (c, is, f, g)) = (c, start-kind c (or-later (is_name_start (kind c)) _ is), g)
 
-later-told : (r : NameOwner) (cs : List ℕ) (ms : List Sign) → IsText (later_first r) cs ms → (c : ℕ) × (starts_name c ≡ true) × (ms ≡ all_said (map (next_name_token r) (encode_utf8 c)))
+later-told : (r : NameOwner) (cs : List ℕ) (ms : List Sign) → IsText (later_first r) cs ms
+    → (c : ℕ) × (starts_name c ≡ true) × (ms ≡ all_said (map (next_name_token r) (encode_utf8 c)))
 unfolding IsText
-later-told r cs ms (inl (c, is, f, g)) =
-    (c, start-kind c (or-first (is_name_start (kind c)) _ is), g ∙ ap (λ (l : List ℕ). all_said (map (next_name_token r) l)) (sym (encode1 c (low-kind c (start-low (kind c) is)))))
-later-told r cs ms (inr (c, is, f, g)) = (c, start-kind c (or-later (is_name_start (kind c)) _ is), g ∙ ap all_said (spread-map (next_name_token r) (encode_utf8 c)))
+later-told r cs ms (inl (c, is, f, g)) = (
+  c,
+  start-kind c (or-first (is_name_start (kind c)) _ is),
+  g
+      ∙ ap (λ (l : List ℕ). all_said (map (next_name_token r) l)) (sym (encode1 c (low-kind c (start-low (kind c) is)))),
+)
+later-told r cs ms (inr (c, is, f, g)) =
+    (c, start-kind c (or-later (is_name_start (kind c)) _ is), g ∙ ap all_said (spread-map (next_name_token r) (encode_utf8 c)))
 
-further-told : (r : NameOwner) (cs : List ℕ) (ms : List Sign) → IsText (further_character r) cs ms → (c : ℕ) × (continues_name c ≡ true) × (ms ≡ all_said (map (next_name_token r) (encode_utf8 c)))
+further-told : (r : NameOwner) (cs : List ℕ) (ms : List Sign) → IsText (further_character r) cs ms
+    → (c : ℕ) × (continues_name c ≡ true) × (ms ≡ all_said (map (next_name_token r) (encode_utf8 c)))
 unfolding IsText
-further-told r cs ms (inl (c, is, f, g)) =
-    (c, further-kind c (or-first (is_name_further (kind c)) _ is), g ∙ ap (λ (l : List ℕ). all_said (map (next_name_token r) l)) (sym (encode1 c (low-kind c (further-low (kind c) is)))))
-further-told r cs ms (inr (c, is, f, g)) = (c, further-kind c (or-later (is_name_further (kind c)) _ is), g ∙ ap all_said (spread-map (next_name_token r) (encode_utf8 c)))
+further-told r cs ms (inl (c, is, f, g)) = (
+  c,
+  further-kind c (or-first (is_name_further (kind c)) _ is),
+  g
+      ∙ ap (λ (l : List ℕ). all_said (map (next_name_token r) l)) (sym (encode1 c (low-kind c (further-low (kind c) is)))),
+)
+further-told r cs ms (inr (c, is, f, g)) = (
+  c,
+  further-kind c (or-later (is_name_further (kind c)) _ is),
+  g
+      ∙ ap all_said (spread-map (next_name_token r) (encode_utf8 c)),
+)
 
 abbrev Continued : NameOwner → List Sign → Type 0
 Continued r ms = (ds : List ℕ) × AllByRecursion (λ c. continues_name c ≡ true) ds × (ms ≡ all_said (map (next_name_token r) (encode_utf8_all ds)))
@@ -295,15 +334,26 @@ more-told : (r : NameOwner) (k : ℕ) (cs : List ℕ) (ms : List Sign) → Times
 more-told r zero cs ms (f, g) = ([], tt, g)
 more-told r (suc k) cs ms (c, xs, us, ys, vs, l, t, f, g) =
     let (d, is, x) = further-told r (c ∷ xs) us l in
-    let (ds, all, y) = more-told r k ys vs t in
-    (d ∷ ds, (is, all), g ∙ (ap (λ (z : List Sign). z ++ vs) x ∙ (ap (λ (z : List Sign). all_said (map (next_name_token r) (encode_utf8 d)) ++ z) y ∙ map-said (next_name_token r) (encode_utf8 d) (encode_utf8_all ds))))
+    let (ds, all, y) = more-told r k ys vs t in (
+      d ∷ ds,
+      (is, all),
+      g ∙ (ap (λ (z : List Sign). z ++ vs) x
+          ∙ (ap (λ (z : List Sign). all_said (map (next_name_token r) (encode_utf8 d)) ++ z) y
+          ∙ map-said (next_name_token r) (encode_utf8 d) (encode_utf8_all ds))),
+    )
 
 local-told : (r : NameOwner) (cs : List ℕ) (ms : List Sign) → IsText (local r) cs ms → (l : List ℕ) × IsNcName l × (ms ≡ all_said (map (next_name_token r) l))
 unfolding IsText
 local-told r cs ms (xs, us, ys, vs, l, (k, t), f, g) =
     let (c, is, x) = later-told r xs us l in
-    let (ds, all, y) = more-told r k ys vs t in
-    (encode_utf8_all (c ∷ ds), (c, ds, refl, is, all), g ∙ (ap (λ (z : List Sign). z ++ vs) x ∙ (ap (λ (z : List Sign). all_said (map (next_name_token r) (encode_utf8 c)) ++ z) y ∙ map-said (next_name_token r) (encode_utf8 c) (encode_utf8_all ds))))
+    let (ds, all, y) = more-told r k ys vs t in (
+      encode_utf8_all (c ∷ ds),
+      (c, ds, refl, is, all),
+      g
+          ∙ (ap (λ (z : List Sign). z ++ vs) x
+          ∙ (ap (λ (z : List Sign). all_said (map (next_name_token r) (encode_utf8 c)) ++ z) y
+          ∙ map-said (next_name_token r) (encode_utf8 c) (encode_utf8_all ds))),
+    )
 
 colon_low : ℕ → Bool
 colon_low c = not (is_kind kinds.Colon (ascii_kind c)) || c == 58
@@ -315,9 +365,13 @@ all-colon_low = refl
 wide-colon : (c : ℕ) → is_kind kinds.Colon (wide_kind c) ≡ true → ⊥
 unfolding wide_kind
 wide-colon c =
-    cond_both (has_between name_starts c c) kinds.WideStart (if has_between name_characters c c then kinds.WideName else (if has_between characters c c then kinds.WideOther else kinds.WideRefused)) (λ (k : Kind). is_kind kinds.Colon k ≡ true → ⊥) (λ e h. false-true h)
-    (λ e. cond_both (has_between name_characters c c) kinds.WideName (if has_between characters c c then kinds.WideOther else kinds.WideRefused) (λ (k : Kind). is_kind kinds.Colon k ≡ true → ⊥) (λ f h. false-true h)
-    (λ f. cond_both (has_between characters c c) kinds.WideOther kinds.WideRefused (λ (k : Kind). is_kind kinds.Colon k ≡ true → ⊥) (λ g h. false-true h) (λ g h. false-true h)))
+    cond_both (has_between name_starts c c) kinds.WideStart
+    (if has_between name_characters c c then kinds.WideName else (if has_between characters c c then kinds.WideOther else kinds.WideRefused))
+    (λ (k : Kind). is_kind kinds.Colon k ≡ true → ⊥) (λ e h. false-true h)
+    (λ e. cond_both (has_between name_characters c c) kinds.WideName (if has_between characters c c then kinds.WideOther else kinds.WideRefused)
+    (λ (k : Kind). is_kind kinds.Colon k ≡ true → ⊥) (λ f h. false-true h)
+    (λ f. cond_both (has_between characters c c) kinds.WideOther kinds.WideRefused (λ (k : Kind). is_kind kinds.Colon k ≡ true
+    → ⊥) (λ g h. false-true h) (λ g h. false-true h)))
 
 colon-kind : (c : ℕ) → is_kind kinds.Colon (kind c) ≡ true → c ≡ 58
 unfolding colon_low
@@ -325,13 +379,15 @@ colon-kind c =
     cond_both (nat_lt c 128) (ascii_kind c) (wide_kind c) (λ (k : Kind). is_kind kinds.Colon k ≡ true → c ≡ 58)
     (λ e h. eqb-true c 58 (implied _ (c == 58) (under 128 colon_low all-colon_low c (ltb-true c 128 e)) h)) (λ e h. absurd (wide-colon c h))
 
-spread-said : (f g : ℕ → Token) (xs ys : List ℕ) (b : ℕ) (zs : List ℕ) → xs ≡ b ∷ zs → all_said (spread f g xs) ++ all_said (map g ys) ≡ all_said (spread f g (xs ++ ys))
+spread-said : (f g : ℕ → Token) (xs ys : List ℕ) (b : ℕ) (zs : List ℕ) → xs ≡ b ∷ zs
+    → all_said (spread f g xs) ++ all_said (map g ys) ≡ all_said (spread f g (xs ++ ys))
 spread-said f g xs ys b zs e = sym (said-append (spread f g xs) (map g ys)) ∙ ap all_said (spread-more f g xs ys b zs e)
 
 abbrev NameTold : NameOwner → List Sign → Type 0
 NameTold r ms = (b : ℕ) × (bs : List ℕ) × IsQName (b ∷ bs) × (ms ≡ all_said (spread (first_name_token r) (next_name_token r) (b ∷ bs)))
 
-name-told : (r : NameOwner) (name : List ℕ) (ms : List Sign) (b : ℕ) (bs : List ℕ) → name ≡ b ∷ bs → IsQName name → ms ≡ all_said (spread (first_name_token r) (next_name_token r) name) → NameTold r ms
+name-told : (r : NameOwner) (name : List ℕ) (ms : List Sign) (b : ℕ) (bs : List ℕ) → name ≡ b ∷ bs → IsQName name
+    → ms ≡ all_said (spread (first_name_token r) (next_name_token r) name) → NameTold r ms
 name-told r name ms b bs e q g = (b, bs, subst IsQName e q, g ∙ ap (λ (l : List ℕ). all_said (spread (first_name_token r) (next_name_token r) l)) e)
 
 abbrev ColonTold : NameOwner → List Sign → Type 0
@@ -342,7 +398,12 @@ unfolding IsText
 colon-told r cs ms (inr (f, g)) = inl g
 colon-told r cs ms (inl (xs, us, ys, vs, (c, is, h, i), l, f, g)) =
     let (name, ncname, x) = local-told r ys vs l in
-    inr (name, ncname, g ∙ (ap (λ (z : List Sign). z ++ vs) (i ∙ ap (λ (d : ℕ). says (next_name_token r d) ∷ []) (colon-kind c is)) ∙ ap (λ (z : List Sign). says (next_name_token r 58) ∷ z) x))
+    inr (
+      name,
+      ncname,
+      g ∙ (ap (λ (z : List Sign). z ++ vs) (i ∙ ap (λ (d : ℕ). says (next_name_token r d) ∷ []) (colon-kind c is))
+          ∙ ap (λ (z : List Sign). says (next_name_token r 58) ∷ z) x),
+    )
 
 qname-told : (r : NameOwner) (cs : List ℕ) (ms : List Sign) → IsText (qualified_name r) cs ms → NameTold r ms
 unfolding IsText
@@ -351,7 +412,8 @@ qname-told r cs ms (xs, us, ys, vs, l, (xs1, us1, ys1, vs1, (k, t), o, f1, g1), 
     let (ds, all, y) = more-told r k xs1 us1 t in
     by c is x ds all y (colon-told r ys1 vs1 o)
   where
-    by : (c : ℕ) → starts_name c ≡ true → us ≡ all_said (spread (first_name_token r) (next_name_token r) (encode_utf8 c)) → (ds : List ℕ) → AllByRecursion (λ d. continues_name d ≡ true) ds
+    by : (c : ℕ) → starts_name c ≡ true → us ≡ all_said (spread (first_name_token r) (next_name_token r) (encode_utf8 c)) → (ds : List ℕ)
+        → AllByRecursion (λ d. continues_name d ≡ true) ds
         → us1 ≡ all_said (map (next_name_token r) (encode_utf8_all ds)) → ColonTold r vs1 → NameTold r ms
     by c is x ds all y told_after =
         let (b, zs, e) = first-byte c in
@@ -364,7 +426,8 @@ qname-told r cs ms (xs, us, ys, vs, l, (xs1, us1, ys1, vs1, (k, t), o, f1, g1), 
         let three : ms ≡ (us ++ us1) ++ vs1 = g ∙ (ap (λ (z : List Sign). us ++ z) g1 ∙ sym (append_assoc us us1 vs1)) in
         last front b (zs ++ encode_utf8_all ds) starts ncname two three told_after
       where
-        last : (front : List ℕ) (b : ℕ) (bs : List ℕ) → front ≡ b ∷ bs → IsNcName front → us ++ us1 ≡ all_said (spread (first_name_token r) (next_name_token r) front) → ms ≡ (us ++ us1) ++ vs1 → ColonTold r vs1 → NameTold r ms
+        last : (front : List ℕ) (b : ℕ) (bs : List ℕ) → front ≡ b ∷ bs → IsNcName front
+            → us ++ us1 ≡ all_said (spread (first_name_token r) (next_name_token r) front) → ms ≡ (us ++ us1) ++ vs1 → ColonTold r vs1 → NameTold r ms
         last front b bs e n two three (inl h) =
             name-told r front ms b bs e (inl n) (three ∙ (ap (λ (z : List Sign). (us ++ us1) ++ z) h ∙ (append-nil (us ++ us1) ∙ two)))
         last front b bs e n two three (inr (l, m, h)) =
@@ -374,11 +437,15 @@ qname-told r cs ms (xs, us, ys, vs, l, (xs1, us1, ys1, vs1, (k, t), o, f1, g1), 
 
 checks-bytes : (r : NameOwner) (n bs : List ℕ) → Checks n (all_said (map (next_name_token r) bs)) (n ++ bs)
 checks-bytes r n [] = sym (append-nil n)
-checks-bytes StartTag n (b ∷ bs) = (tt, subst (Checks (n ++ b ∷ []) (all_said (map (next_name_token StartTag) bs))) (append_assoc n (b ∷ []) bs) (checks-bytes StartTag (n ++ b ∷ []) bs))
-checks-bytes EndTag n (b ∷ bs) = (tt, subst (Checks (n ++ b ∷ []) (all_said (map (next_name_token EndTag) bs))) (append_assoc n (b ∷ []) bs) (checks-bytes EndTag (n ++ b ∷ []) bs))
-checks-bytes Attribute n (b ∷ bs) = (tt, subst (Checks (n ++ b ∷ []) (all_said (map (next_name_token Attribute) bs))) (append_assoc n (b ∷ []) bs) (checks-bytes Attribute (n ++ b ∷ []) bs))
+checks-bytes StartTag n (b ∷ bs) =
+    (tt, subst (Checks (n ++ b ∷ []) (all_said (map (next_name_token StartTag) bs))) (append_assoc n (b ∷ []) bs) (checks-bytes StartTag (n ++ b ∷ []) bs))
+checks-bytes EndTag n (b ∷ bs) =
+    (tt, subst (Checks (n ++ b ∷ []) (all_said (map (next_name_token EndTag) bs))) (append_assoc n (b ∷ []) bs) (checks-bytes EndTag (n ++ b ∷ []) bs))
+checks-bytes Attribute n (b ∷ bs) =
+    (tt, subst (Checks (n ++ b ∷ []) (all_said (map (next_name_token Attribute) bs))) (append_assoc n (b ∷ []) bs) (checks-bytes Attribute (n ++ b ∷ []) bs))
 
-checks-name : (r : NameOwner) (n : List ℕ) (b : ℕ) (bs : List ℕ) → EndsName n → Checks n (all_said (spread (first_name_token r) (next_name_token r) (b ∷ bs))) (b ∷ bs)
+checks-name : (r : NameOwner) (n : List ℕ) (b : ℕ) (bs : List ℕ) → EndsName n
+    → Checks n (all_said (spread (first_name_token r) (next_name_token r) (b ∷ bs))) (b ∷ bs)
 checks-name StartTag n b bs e = (tt, checks-bytes StartTag (b ∷ []) bs)
 checks-name EndTag n b bs e = (tt, checks-bytes EndTag (b ∷ []) bs)
 checks-name Attribute n b bs e = (e, checks-bytes Attribute (b ∷ []) bs)

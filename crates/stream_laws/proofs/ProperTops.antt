@@ -14,7 +14,8 @@ use Rattle.stream_laws.proofs.ProperStreams.{tops-proper, come-proper}
 use Rattle.stream_laws.proofs.RoundTripInsert.{written-reads, short-writable, bare-comes, bare-named, bare-default}
 
 pub top-proper : (e : Element) → IsTop e → IsProper e
-top-proper e (r, bytes, s, spells, named, has) = All-contains IsProper (tops_of s.root s.content) e (All-from_recursion IsProper (tops_of s.root s.content) (tops-proper r bytes s spells named)) has
+top-proper e (r, bytes, s, spells, named, has) =
+    All-contains IsProper (tops_of s.root s.content) e (All-from_recursion IsProper (tops_of s.root s.content) (tops-proper r bytes s spells named)) has
 
 -- rules that are wide enough
 wide : Element → Rules
@@ -24,7 +25,8 @@ pub proper-top : (e : Element) → IsProper e → length (text e) < 2 ^ 64 → I
 unfolding wide
 proper-top e proper fits =
     let bytes : List ℕ = bare_header ++ text e ++ end_tag_of bare_root in
-    let (s, spells, same, named, tops) = written-reads (wide e) bare_header bare_root nothing e (bare-comes (wide e) (omega arith)) bare-named bare-default (short-writable (wide e) e proper fits (omega arith) (omega arith)) in
+    let (s, spells, same, named, tops) = written-reads (wide e) bare_header bare_root nothing e (bare-comes (wide e) (omega arith)) bare-named bare-default
+    (short-writable (wide e) e proper fits (omega arith) (omega arith)) in
     (wide e, bytes, s, spells, named, subst (λ (l : List Element). Contains l e) (sym tops) (Contains-push [] e))
 
 pub come-all : (r : Rules) (bytes : List ℕ) (root : RawTag) (f : Content) → HasCome r bytes root f → IsNamed root f → All IsProper (tops_of root f)

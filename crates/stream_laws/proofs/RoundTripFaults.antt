@@ -48,7 +48,8 @@ own_names (a ∷ more) = a.name ∷ own_names more
 see-default : (L : List (List Binding)) (parent space : List ℕ) → SeeAll L (default_written parent space) (default_names parent space)
 see-default L parent space = by (bytes_eq parent space)
   where
-    by : (t : Bool) → SeeAll L (if t then [] else record { name = codes "xmlns"; value = space } ∷ []) (if t then [] else record { space = xmlns_space; local = codes "xmlns" } ∷ [])
+    by : (t : Bool) → SeeAll L (if t then [] else record { name = codes "xmlns"; value = space } ∷ [])
+        (if t then [] else record { space = xmlns_space; local = codes "xmlns" } ∷ [])
     by true = tt
     by false = ((refl, refl), tt)
 
@@ -76,10 +77,12 @@ see-attributes L (w ∷ ws) [] n = absurd n
 abbrev tag_names : List ℕ → List ℕ → List Attr → List Name
 tag_names parent space attrs = default_names parent space ++ (declared_names 0 attrs ++ own_names attrs)
 
-see-tag : (L : List (List Binding)) (parent space : List ℕ) (attrs : List Attr) → NamedAll L (attributes_written 0 attrs) attrs → SeeAll L (tag_written parent space attrs) (tag_names parent space attrs)
+see-tag : (L : List (List Binding)) (parent space : List ℕ) (attrs : List Attr) → NamedAll L (attributes_written 0 attrs) attrs
+    → SeeAll L (tag_written parent space attrs) (tag_names parent space attrs)
 see-tag L parent space attrs n =
     see-append L (default_written parent space) _ (default_names parent space) _ (see-default L parent space)
-    (see-append L (declared_written 0 attrs) (attributes_written 0 attrs) (declared_names 0 attrs) (own_names attrs) (see-declared L 0 attrs) (see-attributes L (attributes_written 0 attrs) attrs n))
+    (see-append L (declared_written 0 attrs) (attributes_written 0 attrs) (declared_names 0 attrs) (own_names attrs) (see-declared L 0 attrs)
+    (see-attributes L (attributes_written 0 attrs) attrs n))
 
 -- No prefix is unbound.
 
@@ -108,7 +111,8 @@ see-same L w v n m a b =
     ∙ (ap (λ (x : Option (List ℕ)). bytes_eq n.local m.local && same_space x (attribute_space L v.name)) a.0
     ∙ ap (λ (x : Option (List ℕ)). bytes_eq n.local m.local && same_space (Some n.space) x) b.0))
 
-see-no_twin : (L : List (List Binding)) (w : Written) (n : Name) (ws : List Written) (ns : List Name) → Sees L w n → SeeAll L ws ns → Apart n ns → has_twin L w ws ≡ false
+see-no_twin : (L : List (List Binding)) (w : Written) (n : Name) (ws : List Written) (ns : List Name) → Sees L w n → SeeAll L ws ns → Apart n ns
+    → has_twin L w ws ≡ false
 see-no_twin L w n [] [] a s d = refl
 see-no_twin L w n (v ∷ ws) (m ∷ ns) a s d = cond-false _ _ _ (see-same L w v n m a s.0 ∙ d.0) ∙ see-no_twin L w n ws ns a s.1 d.1
 see-no_twin L w n [] (m ∷ ns) a s d = absurd s
@@ -133,11 +137,16 @@ apart-own : (n : Name) (attrs : List Attr) → n.space ≡ xmlns_space → AllBy
 apart-own n [] e is = tt
 apart-own n (a ∷ more) e is = (and-false (bytes_eq n.local a.name.local) _ (ap (λ (s : List ℕ). bytes_eq a.name.space s) e ∙ is.0.3), apart-own n more e is.1)
 
-apart-declared : (n : Name) (k : ℕ) (attrs : List Attr) → ((i : ℕ) → k ≤ i → i < 2 ^ 64 → bytes_eq n.local (prefix i) ≡ false) → k + length attrs < 2 ^ 64 → Apart n (declared_names k attrs)
+apart-declared : (n : Name) (k : ℕ) (attrs : List Attr) → ((i : ℕ) → k ≤ i → i < 2 ^ 64 → bytes_eq n.local (prefix i) ≡ false) → k + length attrs < 2 ^ 64
+    → Apart n (declared_names k attrs)
 apart-declared n k [] other h = tt
 apart-declared n k (a ∷ more) other h =
     cond_both (needs_prefix a) _ _ (Apart n)
-    (λ t. (and-first (bytes_eq n.local (prefix k)) _ (other k (omega arith) (omega arith)), apart-declared n (k + 1) more (λ i l m. other i (omega arith) m) (omega arith)))
+    (λ t. (
+      and-first (bytes_eq n.local (prefix k)) _ (other k (omega arith) (omega arith)),
+      apart-declared n (k + 1) more (λ i l m. other i (omega arith) m)
+          (omega arith),
+    ))
     (λ t. apart-declared n k more other (omega arith))
 
 apart-append : (n : Name) (ns ms : List Name) → Apart n ns → Apart n ms → Apart n (ns ++ ms)
@@ -156,22 +165,27 @@ own-apart (a ∷ more) d = (later a more d.0, own-apart more d.1)
         turned true s u e = flipped s u e
         turned false s u e = refl
 
-declared-apart : (k : ℕ) (attrs all : List Attr) → k + length attrs < 2 ^ 64 → AllByRecursion IsAttribute all → IsDistinct same_name all → AllApart (declared_names k attrs ++ own_names all)
+declared-apart : (k : ℕ) (attrs all : List Attr) → k + length attrs < 2 ^ 64 → AllByRecursion IsAttribute all → IsDistinct same_name all
+    → AllApart (declared_names k attrs ++ own_names all)
 declared-apart k [] all h is d = own-apart all d
 declared-apart k (a ∷ more) all h is d =
     cond_both (needs_prefix a) _ _ (λ (l : List Name). AllApart (l ++ own_names all))
     (λ t. (
       apart-append (record { space = xmlns_space; local = prefix k }) (declared_names (k + 1) more) (own_names all)
-          (apart-declared (record { space = xmlns_space; local = prefix k }) (k + 1) more (λ i l m. prefix-other k i (omega arith) m) (omega arith)) (apart-own (record { space = xmlns_space; local = prefix k }) all refl is),
+          (apart-declared (record { space = xmlns_space; local = prefix k }) (k + 1) more (λ i l m. prefix-other k i (omega arith) m) (omega arith))
+          (apart-own (record { space = xmlns_space; local = prefix k }) all refl is),
       declared-apart (k + 1) more all (omega arith) is d,
     ))
     (λ t. declared-apart k more all (omega arith) is d)
 
-tag-apart : (parent space : List ℕ) (attrs : List Attr) → length attrs < 2 ^ 64 → AllByRecursion IsAttribute attrs → IsDistinct same_name attrs → AllApart (tag_names parent space attrs)
+tag-apart : (parent space : List ℕ) (attrs : List Attr) → length attrs < 2 ^ 64 → AllByRecursion IsAttribute attrs → IsDistinct same_name attrs
+    → AllApart (tag_names parent space attrs)
 tag-apart parent space attrs h is d =
-    cond_both (bytes_eq parent space) _ _ (λ (l : List Name). AllApart (l ++ (declared_names 0 attrs ++ own_names attrs))) (λ t. declared-apart 0 attrs attrs (omega arith) is d)
+    cond_both (bytes_eq parent space) _ _ (λ (l : List Name). AllApart (l ++ (declared_names 0 attrs ++ own_names attrs)))
+    (λ t. declared-apart 0 attrs attrs (omega arith) is d)
     (λ t. (
-      apart-append xmlns (declared_names 0 attrs) (own_names attrs) (apart-declared xmlns 0 attrs (λ i l m. refl) (omega arith)) (apart-own xmlns attrs refl is),
+      apart-append xmlns (declared_names 0 attrs) (own_names attrs) (apart-declared xmlns 0 attrs (λ i l m. refl) (omega arith))
+          (apart-own xmlns attrs refl is),
       declared-apart 0 attrs attrs (omega arith) is d,
     ))
   where
@@ -200,7 +214,8 @@ may-prefix k a n is =
     let (some, other) = and_parts (not (bytes_eq a.name.space [])) (not (bytes_eq a.name.space xml_space)) n in
     and_from _ _ other (and_from _ _ (ap not is.3) some)
 
-fair-default : (parent space : List ℕ) → bytes_eq space xml_space ≡ false → bytes_eq space xmlns_space ≡ false → AllByRecursion IsFair (default_written parent space)
+fair-default : (parent space : List ℕ) → bytes_eq space xml_space ≡ false → bytes_eq space xmlns_space ≡ false
+    → AllByRecursion IsFair (default_written parent space)
 fair-default parent space x y = cond_both (bytes_eq parent space) _ _ (AllByRecursion IsFair) (λ t. tt) (λ t. (ap not (may-default space x y), tt))
 
 fair-declared : (k : ℕ) (attrs : List Attr) → AllByRecursion IsAttribute attrs → AllByRecursion IsFair (declared_written k attrs)
@@ -216,7 +231,8 @@ fair-attributes L (w ∷ ws) (a ∷ more) n = (and-first _ _ n.0.attribute, fair
 fair-attributes L [] (a ∷ more) n = absurd n
 fair-attributes L (w ∷ ws) [] n = absurd n
 
-fair-tag : (L : List (List Binding)) (parent : List ℕ) (name : Name) (attrs : List Attr) → IsElementName name → AllByRecursion IsAttribute attrs → NamedAll L (attributes_written 0 attrs) attrs
+fair-tag : (L : List (List Binding)) (parent : List ℕ) (name : Name) (attrs : List Attr) → IsElementName name → AllByRecursion IsAttribute attrs
+    → NamedAll L (attributes_written 0 attrs) attrs
     → has_forbidden (tag_written parent name.space attrs) ≡ false
 fair-tag L parent name attrs e is n =
     fair-all (tag_written parent name.space attrs) (each-append IsFair (default_written parent name.space) _ (fair-default parent name.space e.2 e.3)
@@ -242,7 +258,8 @@ attrs-append L [] vs = refl
 attrs-append L (w ∷ ws) vs = by (is_declaration w.name) (attrs-append L ws vs)
   where
     by : (t : Bool) → attrs_on L (ws ++ vs) ≡ attrs_on L ws ++ attrs_on L vs
-        → (if t then attrs_on L (ws ++ vs) else attr_on L w ∷ attrs_on L (ws ++ vs)) ≡ (if t then attrs_on L ws else attr_on L w ∷ attrs_on L ws) ++ attrs_on L vs
+        → (if t then attrs_on L (ws ++ vs) else attr_on L w ∷ attrs_on L (ws ++ vs)) ≡ (if t then attrs_on L ws else attr_on L w ∷ attrs_on L ws)
+        ++ attrs_on L vs
     by true e = e
     by false e = ap (λ (l : List Attr). attr_on L w ∷ l) e
 
@@ -252,16 +269,19 @@ attrs-default L parent space = cond_both (bytes_eq parent space) _ _ (λ (l : Li
 attrs-declared : (L : List (List Binding)) (k : ℕ) (attrs : List Attr) → attrs_on L (declared_written k attrs) ≡ []
 attrs-declared L k [] = refl
 attrs-declared L k (a ∷ more) =
-    cond_both (needs_prefix a) _ _ (λ (l : List Written). attrs_on L l ≡ []) (λ t. cond-true _ _ _ (declares k).0 ∙ attrs-declared L (k + 1) more) (λ t. attrs-declared L k more)
+    cond_both (needs_prefix a) _ _ (λ (l : List Written). attrs_on L l ≡ []) (λ t. cond-true _ _ _ (declares k).0 ∙ attrs-declared L (k + 1) more)
+    (λ t. attrs-declared L k more)
 
-attrs-tag : (L : List (List Binding)) (parent space : List ℕ) (attrs : List Attr) → NamedAll L (attributes_written 0 attrs) attrs → attrs_on L (tag_written parent space attrs) ≡ attrs
+attrs-tag : (L : List (List Binding)) (parent space : List ℕ) (attrs : List Attr) → NamedAll L (attributes_written 0 attrs) attrs
+    → attrs_on L (tag_written parent space attrs) ≡ attrs
 attrs-tag L parent space attrs n =
     attrs-append L (default_written parent space) (declared_written 0 attrs ++ attributes_written 0 attrs)
     ∙ (ap (λ (l : List Attr). l ++ attrs_on L (declared_written 0 attrs ++ attributes_written 0 attrs)) (attrs-default L parent space)
     ∙ (attrs-append L (declared_written 0 attrs) (attributes_written 0 attrs)
     ∙ (ap (λ (l : List Attr). l ++ attrs_on L (attributes_written 0 attrs)) (attrs-declared L 0 attrs) ∙ named-attrs L (attributes_written 0 attrs) attrs n)))
 
-pub tag-resolved : (layers : List (List Binding)) (parent : List ℕ) (name : Name) (attrs : List Attr) → length attrs < 2 ^ 64 → IsElementName name → AllByRecursion IsAttribute attrs → IsDistinct same_name attrs → Under layers parent
+pub tag-resolved : (layers : List (List Binding)) (parent : List ℕ) (name : Name) (attrs : List Attr) → length attrs < 2 ^ 64 → IsElementName name
+    → AllByRecursion IsAttribute attrs → IsDistinct same_name attrs → Under layers parent
     → IsResolved (inner layers parent name.space attrs) parent name attrs
 tag-resolved layers parent name attrs h e is d u =
     let L : List (List Binding) = inner layers parent name.space attrs in
@@ -270,7 +290,8 @@ tag-resolved layers parent name attrs h e is d u =
     let found : space_of L (prefix_of name.local) ≡ Some name.space = space-found L name e.0 (inner-under layers parent name.space attrs h u) in record {
       sound = cond-false _ _ _ (or-false _ _ (ap is_unbound found) (see-bound L (tag_written parent name.space attrs) (tag_names parent name.space attrs) s))
           ∙ cond-false _ _ _ (or-false _ _ (ap (λ (o : Option (List ℕ)). is_bound_to o xml_space) found ∙ e.2)
-          (or-false _ _ (fair-tag L parent name attrs e is n) (see-no_twins L (tag_written parent name.space attrs) (tag_names parent name.space attrs) s (tag-apart parent name.space attrs h is d))));
+          (or-false _ _ (fair-tag L parent name attrs e is n)
+          (see-no_twins L (tag_written parent name.space attrs) (tag_names parent name.space attrs) s (tag-apart parent name.space attrs h is d))));
       named = ap (λ (o : Option (List ℕ)). record { space = or_none o; local = local_of name.local }) found
           ∙ ap (λ (l : List ℕ). record { space = name.space; local = l }) (cond-false _ _ _ (bare name.local (ncname-colon name.local e.0)));
       told = attrs-tag L parent name.space attrs n;

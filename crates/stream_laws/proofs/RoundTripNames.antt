@@ -48,7 +48,8 @@ implied false t h e = false-true e
 -- Characters of names below 128.
 
 name_low : ℕ → Bool
-name_low c = (not (starts_name c) || is_name_start (ascii_kind c)) && ((not (continues_name c) || is_name_further (ascii_kind c)) && (not (continues_name c) || not (c == 13)))
+name_low c = (not (starts_name c) || is_name_start (ascii_kind c))
+    && ((not (continues_name c) || is_name_further (ascii_kind c)) && (not (continues_name c) || not (c == 13)))
 
 names-low : all_under 128 name_low ≡ true
 unfolding name_low ascii_kind name_starts name_characters
@@ -78,7 +79,8 @@ low-name c l = low-parts c (under 128 name_low names-low c l)
 
 -- a name's first character may stand further on
 pub start-continues : (c : ℕ) → starts_name c ≡ true → continues_name c ≡ true
-start-continues c h = subst (λ (t : Bool). (t || ((c == 45) || ((c == 46) || ((nat_le 48 c && nat_le c 57) || has_between name_characters c c)))) ≡ true) (sym h) refl
+start-continues c h = subst (λ (t : Bool). (t || ((c == 45) || ((c == 46) || ((nat_le 48 c && nat_le c 57) || has_between name_characters c c)))) ≡ true)
+    (sym h) refl
 
 -- Characters of names from 128 on.
 
@@ -90,7 +92,8 @@ differs d c h = grind (arith, nat_tests)
 
 wide-start : (c : ℕ) → 128 ≤ c → starts_name c ≡ true → has_between name_starts c c ≡ true
 wide-start c h e =
-    or-right (nat_le 97 c && nat_le c 122) _ (above 97 122 c (omega arith)) (or-right (c == 95) _ (differs 95 c (omega arith)) (or-right (nat_le 65 c && nat_le c 90) _ (above 65 90 c (omega arith)) e))
+    or-right (nat_le 97 c && nat_le c 122) _ (above 97 122 c (omega arith))
+    (or-right (c == 95) _ (differs 95 c (omega arith)) (or-right (nat_le 65 c && nat_le c 90) _ (above 65 90 c (omega arith)) e))
 
 pub or-later : (s t : Bool) → t ≡ true → (s || t) ≡ true
 or-later true t e = refl
@@ -98,14 +101,17 @@ or-later false t e = e
 
 start-character : (c : ℕ) → has_between name_starts c c ≡ true → has_between name_characters c c ≡ true
 unfolding name_characters
-start-character c h = or-later (nat_le 183 c && nat_le c 183) _ (or-later (nat_le 768 c && nat_le c 879) _ (or-later (nat_le 8255 c && nat_le c 8256) (has_between name_starts c c) h))
+start-character c h = or-later (nat_le 183 c && nat_le c 183) _
+    (or-later (nat_le 768 c && nat_le c 879) _ (or-later (nat_le 8255 c && nat_le c 8256) (has_between name_starts c c) h))
 
 wide-further : (c : ℕ) → 128 ≤ c → continues_name c ≡ true → has_between name_characters c c ≡ true
 wide-further c h e = by (starts_name c) refl e
   where
-    by : (t : Bool) → starts_name c ≡ t → (t || ((c == 45) || ((c == 46) || ((nat_le 48 c && nat_le c 57) || has_between name_characters c c)))) ≡ true → has_between name_characters c c ≡ true
+    by : (t : Bool) → starts_name c ≡ t → (t || ((c == 45) || ((c == 46) || ((nat_le 48 c && nat_le c 57) || has_between name_characters c c)))) ≡ true
+        → has_between name_characters c c ≡ true
     by true f k = start-character c (wide-start c h f)
-    by false f k = or-right (nat_le 48 c && nat_le c 57) _ (above 48 57 c (omega arith)) (or-right (c == 46) _ (differs 46 c (omega arith)) (or-right (c == 45) _ (differs 45 c (omega arith)) k))
+    by false f k = or-right (nat_le 48 c && nat_le c 57) _ (above 48 57 c (omega arith))
+        (or-right (c == 46) _ (differs 46 c (omega arith)) (or-right (c == 45) _ (differs 45 c (omega arith)) k))
 
 -- A character in a name.
 
@@ -113,7 +119,8 @@ pub spread-map : (f : ℕ → Token) (bs : List ℕ) → spread f f bs ≡ map f
 spread-map f [] = refl
 spread-map f (b ∷ bs) = refl
 
-in_name-turn : (r : NameOwner) (h : Half) (k : Kind) (c : ℕ) → is_name_further k ≡ true → ascii (stage.Name r h) k c ≡ yields (next_name_token r c ∷ []) (stage.Name r h)
+in_name-turn : (r : NameOwner) (h : Half) (k : Kind) (c : ℕ) → is_name_further k ≡ true
+    → ascii (stage.Name r h) k c ≡ yields (next_name_token r c ∷ []) (stage.Name r h)
 unfolding ascii in_name
 in_name-turn r h k c e = cond-true _ _ _ e
 
@@ -121,18 +128,22 @@ live-name : (r : NameOwner) (h : Half) → is_live (between (stage.Name r h)) �
 unfolding is_live
 live-name r h = refl
 
-wide-name_runs : (r : NameOwner) (h : Half) (c : ℕ) → 128 ≤ c → has_between name_characters c c ≡ true → Runs (between (stage.Name r h)) (encode_utf8 c) (between (stage.Name r h)) (map (next_name_token r) (encode_utf8 c))
+wide-name_runs : (r : NameOwner) (h : Half) (c : ℕ) → 128 ≤ c → has_between name_characters c c ≡ true
+    → Runs (between (stage.Name r h)) (encode_utf8 c) (between (stage.Name r h)) (map (next_name_token r) (encode_utf8 c))
 unfolding allowed_at voice through
 wide-name_runs r h c l e = runs-told (spread-map (next_name_token r) (encode_utf8 c)) (wide-runs (stage.Name r h) c (live-name r h) l e)
 
-low-name_runs : (r : NameOwner) (h : Half) (c : ℕ) → c < 128 → continues_name c ≡ true → Runs (between (stage.Name r h)) (c ∷ []) (between (stage.Name r h)) (next_name_token r c ∷ [])
+low-name_runs : (r : NameOwner) (h : Half) (c : ℕ) → c < 128 → continues_name c ≡ true
+    → Runs (between (stage.Name r h)) (c ∷ []) (between (stage.Name r h)) (next_name_token r c ∷ [])
 low-name_runs r h c l e =
     let low : Low c = low-name c l in
     runs-one (ascii-turn (stage.Name r h) c l (low.no_return e) ∙ ap (settled false) (in_name-turn r h (ascii_kind c) c (low.goes_on e)))
 
-character-runs : (r : NameOwner) (h : Half) (c : ℕ) → continues_name c ≡ true → Runs (between (stage.Name r h)) (encode_utf8 c) (between (stage.Name r h)) (map (next_name_token r) (encode_utf8 c))
+character-runs : (r : NameOwner) (h : Half) (c : ℕ) → continues_name c ≡ true
+    → Runs (between (stage.Name r h)) (encode_utf8 c) (between (stage.Name r h)) (map (next_name_token r) (encode_utf8 c))
 character-runs r h c e = elim (cases_lt c 128) [
-  | inl l ↦ subst (λ (l : List ℕ). Runs (between (stage.Name r h)) l (between (stage.Name r h)) (map (next_name_token r) l)) (sym (encode1 c l)) (low-name_runs r h c l e)
+  | inl l ↦ subst (λ (l : List ℕ). Runs (between (stage.Name r h)) l (between (stage.Name r h)) (map (next_name_token r) l)) (sym (encode1 c l))
+      (low-name_runs r h c l e)
   | inr l ↦ wide-name_runs r h c l (wide-further c l e)
 ]
 
@@ -143,7 +154,8 @@ map-more f (x ∷ xs) ys = ap (λ (l : List Token). f x ∷ l) (map-more f xs ys
 characters-run : (r : NameOwner) (h : Half) (cs : List ℕ) → AllByRecursion (λ c. continues_name c ≡ true) cs
     → Runs (between (stage.Name r h)) (encode_utf8_all cs) (between (stage.Name r h)) (map (next_name_token r) (encode_utf8_all cs))
 characters-run r h [] e = runs-none
-characters-run r h (c ∷ cs) e = runs-told (sym (map-more (next_name_token r) (encode_utf8 c) (encode_utf8_all cs))) (runs-then (character-runs r h c e.0) (characters-run r h cs e.1))
+characters-run r h (c ∷ cs) e =
+    runs-told (sym (map-more (next_name_token r) (encode_utf8 c) (encode_utf8_all cs))) (runs-then (character-runs r h c e.0) (characters-run r h cs e.1))
 
 -- Where a name begins: what its first byte tells, and where it leads.
 
@@ -170,10 +182,12 @@ pub colon-begins : (r : NameOwner) → Begins (stage.Colon r) r (next_name_token
 unfolding ascii in_tag allowed_at voice through is_live
 colon-begins r = record { low = λ k c e. cond-true _ _ _ e; wide = refl; told = refl; to = refl; live = refl }
 
-first-runs : (s : Stage) (r : NameOwner) (f : ℕ → Token) (h : Half) (c : ℕ) → Begins s r f h → starts_name c ≡ true → Runs (between s) (encode_utf8 c) (between (stage.Name r h)) (spread f (next_name_token r) (encode_utf8 c))
+first-runs : (s : Stage) (r : NameOwner) (f : ℕ → Token) (h : Half) (c : ℕ) → Begins s r f h → starts_name c ≡ true
+    → Runs (between s) (encode_utf8 c) (between (stage.Name r h)) (spread f (next_name_token r) (encode_utf8 c))
 first-runs s r f h c b e = elim (cases_lt c 128) [
   | inl l ↦ subst (λ (l : List ℕ). Runs (between s) l (between (stage.Name r h)) (spread f (next_name_token r) l)) (sym (encode1 c l))
-      (let low : Low c = low-name c l in runs-one (ascii-turn s c l (low.no_return (start-continues c e)) ∙ ap (settled false) (b.low (ascii_kind c) c (low.starts e))))
+      (let low : Low c = low-name c l in runs-one (ascii-turn s c l (low.no_return (start-continues c e))
+      ∙ ap (settled false) (b.low (ascii_kind c) c (low.starts e))))
   | inr l ↦ runs-told (ap (λ v. voiced v c) b.told) (subst (λ (t : Stage). Runs (between s) (encode_utf8 c) (between t) (voiced (voice s) c)) b.to
       (wide-runs s c b.live l (subst (λ a. has_between (class_of a) c c ≡ true) (sym b.wide) (wide-start c l e))))
 ]
@@ -188,8 +202,10 @@ first-byte c = elim (cases_lt c 128) [
   | inr l ↦ let (b, zs, e, k) = high-first c l in (b, zs, e)
 ]
 
-pub name-runs : (s : Stage) (r : NameOwner) (f : ℕ → Token) (h : Half) (bytes : List ℕ) → Begins s r f h → IsNcName bytes → Runs (between s) bytes (between (stage.Name r h)) (spread f (next_name_token r) bytes)
+pub name-runs : (s : Stage) (r : NameOwner) (f : ℕ → Token) (h : Half) (bytes : List ℕ) → Begins s r f h → IsNcName bytes
+    → Runs (between s) bytes (between (stage.Name r h)) (spread f (next_name_token r) bytes)
 name-runs s r f h bytes b (c, cs, is, start, more) =
     let (d, zs, e) = first-byte c in
     subst (λ (l : List ℕ). Runs (between s) l (between (stage.Name r h)) (spread f (next_name_token r) l)) is
-    (runs-told (spread-more f (next_name_token r) (encode_utf8 c) (encode_utf8_all cs) d zs e) (runs-then (first-runs s r f h c b start) (characters-run r h cs more)))
+    (runs-told (spread-more f (next_name_token r) (encode_utf8 c) (encode_utf8_all cs) d zs e)
+    (runs-then (first-runs s r f h c b start) (characters-run r h cs more)))

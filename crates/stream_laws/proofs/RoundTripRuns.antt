@@ -44,7 +44,8 @@ pub run-append : (bs cs : List ℕ) (st : State) → run st (bs ++ cs) ≡ run_o
 run-append [] cs st = sym (then-nothing (run st cs))
 run-append (b ∷ bs) cs st = by (λ s. run-append bs cs s) (turn st b)
   where
-    by : ((s : State) → run s (bs ++ cs) ≡ run_on (run s bs) (λ s. run s cs)) → (o : Outcome) → run_on o (λ s. run s (bs ++ cs)) ≡ run_on (run_on o (λ s. run s bs)) (λ s. run s cs)
+    by : ((s : State) → run s (bs ++ cs) ≡ run_on (run s bs) (λ s. run s cs)) → (o : Outcome)
+        → run_on o (λ s. run s (bs ++ cs)) ≡ run_on (run_on o (λ s. run s bs)) (λ s. run s cs)
     by go (leads s us) = ap (then_run us) (go s) ∙ then-on us (run s bs) (λ s. run s cs)
     by go (fails f) = refl
 
@@ -134,7 +135,8 @@ not-empty : (p : Pending) (b : ℕ) (bs : List ℕ) → bytes_of p ≡ bs ++ b �
 not-empty p b [] e f = cons_not_nil b [] (sym e ∙ f)
 not-empty p b (x ∷ bs) e f = cons_not_nil x (bs ++ b ∷ []) (sym e ∙ f)
 
-heard-byte : (v : Voice) (p q : Pending) (b : ℕ) (n z : ℕ) (zs : List ℕ) → bytes_of q ≡ bytes_of p ++ b ∷ [] → byte_told v q z ++ heard_on v n zs ≡ heard_on v n (z ∷ zs)
+heard-byte : (v : Voice) (p q : Pending) (b : ℕ) (n z : ℕ) (zs : List ℕ) → bytes_of q ≡ bytes_of p ++ b ∷ []
+    → byte_told v q z ++ heard_on v n zs ≡ heard_on v n (z ∷ zs)
 heard-byte (whole f) p q b n z zs e = refl
 heard-byte (by_byte f g) p pending.Nothing b n z zs e = absurd (not-empty pending.Nothing b (bytes_of p) e refl)
 heard-byte (by_byte f g) p (pending.One x) b n z zs e = refl
@@ -150,11 +152,13 @@ abbrev GoesOn : List ℕ → Stage → ℕ → Type 0
 GoesOn [] s n = Unit {0}
 GoesOn (z ∷ zs) s n = (q : Pending) → RestRuns zs s q z n
 
-reach-runs : (zs : List ℕ) (s : Stage) (p : Pending) (b n : ℕ) → has_between (class_of (allowed_at s)) n n ≡ true → GoesOn zs s n → (x : Reach) → reach p b ≡ x → Within x n → IsRest x zs
+reach-runs : (zs : List ℕ) (s : Stage) (p : Pending) (b n : ℕ) → has_between (class_of (allowed_at s)) n n ≡ true → GoesOn zs s n → (x : Reach) → reach p b ≡ x
+    → Within x n → IsRest x zs
     → Spelt (bytes_of p ++ b ∷ []) x → RestRuns zs s p b n
 unfolding turn_wide
 reach-runs [] s p b n allowed go (Whole m) f w none spelt live high e =
-    runs-one (wide-turn s p b high ∙ (ap (turn_wide (at s p false) b) f ∙ (cond-true _ _ _ (subst (λ (x : ℕ). has_between (class_of (allowed_at s)) x x ≡ true) w allowed)
+    runs-one (wide-turn s p b high
+    ∙ (ap (turn_wide (at s p false) b) f ∙ (cond-true _ _ _ (subst (λ (x : ℕ). has_between (class_of (allowed_at s)) x x ≡ true) w allowed)
     ∙ ap (λ (l : List Token). leads (between (through s)) (byte_told (voice s) p b ++ l)) (ap (end_told (voice s)) (sym w) ∙ end-told (voice s) n))))
 reach-runs (z ∷ zs) s p b n allowed go (Whole m) f w none spelt live high e = absurd (cons_not_nil z zs none)
 reach-runs [] s p b n allowed go (Begun q low top) f w (z, zs, none) spelt live high e = absurd (cons_not_nil z zs (sym none))
@@ -167,7 +171,8 @@ reach-runs (z ∷ zs) s p b n allowed go (Begun q low top) f w some spelt live h
     (e ∙ (sym (append_assoc (bytes_of p) (b ∷ []) (z ∷ zs)) ∙ ap (λ (l : List ℕ). l ++ (z ∷ zs)) (sym longer)))))
 reach-runs zs s p b n allowed go Broken f w none spelt live high e = absurd w
 
-rest-runs : (zs : List ℕ) (s : Stage) (p : Pending) (b n : ℕ) → n < 1114112 → has_between (class_of (allowed_at s)) n n ≡ true → GoesOn zs s n → RestRuns zs s p b n
+rest-runs : (zs : List ℕ) (s : Stage) (p : Pending) (b n : ℕ) → n < 1114112 → has_between (class_of (allowed_at s)) n n ≡ true → GoesOn zs s n
+    → RestRuns zs s p b n
 rest-runs zs s p b n top allowed go live high e =
     let begun : is_begun p ≡ true = (live-parts (at s p false) live).1 in
     let within : Within (reach p b) n = reach-within p b n [] zs begun high top (append-nil (encode_utf8 n) ∙ e) in
@@ -197,7 +202,8 @@ pub wide-runs : (s : Stage) (c : ℕ) → is_live (between s) ≡ true → 128 �
 wide-runs s c live h allowed =
     let (b, zs, e, k) = high-first c h in
     let top : c < 1114112 = scalar-top c (class-scalar (allowed_at s) c allowed) in
-    runs-text (sym e) (runs-told (sym (nothing-heard (voice s)) ∙ sym (voiced-split (voice s) pending.Nothing b c zs e)) (all-runs zs s c top allowed pending.Nothing b live (λ g. k) e))
+    runs-text (sym e) (runs-told (sym (nothing-heard (voice s)) ∙ sym (voiced-split (voice s) pending.Nothing b c zs e))
+    (all-runs zs s c top allowed pending.Nothing b live (λ g. k) e))
   where
     nothing-heard : {us : List Token} (v : Voice) → heard v [] ++ us ≡ us
     nothing-heard (whole f) = refl

@@ -36,33 +36,44 @@ last_space-append : (g : Option (List ℕ)) (xs ys : List Binding) (p : List ℕ
 last_space-append g [] ys p = refl
 last_space-append g (x ∷ xs) ys p = last_space-append (if bytes_eq x.prefix p then Some x.space else g) xs ys p
 
-last_layer-more : (g : Option (List ℕ)) (ls : List (List Binding)) (l : List Binding) (p : List ℕ) → last_layer g (ls ++ l ∷ []) p ≡ last_space (last_layer g ls p) l p
+last_layer-more : (g : Option (List ℕ)) (ls : List (List Binding)) (l : List Binding) (p : List ℕ)
+    → last_layer g (ls ++ l ∷ []) p ≡ last_space (last_layer g ls p) l p
 last_layer-more g [] l p = refl
 last_layer-more g (x ∷ xs) l p = last_layer-more (last_space g x p) xs l p
 
 inner-found : (layers : List (List Binding)) (parent space : List ℕ) (attrs : List Attr) (p : List ℕ)
-    → last_layer (space_before p) (inner layers parent space attrs) p ≡ last_space (last_space (last_layer (space_before p) layers p) (default_bound parent space) p) (bound 0 attrs) p
-inner-found layers parent space attrs p = last_layer-more (space_before p) layers (default_bound parent space ++ bound 0 attrs) p ∙ last_space-append (last_layer (space_before p) layers p) (default_bound parent space) (bound 0 attrs) p
+    → last_layer (space_before p) (inner layers parent space attrs) p
+    ≡ last_space (last_space (last_layer (space_before p) layers p) (default_bound parent space) p) (bound 0 attrs) p
+inner-found layers parent space attrs p = last_layer-more (space_before p) layers (default_bound parent space ++ bound 0 attrs) p
+    ∙ last_space-append (last_layer (space_before p) layers p) (default_bound parent space) (bound 0 attrs) p
 
 -- no declared prefix is this one
-untouched : (p : List ℕ) (g : Option (List ℕ)) (k : ℕ) (attrs : List Attr) → ((i : ℕ) → k ≤ i → i < 2 ^ 64 → bytes_eq (prefix i) p ≡ false) → k + length attrs < 2 ^ 64 → last_space g (bound k attrs) p ≡ g
+untouched : (p : List ℕ) (g : Option (List ℕ)) (k : ℕ) (attrs : List Attr) → ((i : ℕ) → k ≤ i → i < 2 ^ 64 → bytes_eq (prefix i) p ≡ false)
+    → k + length attrs < 2 ^ 64 → last_space g (bound k attrs) p ≡ g
 untouched p g k [] other h = refl
 untouched p g k (a ∷ more) other h =
-    cond_both (needs_prefix a) (record { prefix = prefix k; space = a.name.space } ∷ bound (k + 1) more) (bound k more) (λ (l : List Binding). last_space g l p ≡ g)
-    (λ e. ap (λ (o : Option (List ℕ)). last_space o (bound (k + 1) more) p) (cond-false _ _ _ (other k (omega arith) (omega arith))) ∙ untouched p g (k + 1) more (λ i l m. other i (omega arith) m) (omega arith))
+    cond_both (needs_prefix a) (record { prefix = prefix k; space = a.name.space } ∷ bound (k + 1) more) (bound k more)
+    (λ (l : List Binding). last_space g l p ≡ g)
+    (λ e. ap (λ (o : Option (List ℕ)). last_space o (bound (k + 1) more) p) (cond-false _ _ _ (other k (omega arith) (omega arith)))
+    ∙ untouched p g (k + 1) more (λ i l m. other i (omega arith) m) (omega arith))
     (λ e. untouched p g k more other (omega arith))
 
 inner-default : (parent space : List ℕ) → last_space (Some parent) (default_bound parent space) [] ≡ Some space
 inner-default parent space =
-    cond_both (bytes_eq parent space) _ _ (λ (l : List Binding). last_space (Some parent) l [] ≡ Some space) (λ e. ap (λ (s : List ℕ). Some s) (same-bytes parent space e)) (λ e. refl)
+    cond_both (bytes_eq parent space) _ _ (λ (l : List Binding). last_space (Some parent) l [] ≡ Some space)
+    (λ e. ap (λ (s : List ℕ). Some s) (same-bytes parent space e)) (λ e. refl)
 
 inner-other : (parent space p : List ℕ) (g : Option (List ℕ)) → bytes_eq [] p ≡ false → last_space g (default_bound parent space) p ≡ g
 inner-other parent space p g e = cond_both (bytes_eq parent space) _ _ (λ (l : List Binding). last_space g l p ≡ g) (λ f. refl) (λ f. cond-false _ _ _ e)
 
-pub inner-under : (layers : List (List Binding)) (parent space : List ℕ) (attrs : List Attr) → length attrs < 2 ^ 64 → Under layers parent → Under (inner layers parent space attrs) space
+pub inner-under : (layers : List (List Binding)) (parent space : List ℕ) (attrs : List Attr) → length attrs < 2 ^ 64 → Under layers parent
+    → Under (inner layers parent space attrs) space
 inner-under layers parent space attrs h (d, x) = (
-  inner-found layers parent space attrs [] ∙ (untouched [] _ 0 attrs (λ i l m. refl) (omega arith) ∙ (ap (λ (o : Option (List ℕ)). last_space o (default_bound parent space) []) d ∙ inner-default parent space)),
-  inner-found layers parent space attrs (codes "xml") ∙ (untouched (codes "xml") _ 0 attrs (λ i l m. refl) (omega arith) ∙ (inner-other parent space (codes "xml") _ refl ∙ x)),
+  inner-found layers parent space attrs []
+      ∙ (untouched [] _ 0 attrs (λ i l m. refl) (omega arith)
+      ∙ (ap (λ (o : Option (List ℕ)). last_space o (default_bound parent space) []) d ∙ inner-default parent space)),
+  inner-found layers parent space attrs (codes "xml")
+      ∙ (untouched (codes "xml") _ 0 attrs (λ i l m. refl) (omega arith) ∙ (inner-other parent space (codes "xml") _ refl ∙ x)),
 )
 
 pub itself : (xs : List ℕ) → bytes_eq xs xs ≡ true
@@ -74,13 +85,15 @@ flipped xs ys e = other-bytes ys xs (λ f. true-false ((bytes_eq-Decides xs ys).
 -- each prefix is bound to the namespace of its attribute
 abbrev Bound : (List ℕ → Option (List ℕ)) → ℕ → List Attr → Type 0
 Bound found k [] = Unit {0}
-Bound found k (a ∷ more) = (needs_prefix a ≡ true → (found (prefix k) ≡ Some a.name.space) × Bound found (k + 1) more) × (needs_prefix a ≡ false → Bound found k more)
+Bound found k (a ∷ more) = (needs_prefix a ≡ true → (found (prefix k) ≡ Some a.name.space) × Bound found (k + 1) more)
+    × (needs_prefix a ≡ false → Bound found k more)
 
 bound-same : (f g : List ℕ → Option (List ℕ)) (k : ℕ) (attrs : List Attr) → ((p : List ℕ) → g p ≡ f p) → Bound f k attrs → Bound g k attrs
 bound-same f g k [] e b = tt
 bound-same f g k (a ∷ more) e b = (λ t. (e (prefix k) ∙ (b.0 t).0, bound-same f g (k + 1) more e (b.0 t).1), λ t. bound-same f g k more e (b.1 t))
 
-bound-with : (k : ℕ) (a : Attr) (more : List Attr) → needs_prefix a ≡ true → bound k (a ∷ more) ≡ record { prefix = prefix k; space = a.name.space } ∷ bound (k + 1) more
+bound-with : (k : ℕ) (a : Attr) (more : List Attr) → needs_prefix a ≡ true
+    → bound k (a ∷ more) ≡ record { prefix = prefix k; space = a.name.space } ∷ bound (k + 1) more
 bound-with k a more t = cond-true (needs_prefix a) _ _ t
 
 bound-without : (k : ℕ) (a : Attr) (more : List Attr) → needs_prefix a ≡ false → bound k (a ∷ more) ≡ bound k more
@@ -91,7 +104,8 @@ bound-found g k [] h = tt
 bound-found g k (a ∷ more) h = (
   λ t. (
     ap (λ (l : List Binding). last_space (g (prefix k)) l (prefix k)) (bound-with k a more t)
-        ∙ (ap (λ (o : Option (List ℕ)). last_space o (bound (k + 1) more) (prefix k)) (cond-true (bytes_eq (prefix k) (prefix k)) (Some a.name.space) (g (prefix k)) (itself (prefix k)))
+        ∙ (ap (λ (o : Option (List ℕ)). last_space o (bound (k + 1) more) (prefix k))
+        (cond-true (bytes_eq (prefix k) (prefix k)) (Some a.name.space) (g (prefix k)) (itself (prefix k)))
         ∙ untouched (prefix k) (Some a.name.space) (k + 1) more (λ i l m. flipped (prefix k) (prefix i) (flip_other i l m)) (omega arith)),
     bound-same (λ p. last_space (with_one p) (bound (k + 1) more) p) (λ p. last_space (g p) (bound k (a ∷ more)) p) (k + 1) more
         (λ p. ap (λ (l : List Binding). last_space (g p) l p) (bound-with k a more t)) (bound-found with_one (k + 1) more (omega arith)),
@@ -106,9 +120,11 @@ bound-found g k (a ∷ more) h = (
     flip_other : (i : ℕ) → k + 1 ≤ i → i < 2 ^ 64 → bytes_eq (prefix k) (prefix i) ≡ false
     flip_other i l m = prefix-other k i (omega arith) m
 
-inner-bound : (layers : List (List Binding)) (parent space : List ℕ) (attrs : List Attr) → length attrs < 2 ^ 64 → Bound (λ p. last_layer (space_before p) (inner layers parent space attrs) p) 0 attrs
+inner-bound : (layers : List (List Binding)) (parent space : List ℕ) (attrs : List Attr) → length attrs < 2 ^ 64
+    → Bound (λ p. last_layer (space_before p) (inner layers parent space attrs) p) 0 attrs
 inner-bound layers parent space attrs h =
-    bound-same (λ p. last_space (last_space (last_layer (space_before p) layers p) (default_bound parent space) p) (bound 0 attrs) p) _ 0 attrs (inner-found layers parent space attrs)
+    bound-same (λ p. last_space (last_space (last_layer (space_before p) layers p) (default_bound parent space) p) (bound 0 attrs) p) _ 0 attrs
+    (inner-found layers parent space attrs)
     (bound-found (λ p. last_space (last_layer (space_before p) layers p) (default_bound parent space) p) 0 attrs (omega arith))
 
 -- The attributes.
@@ -118,14 +134,17 @@ NamedAll L [] [] = Unit {0}
 NamedAll L (w ∷ ws) (a ∷ more) = IsNamed w.name a L × (w.value ≡ a.value) × NamedAll L ws more
 NamedAll L ws more = ⊥
 
-named-all : (L : List (List Binding)) (k : ℕ) (attrs : List Attr) → k + length attrs < 2 ^ 64 → AllByRecursion IsAttribute attrs → Bound (λ p. last_layer (space_before p) L p) k attrs → last_layer (space_before (codes "xml")) L (codes "xml") ≡ Some xml_space → NamedAll L (attributes_written k attrs) attrs
+named-all : (L : List (List Binding)) (k : ℕ) (attrs : List Attr) → k + length attrs < 2 ^ 64 → AllByRecursion IsAttribute attrs
+    → Bound (λ p. last_layer (space_before p) L p) k attrs → last_layer (space_before (codes "xml")) L (codes "xml") ≡ Some xml_space
+    → NamedAll L (attributes_written k attrs) attrs
 named-all L k [] h is b x = tt
 named-all L k (a ∷ more) h is b x =
     cond_both (needs_prefix a) _ _ (λ (l : List Written). NamedAll L l (a ∷ more))
     (λ t. (prefixed-named k a L (omega arith) (b.0 t).0, refl, named-all L (k + 1) more (omega arith) is.1 (b.0 t).1 x))
     (λ t. (unprefixed-named a L t is.0 x, refl, named-all L k more (omega arith) is.1 (b.1 t) x))
 
-pub tag-named : (layers : List (List Binding)) (parent space : List ℕ) (attrs : List Attr) → length attrs < 2 ^ 64 → AllByRecursion IsAttribute attrs → Under layers parent → NamedAll (inner layers parent space attrs) (attributes_written 0 attrs) attrs
+pub tag-named : (layers : List (List Binding)) (parent space : List ℕ) (attrs : List Attr) → length attrs < 2 ^ 64 → AllByRecursion IsAttribute attrs
+    → Under layers parent → NamedAll (inner layers parent space attrs) (attributes_written 0 attrs) attrs
 tag-named layers parent space attrs h is u =
     named-all (inner layers parent space attrs) 0 attrs (omega arith) is (inner-bound layers parent space attrs h) (inner-under layers parent space attrs h u).1
 
@@ -136,7 +155,8 @@ named-attrs L (w ∷ ws) (a ∷ more) n =
   where
     same : attr_on L w ≡ a
     same = ap (λ (o : Option (List ℕ)). record { name = record { space = or_none o; local = local_of w.name }; value = w.value }) n.0.space
-        ∙ (ap (λ (l : List ℕ). record { name = record { space = a.name.space; local = l }; value = w.value }) n.0.local ∙ ap (λ (v : List ℕ). record { name = a.name; value = v }) n.1)
+        ∙ (ap (λ (l : List ℕ). record { name = record { space = a.name.space; local = l }; value = w.value }) n.0.local
+        ∙ ap (λ (v : List ℕ). record { name = a.name; value = v }) n.1)
 named-attrs L [] (a ∷ more) n = absurd n
 named-attrs L (w ∷ ws) [] n = absurd n
 
@@ -151,14 +171,16 @@ own-append [] ys = refl
 own-append (x ∷ xs) ys = by (is_declaration x.name) (own-append xs ys)
   where
     by : (t : Bool) → own (xs ++ ys) ≡ own xs ++ own ys
-        → (if t then record { prefix = declared_prefix x.name; space = x.value } ∷ own (xs ++ ys) else own (xs ++ ys)) ≡ (if t then record { prefix = declared_prefix x.name; space = x.value } ∷ own xs else own xs) ++ own ys
+        → (if t then record { prefix = declared_prefix x.name; space = x.value } ∷ own (xs ++ ys) else own (xs ++ ys))
+        ≡ (if t then record { prefix = declared_prefix x.name; space = x.value } ∷ own xs else own xs) ++ own ys
     by true e = ap (λ (l : List Binding). record { prefix = declared_prefix x.name; space = x.value } ∷ l) e
     by false e = e
 
 own-default : (parent space : List ℕ) → own (default_written parent space) ≡ default_bound parent space
 own-default parent space = by (bytes_eq parent space)
   where
-    by : (t : Bool) → own (if t then [] else record { name = codes "xmlns"; value = space } ∷ []) ≡ (if t then [] else record { prefix = []; space = space } ∷ [])
+    by : (t : Bool) → own (if t then [] else record { name = codes "xmlns"; value = space } ∷ [])
+        ≡ (if t then [] else record { prefix = []; space = space } ∷ [])
     by true = refl
     by false = refl
 
@@ -171,13 +193,16 @@ own-declared k (a ∷ more) = by (needs_prefix a) (own-declared (k + 1) more) (o
         ≡ (if t then record { prefix = prefix k; space = a.name.space } ∷ bound (k + 1) more else bound k more)
     by true e f =
         let (d, p) = declares k in
-        cond-true _ _ _ d ∙ (ap (λ (x : List ℕ). record { prefix = x; space = a.name.space } ∷ own (declared_written (k + 1) more)) p ∙ ap (λ (l : List Binding). record { prefix = prefix k; space = a.name.space } ∷ l) e)
+        cond-true _ _ _ d ∙ (ap (λ (x : List ℕ). record { prefix = x; space = a.name.space } ∷ own (declared_written (k + 1) more)) p
+        ∙ ap (λ (l : List Binding). record { prefix = prefix k; space = a.name.space } ∷ l) e)
     by false e f = f
 
-pub tag-own : (L : List (List Binding)) (parent space : List ℕ) (attrs : List Attr) → NamedAll L (attributes_written 0 attrs) attrs → own (tag_written parent space attrs) ≡ default_bound parent space ++ bound 0 attrs
+pub tag-own : (L : List (List Binding)) (parent space : List ℕ) (attrs : List Attr) → NamedAll L (attributes_written 0 attrs) attrs
+    → own (tag_written parent space attrs) ≡ default_bound parent space ++ bound 0 attrs
 tag-own L parent space attrs n =
     own-append (default_written parent space) (declared_written 0 attrs ++ attributes_written 0 attrs)
     ∙ (ap (λ (l : List Binding). l ++ own (declared_written 0 attrs ++ attributes_written 0 attrs)) (own-default parent space)
     ∙ ap (λ (l : List Binding). default_bound parent space ++ l)
-    (own-append (declared_written 0 attrs) (attributes_written 0 attrs) ∙ (ap (λ (l : List Binding). l ++ own (attributes_written 0 attrs)) (own-declared 0 attrs)
+    (own-append (declared_written 0 attrs) (attributes_written 0 attrs)
+    ∙ (ap (λ (l : List Binding). l ++ own (attributes_written 0 attrs)) (own-declared 0 attrs)
     ∙ (ap (λ (l : List Binding). bound 0 attrs ++ l) (named-own L (attributes_written 0 attrs) attrs n) ∙ append-nil (bound 0 attrs)))))

@@ -134,12 +134,14 @@ pub record IsNamed (name : List ℕ) (a : Attr) (L : List (List Binding)) : Type
   pub local : local_of name ≡ a.name.local
   pub space : attribute_space L name ≡ Some a.name.space
 
-in-space : (L : List (List Binding)) (name p l : List ℕ) (s : List ℕ) → IsCut name p l → bytes_eq p (codes "xmlns") ≡ false → last_layer (space_before p) L p ≡ Some s → (is_declaration name ≡ false) × (attribute_space L name ≡ Some s)
+in-space : (L : List (List Binding)) (name p l : List ℕ) (s : List ℕ) → IsCut name p l → bytes_eq p (codes "xmlns") ≡ false
+    → last_layer (space_before p) L p ≡ Some s → (is_declaration name ≡ false) × (attribute_space L name ≡ Some s)
 in-space L name p l s c other e =
     let no : is_declaration name ≡ false = cond-true _ _ _ c.has ∙ (ap (λ (x : List ℕ). bytes_eq x (codes "xmlns")) c.front ∙ other) in
     (no, cond-false _ _ _ no ∙ (cond-true _ _ _ c.has ∙ (ap (space_of L) c.front ∙ (cond-false _ _ _ other ∙ e))))
 
-pub prefixed-named : (k : ℕ) (a : Attr) (L : List (List Binding)) → k < 2 ^ 64 → last_layer (space_before (prefix k)) L (prefix k) ≡ Some a.name.space → IsNamed (prefixed_name k a) a L
+pub prefixed-named : (k : ℕ) (a : Attr) (L : List (List Binding)) → k < 2 ^ 64 → last_layer (space_before (prefix k)) L (prefix k) ≡ Some a.name.space
+    → IsNamed (prefixed_name k a) a L
 prefixed-named k a L h e =
     let c : IsCut (prefixed_name k a) (prefix k) a.name.local = cut (prefix k) a.name.local (prefix-colon k h) in
     let (none, is) = in-space L (prefixed_name k a) (prefix k) a.name.local a.name.space c refl e in
@@ -157,14 +159,16 @@ not-false : (t : Bool) → not t ≡ false → t ≡ true
 not-false true e = refl
 not-false false e = false-true (sym e)
 
-pub unprefixed-named : (a : Attr) (L : List (List Binding)) → needs_prefix a ≡ false → IsAttribute a → last_layer (space_before (codes "xml")) L (codes "xml") ≡ Some xml_space → IsNamed (unprefixed_name a) a L
+pub unprefixed-named : (a : Attr) (L : List (List Binding)) → needs_prefix a ≡ false → IsAttribute a
+    → last_layer (space_before (codes "xml")) L (codes "xml") ≡ Some xml_space → IsNamed (unprefixed_name a) a L
 unfolding needs_prefix
 unprefixed-named a L n is e = by (bytes_eq a.name.space []) refl
   where
     local_only : bytes_eq a.name.space [] ≡ true → IsNamed a.name.local a L
     local_only f =
         let b : has_prefix a.name.local ≡ false = bare a.name.local (ncname-colon a.name.local is.0) in
-        let no : is_declaration a.name.local ≡ false = cond-false _ _ _ b ∙ and-left (bytes_eq a.name.local (codes "xmlns")) (bytes_eq a.name.space []) is.4 f in record {
+        let no : is_declaration a.name.local ≡ false = cond-false _ _ _ b
+        ∙ and-left (bytes_eq a.name.local (codes "xmlns")) (bytes_eq a.name.space []) is.4 f in record {
           attribute = no;
           local = cond-false _ _ _ b;
           space = cond-false _ _ _ no ∙ (cond-false _ _ _ b ∙ ap (λ (s : List ℕ). Some s) (sym (same-bytes a.name.space [] f)));

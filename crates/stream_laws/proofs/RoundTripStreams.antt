@@ -54,7 +54,8 @@ read-runs [] st ts live l =
     subst (ReadRuns st []) (sym none) (st, runs-none, live, subst (λ (x : List Token). Left st [] (all_said x)) none l)
 read-runs (b ∷ bs) st ts live l = by (turn st b) refl (λ s vs h k. read-runs bs s vs h k)
   where
-    by : (o : Outcome) → turn st b ≡ o → ((s : State) (vs : List Token) → is_live s ≡ true → Left s bs (all_said vs) → ReadRuns s bs vs) → ReadRuns st (b ∷ bs) ts
+    by : (o : Outcome) → turn st b ≡ o → ((s : State) (vs : List Token) → is_live s ≡ true → Left s bs (all_said vs) → ReadRuns s bs vs)
+        → ReadRuns st (b ∷ bs) ts
     by (leads s us) e go =
         let (vs, same, k) = left-to st s b us bs ts live e l in
         let (to, r, alive, done) = go s vs (subst LeadsLive e (any-live st b live)) k in
@@ -74,22 +75,27 @@ pending-none p (n ∷ es) h e = absurd (by p (encode_utf8_all es) h e (width_of 
         one : (p : Pending) → is_begun p ≡ true → n ∷ more ≡ bytes_of p → ⊥
         one pending.Nothing h e = cons_not_nil n more e
         one (pending.One a) h e = let f = same_head n a more [] e in let (x, y) = between-parts 194 244 a h in omega arith
-        one (pending.Two a b) h e = let f = same_head n a more (b ∷ []) e in let (x, y) = between-parts 224 244 a (and_parts (is_between 224 244 a) _ h).0 in omega arith
-        one (pending.Three a b c) h e = let f = same_head n a more (b ∷ c ∷ []) e in let (x, y) = between-parts 240 244 a (and_parts (is_between 240 244 a) _ h).0 in omega arith
+        one (pending.Two a b) h e = let f = same_head n a more (b ∷ []) e in let (x, y) =
+            between-parts 224 244 a (and_parts (is_between 224 244 a) _ h).0 in omega arith
+        one (pending.Three a b c) h e = let f = same_head n a more (b ∷ c ∷ []) e in let (x, y) =
+            between-parts 240 244 a (and_parts (is_between 240 244 a) _ h).0 in omega arith
     by p more h e (width2 k j w) = two p h (ap (λ (l : List ℕ). l ++ more) (sym w) ∙ e)
       where
         two : (p : Pending) → is_begun p ≡ true → (192 + n / 64) ∷ (128 + n % 64) ∷ more ≡ bytes_of p → ⊥
         two pending.Nothing h e = cons_not_nil _ _ e
         two (pending.One a) h e = cons_not_nil _ more (same_tail _ a _ [] e)
-        two (pending.Two a b) h e = let f = same_head _ a _ (b ∷ []) e in let (x, y) = between-parts 224 244 a (and_parts (is_between 224 244 a) _ h).0 in omega arith
-        two (pending.Three a b c) h e = let f = same_head _ a _ (b ∷ c ∷ []) e in let (x, y) = between-parts 240 244 a (and_parts (is_between 240 244 a) _ h).0 in omega arith
+        two (pending.Two a b) h e = let f = same_head _ a _ (b ∷ []) e in let (x, y) =
+            between-parts 224 244 a (and_parts (is_between 224 244 a) _ h).0 in omega arith
+        two (pending.Three a b c) h e = let f = same_head _ a _ (b ∷ c ∷ []) e in let (x, y) =
+            between-parts 240 244 a (and_parts (is_between 240 244 a) _ h).0 in omega arith
     by p more h e (width3 k j w) = three p h (ap (λ (l : List ℕ). l ++ more) (sym w) ∙ e)
       where
         three : (p : Pending) → is_begun p ≡ true → (224 + n / 4096) ∷ (128 + (n / 64) % 64) ∷ (128 + n % 64) ∷ more ≡ bytes_of p → ⊥
         three pending.Nothing h e = cons_not_nil _ _ e
         three (pending.One a) h e = cons_not_nil _ _ (same_tail _ a _ [] e)
         three (pending.Two a b) h e = cons_not_nil _ more (same_tail _ b _ [] (same_tail _ a _ (b ∷ []) e))
-        three (pending.Three a b c) h e = let f = same_head _ a _ (b ∷ c ∷ []) e in let (x, y) = between-parts 240 244 a (and_parts (is_between 240 244 a) _ h).0 in omega arith
+        three (pending.Three a b c) h e = let f = same_head _ a _ (b ∷ c ∷ []) e in let (x, y) =
+            between-parts 240 244 a (and_parts (is_between 240 244 a) _ h).0 in omega arith
     by p more h e (width4 k w) = four p h (ap (λ (l : List ℕ). l ++ more) (sym w) ∙ e)
       where
         four : (p : Pending) → is_begun p ≡ true → (240 + n / 262144) ∷ (128 + (n / 4096) % 64) ∷ (128 + (n / 64) % 64) ∷ (128 + n % 64) ∷ more ≡ bytes_of p → ⊥
@@ -118,7 +124,8 @@ stage-gap (stage.Text Words) live m = (plain, refl)
 stage-gap (stage.Bracketed One) live m = (bracketed One, refl)
 stage-gap (stage.Bracketed Many) live m = (bracketed Many, refl)
 stage-gap (stage.Fixed w i) live m =
-    absurd (fixed-void w (get_or (letters w) i 0) (drop (i + 1) (letters w)) (subst (λ (l : List ℕ). IsText (empty_part (rest_of_fixed w l)) [] []) (drop_more (letters w) i 0 (ltb-true i (length (letters w)) live)) m))
+    absurd (fixed-void w (get_or (letters w) i 0) (drop (i + 1) (letters w))
+    (subst (λ (l : List ℕ). IsText (empty_part (rest_of_fixed w l)) [] []) (drop_more (letters w) i 0 (ltb-true i (length (letters w)) live)) m))
 stage-gap (stage.Text (Value q)) live m = absurd m
 stage-gap (stage.CdataBracketed One) live m = absurd m
 stage-gap (stage.CdataBracketed Many) live m = absurd m
@@ -183,7 +190,8 @@ plain-ends s r live l = let (cs, sc, e, m) = left-plain s r [] [] l in by cs e m
   where
     by : (cs : List ℕ) → encode_utf8_all cs ≡ [] → IsText (rest_at s) (lines r cs) [] → InGap s
     by [] e m = stage-gap s live (empty_part-to (rest_at s) [] [] refl m)
-    by (n ∷ es) e m = let (b, zs, f) = first-byte n in absurd (cons_not_nil b (zs ++ encode_utf8_all es) (ap (λ (l : List ℕ). l ++ encode_utf8_all es) (sym f) ∙ e))
+    by (n ∷ es) e m = let (b, zs, f) =
+        first-byte n in absurd (cons_not_nil b (zs ++ encode_utf8_all es) (ap (λ (l : List ℕ). l ++ encode_utf8_all es) (sym f) ∙ e))
 
 abbrev pub EndsGap : State → Type 0
 EndsGap st = (g : Gap) × (r : Bool) × (st ≡ gap_state g r)
@@ -218,12 +226,16 @@ nil-back (x ∷ xs) ys e = absurd (cons_not_nil x (xs ++ ys) e)
 abbrev pub first_state : State
 first_state = at stage.Start pending.Nothing false
 
-pub last-read : (bytes : List ℕ) (ts : List Token) → is_live first_state ≡ true → RunsLast first_state bytes (between (gap_stage plain)) ts → Reads bytes ts × IsShortest bytes ts
+pub last-read : (bytes : List ℕ) (ts : List Token) → is_live first_state ≡ true → RunsLast first_state bytes (between (gap_stage plain)) ts
+    → Reads bytes ts × IsShortest bytes ts
 last-read bytes ts live l =
     let alive : is_live l.state ≡ true = subst LeadsLive l.way.leads_so (live-runs l.front first_state live) in
-    let last : Left l.state (l.byte ∷ []) (all_said (l.last ∷ [])) = left-from l.state (between (gap_stage plain)) l.byte (l.last ∷ []) [] [] alive l.step words-left in
-    let tight : Tight l.state (l.byte ∷ []) (l.last ∷ []) = tight-from l.state (between (gap_stage plain)) l.byte (l.last ∷ []) [] [] alive l.step (no_token l.last []) (λ xs ys p k. nil-back xs ys (sym p)) in
+    let last : Left l.state (l.byte ∷ []) (all_said (l.last ∷ [])) =
+    left-from l.state (between (gap_stage plain)) l.byte (l.last ∷ []) [] [] alive l.step words-left in
+    let tight : Tight l.state (l.byte ∷ []) (l.last ∷ []) =
+    tight-from l.state (between (gap_stage plain)) l.byte (l.last ∷ []) [] [] alive l.step (no_token l.last []) (λ xs ys p k. nil-back xs ys (sym p)) in
     let (m, k) = carried l.front first_state l.state l.told live l.way.leads_so (l.byte ∷ []) (l.last ∷ []) (no_token l.last []) last tight in (
-      subst (λ (x : List ℕ). Reads x ts) l.text (subst (Reads (l.front ++ l.byte ∷ [])) l.tokens (left-first (l.front ++ l.byte ∷ []) (l.told ++ l.last ∷ []) m)),
+      subst (λ (x : List ℕ). Reads x ts) l.text
+          (subst (Reads (l.front ++ l.byte ∷ [])) l.tokens (left-first (l.front ++ l.byte ∷ []) (l.told ++ l.last ∷ []) m)),
       λ xs ys p q. k xs ys (l.text ∙ p) (subst (λ (x : List Token). Left first_state xs (all_said x)) (sym l.tokens) (first-left xs ts q)),
     )

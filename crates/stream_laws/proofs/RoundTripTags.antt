@@ -42,7 +42,8 @@ written_text [] = []
 written_text (a ∷ more) = written_one a ++ written_text more
 
 pub name-byte : (bytes : List ℕ) → IsNcName bytes → (b : ℕ) × (bs : List ℕ) × (bytes ≡ b ∷ bs)
-name-byte bytes (c, cs, is, start, more) = let (b, zs, e) = first-byte c in (b, zs ++ encode_utf8_all cs, sym is ∙ ap (λ (l : List ℕ). l ++ encode_utf8_all cs) e)
+name-byte bytes (c, cs, is, start, more) = let (b, zs, e) =
+    first-byte c in (b, zs ++ encode_utf8_all cs, sym is ∙ ap (λ (l : List ℕ). l ++ encode_utf8_all cs) e)
 
 -- Qualified names.
 
@@ -53,7 +54,8 @@ abbrev further : ℕ → Token
 further = next_name_token Attribute
 
 abbrev QNameRuns : Stage → NameOwner → (ℕ → Token) → List ℕ → Type 0
-QNameRuns s r f name = (h : Half) × (b : ℕ) × (bs : List ℕ) × (name ≡ b ∷ bs) × Runs (between s) name (between (stage.Name r h)) (spread f (next_name_token r) name)
+QNameRuns s r f name = (h : Half) × (b : ℕ) × (bs : List ℕ) × (name ≡ b ∷ bs)
+    × Runs (between s) name (between (stage.Name r h)) (spread f (next_name_token r) name)
 
 colon-turn : (r : NameOwner) → turn (between (stage.Name r Prefix)) 58 ≡ leads (between (stage.Colon r)) (next_name_token r 58 ∷ [])
 unfolding turn_ascii ascii_kind ascii in_name
@@ -74,7 +76,8 @@ qname-runs s r f name begins (inr (p, l, e, n, m)) =
       runs-text (sym e) (runs-told
           (ap (λ (x : List Token). spread f (next_name_token r) p ++ (next_name_token r 58 ∷ x)) (spread-map (next_name_token r) l)
           ∙ (spread-more f (next_name_token r) p (58 ∷ l) b bs g ∙ ap (spread f (next_name_token r)) (sym e)))
-          (runs-then (name-runs s r f Prefix p begins n) (runs-step (colon-turn r) (name-runs (stage.Colon r) r (next_name_token r) Local l (colon-begins r) m)))),
+          (runs-then (name-runs s r f Prefix p begins n)
+          (runs-step (colon-turn r) (name-runs (stage.Colon r) r (next_name_token r) Local l (colon-begins r) m)))),
     )
 
 -- Attributes.
@@ -103,7 +106,8 @@ unfolding turn_ascii ascii_kind ascii in_name in_tag
 quote-ends = record { leads_so = refl }
 
 abbrev AttributeRuns : TagAt → Written → Type 0
-AttributeRuns t a = (x : RawAttribute) × (written (x ∷ []) ≡ a ∷ []) × Runs (between (tag_stage t)) (written_one a) (between (tag_stage valued)) (attribute_tokens x)
+AttributeRuns t a = (x : RawAttribute) × (written (x ∷ []) ≡ a ∷ [])
+    × Runs (between (tag_stage t)) (written_one a) (between (tag_stage valued)) (attribute_tokens x)
 
 attribute-runs : (t : TagAt) (a : Written) → IsWritten a → AttributeRuns t a
 attribute-runs t a (q, (cs, is, text)) =
@@ -116,7 +120,8 @@ attribute-runs t a (q, (cs, is, text)) =
     )
 
 abbrev pub AttributesRun : TagAt → List Written → Type 0
-AttributesRun t w = (xs : List RawAttribute) × (written xs ≡ w) × ((s : TagAt) × Runs (between (tag_stage t)) (written_text w) (between (tag_stage s)) (attributes_tokens xs))
+AttributesRun t w = (xs : List RawAttribute) × (written xs ≡ w)
+    × ((s : TagAt) × Runs (between (tag_stage t)) (written_text w) (between (tag_stage s)) (attributes_tokens xs))
 
 pub attributes-run : (t : TagAt) (w : List Written) → AllByRecursion IsWritten w → AttributesRun t w
 attributes-run t [] e = ([], refl, (t, runs-none))
@@ -144,7 +149,8 @@ abbrev name_tokens : RawName → List Token
 name_tokens n = token.TagOpens n.0 ∷ map token.NameByte n.1
 
 -- the name of a start tag, after its `<`
-pub start-runs : (g : Gap) (r : Bool) (n : RawName) → IsNcName (n.0 ∷ n.1) → Runs (gap_state g r) (60 ∷ n.0 ∷ n.1) (between (tag_stage named_tag)) (name_tokens n)
+pub start-runs : (g : Gap) (r : Bool) (n : RawName) → IsNcName (n.0 ∷ n.1)
+    → Runs (gap_state g r) (60 ∷ n.0 ∷ n.1) (between (tag_stage named_tag)) (name_tokens n)
 start-runs g r n is = runs-step (less-turn g r) (name-runs stage.Less StartTag (first_name_token StartTag) Prefix (n.0 ∷ n.1) less-begins is)
 
 pub tag-ends : (t : TagAt) → Runs (between (tag_stage t)) (codes ">") (between (gap_stage plain)) (token.TagEnds false ∷ [])
@@ -154,8 +160,30 @@ tag-ends valued = record { leads_so = refl }
 
 pub hollow-ends : (t : TagAt) → RunsLast (between (tag_stage t)) (codes "/>") (between (gap_stage plain)) (token.TagEnds true ∷ [])
 unfolding turn_ascii ascii_kind ascii in_name in_tag
-hollow-ends named_tag = record { front = codes "/"; byte = 62; state = between stage.EmptyTagMark; told = []; last = token.TagEnds true; text = refl; way = record { leads_so = refl }; step = refl; tokens = refl }
-hollow-ends valued = record { front = codes "/"; byte = 62; state = between stage.EmptyTagMark; told = []; last = token.TagEnds true; text = refl; way = record { leads_so = refl }; step = refl; tokens = refl }
+hollow-ends named_tag = record {
+  front = codes "/";
+  byte = 62;
+  state = between stage.EmptyTagMark;
+  told = [];
+  last = token.TagEnds true;
+  text = refl;
+  way =
+      record { leads_so = refl };
+  step = refl;
+  tokens = refl;
+}
+hollow-ends valued = record {
+  front = codes "/";
+  byte = 62;
+  state = between stage.EmptyTagMark;
+  told = [];
+  last = token.TagEnds true;
+  text = refl;
+  way =
+      record { leads_so = refl };
+  step = refl;
+  tokens = refl;
+}
 
 slash-turn : turn (between stage.Less) 47 ≡ leads (between stage.EndTagMark) []
 unfolding turn_ascii ascii_kind ascii in_tag
@@ -170,9 +198,21 @@ close-turn Prefix = refl
 close-turn Local = refl
 
 close-ends : (h : Half) → RunsLast (between (stage.Name EndTag h)) (codes ">") (between (gap_stage plain)) (token.CloseEnds ∷ [])
-close-ends h = record { front = []; byte = 62; state = between (stage.Name EndTag h); told = []; last = token.CloseEnds; text = refl; way = runs-none; step = close-turn h; tokens = refl }
+close-ends h = record {
+  front = [];
+  byte = 62;
+  state = between (stage.Name EndTag h);
+  told = [];
+  last = token.CloseEnds;
+  text = refl;
+  way = runs-none;
+  step =
+      close-turn h;
+  tokens = refl;
+}
 
-pub end-runs : (g : Gap) (r : Bool) (n : RawName) → IsQName (n.0 ∷ n.1) → RunsLast (gap_state g r) (codes "</" ++ ((n.0 ∷ n.1) ++ codes ">")) (between (gap_stage plain)) (end_tokens n)
+pub end-runs : (g : Gap) (r : Bool) (n : RawName) → IsQName (n.0 ∷ n.1)
+    → RunsLast (gap_state g r) (codes "</" ++ ((n.0 ∷ n.1) ++ codes ">")) (between (gap_stage plain)) (end_tokens n)
 end-runs g r n is =
     let (h, b, bs, e, q) = qname-runs stage.EndTagMark EndTag (first_name_token EndTag) (n.0 ∷ n.1) mark-begins is in
     last-then (mark-runs g r) (last-then q (close-ends h))

@@ -120,7 +120,8 @@ unfolding escaped_in_value escaped_in_words
 plain-value c h = grind (arith, nat_tests, h)
 
 value_low : ℕ → Bool
-value_low c = not (is_xml c && not (value_special c)) || ((is_value_character Single (ascii_kind c) || (is_kind kinds.Space (ascii_kind c) && c == 32)) && not (c == 13))
+value_low c = not (is_xml c && not (value_special c))
+    || ((is_value_character Single (ascii_kind c) || (is_kind kinds.Space (ascii_kind c) && c == 32)) && not (c == 13))
 
 values-low : all_under 128 value_low ≡ true
 unfolding value_low ascii_kind
@@ -143,9 +144,11 @@ unfolding value_low ascii
 low-value c l x s =
     let (a, b) = and_parts (is_value_character Single (ascii_kind c) || (is_kind kinds.Space (ascii_kind c) && c == 32)) (not (c == 13))
     (implied (is_xml c && not (value_special c)) _ (under 128 value_low values-low c l) (and_from _ _ x (ap not s))) in
-    runs-text (sym (ap (λ (l : List ℕ). l ++ []) (plain-value c s))) (runs-one (ascii-turn in_quotes c l (not-is (c == 13) b) ∙ ap (settled false) (by (either (is_value_character Single (ascii_kind c)) _ a))))
+    runs-text (sym (ap (λ (l : List ℕ). l ++ []) (plain-value c s)))
+    (runs-one (ascii-turn in_quotes c l (not-is (c == 13) b) ∙ ap (settled false) (by (either (is_value_character Single (ascii_kind c)) _ a))))
   where
-    by : (is_value_character Single (ascii_kind c) ≡ true) ⊎ ((is_kind kinds.Space (ascii_kind c) && c == 32) ≡ true) → in_value Single (ascii_kind c) c ≡ yields (token.Value c ∷ []) in_quotes
+    by : (is_value_character Single (ascii_kind c) ≡ true) ⊎ ((is_kind kinds.Space (ascii_kind c) && c == 32) ≡ true)
+        → in_value Single (ascii_kind c) c ≡ yields (token.Value c ∷ []) in_quotes
     by (inl e) = in_value-plain (ascii_kind c) c e
     by (inr e) =
         let (k, f) = and_parts (is_kind kinds.Space (ascii_kind c)) (c == 32) e in
@@ -169,9 +172,11 @@ value-character c x = elim (cases_lt c 128) [
   | inr h ↦ wide-value c h x
 ]
 
-pub characters-value : (cs : List ℕ) → AllByRecursion (λ c. is_xml c ≡ true) cs → Runs (between in_quotes) (value_text (encode_utf8_all cs)) (between in_quotes) (map token.Value cs)
+pub characters-value : (cs : List ℕ) → AllByRecursion (λ c. is_xml c ≡ true) cs
+    → Runs (between in_quotes) (value_text (encode_utf8_all cs)) (between in_quotes) (map token.Value cs)
 characters-value [] e = runs-none
-characters-value (c ∷ cs) e = runs-text (sym (flat_map-append escaped_in_value (encode_utf8 c) (encode_utf8_all cs))) (runs-then (value-character c e.0) (characters-value cs e.1))
+characters-value (c ∷ cs) e =
+    runs-text (sym (flat_map-append escaped_in_value (encode_utf8 c) (encode_utf8_all cs))) (runs-then (value-character c e.0) (characters-value cs e.1))
 
 -- In words.
 
@@ -289,7 +294,8 @@ in_words-plain (bracketed Many) k c h = refl
 low-words : (g : Gap) (c : ℕ) → c < 128 → is_xml c ≡ true → (words_special c || (c == 93)) ≡ false → WordsRun g (c ∷ []) (c ∷ [])
 unfolding words_low
 low-words g c l x s =
-    let (a, b) = and_parts (is_plain_word (ascii_kind c)) (not (c == 13)) (implied (is_xml c && not (words_special c || (c == 93))) _ (under 128 words_low all-words_low c l) (and_from _ _ x (ap not s))) in (
+    let (a, b) = and_parts (is_plain_word (ascii_kind c)) (not (c == 13))
+    (implied (is_xml c && not (words_special c || (c == 93))) _ (under 128 words_low all-words_low c l) (and_from _ _ x (ap not s))) in (
       plain,
       runs-text (sym (ap (λ (l : List ℕ). l ++ []) (plain-words c (or-left (words_special c) (c == 93) s))))
           (runs-one (ascii-turn (gap_stage g) c l (not-is (c == 13) b) ∙ ap (settled false) (in_words-plain g (ascii_kind c) c a))),
@@ -304,7 +310,8 @@ unfolding is_live
 live-gap plain = refl
 live-gap (bracketed b) = refl
 
-wide-gap : (g : Gap) (c : ℕ) → 128 ≤ c → has_between characters c c ≡ true → Runs (between (gap_stage g)) (encode_utf8 c) (between (stage.Text Words)) (token.Word c ∷ [])
+wide-gap : (g : Gap) (c : ℕ) → 128 ≤ c → has_between characters c c ≡ true
+    → Runs (between (gap_stage g)) (encode_utf8 c) (between (stage.Text Words)) (token.Word c ∷ [])
 unfolding allowed_at voice through
 wide-gap plain c h x = wide-runs (stage.Text Words) c (live-gap plain) h x
 wide-gap (bracketed One) c h x = wide-runs (stage.Bracketed One) c (live-gap (bracketed One)) h x

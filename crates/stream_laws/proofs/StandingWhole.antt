@@ -30,7 +30,8 @@ cond-none : {X : Type 0} (t : Bool) (x : X) → cond t (Some x) None ≡ None �
 cond-none true x e = absurd (none-some x (sym e))
 cond-none false x e = refl
 
-pub told-fault : (r : Rules) (f : Frame) (byte : ℕ) → is_broken f ≡ false → fault_told r f byte ≡ cond (is_broken (frame_next r f byte)) (Some (fault_at r f byte)) None
+pub told-fault : (r : Rules) (f : Frame) (byte : ℕ) → is_broken f ≡ false
+    → fault_told r f byte ≡ cond (is_broken (frame_next r f byte)) (Some (fault_at r f byte)) None
 told-fault r (open_at st n) byte h = refl
 told-fault r ended byte h = refl
 told-fault r broken byte h = absurd (let bad : true ≡ false = h in cc)
@@ -48,16 +49,20 @@ one-step l (reads f b m k) n byte (h, e) = by (byte_judged l f (clear b) m byte)
     number : told_number (k + 1) ≡ told_number (n + 1)
     number = ap (λ (i : ℕ). told_number (i + 1)) e ∙ number-next n
 
-    by : (o : Option FrameFault) → byte_judged l f (clear b) m byte ≡ o → IsWhole (concluded o (reads (frame_next (rules_of l) f byte) (build_all (clear b) (told_at f byte)) (extent_after (frame_next (rules_of l) f byte) m) (told_number (k + 1))) (told_number (k + 1))) (n + 1)
+    by : (o : Option FrameFault) → byte_judged l f (clear b) m byte ≡ o
+        → IsWhole (concluded o (reads (frame_next (rules_of l) f byte) (build_all (clear b) (told_at f byte)) (extent_after (frame_next (rules_of l) f byte) m)
+        (told_number (k + 1))) (told_number (k + 1))) (n + 1)
     by None j = let (past, later) = or-none _ _ j in let (told, more) = or-none _ _ later in (next-whole (rules_of l) f byte h told, number)
     by (Some g) j = (let e1 : told_number (k + 1) ≤ 2 ^ 64 - 1 = omega arith in e1)
 
 all-steps : (bytes : List ℕ) (l : Limits) (s : Reading) (n : ℕ) → IsWhole s n → IsWhole (went l s bytes) (n + length bytes)
 all-steps [] l s n h = subst (IsWhole s) (let e : n ≡ n + 0 = omega arith in e) h
-all-steps (b ∷ bs) l s n h = subst (IsWhole (went l s (b ∷ bs))) (let e : (n + 1) + length bs ≡ n + suc (length bs) = omega arith in e) (all-steps bs l (reading_next l (handed s) b) (n + 1) (one-step l s n b h))
+all-steps (b ∷ bs) l s n h = subst (IsWhole (went l s (b ∷ bs))) (let e : (n + 1) + length bs ≡ n + suc (length bs) = omega arith in e)
+    (all-steps bs l (reading_next l (handed s) b) (n + 1) (one-step l s n b h))
 
 pub whole : (l : Limits) (bytes : List ℕ) → IsWhole (went l first_reading bytes) (length bytes)
-whole l bytes = subst (IsWhole (went l first_reading bytes)) (let e : 0 + length bytes ≡ length bytes = omega arith in e) (all-steps bytes l first_reading 0 (refl, refl))
+whole l bytes = subst (IsWhole (went l first_reading bytes)) (let e : 0 + length bytes ≡ length bytes = omega arith in e)
+    (all-steps bytes l first_reading 0 (refl, refl))
 
 pub frames-more : (r : Rules) (x : Frame) (xs ys : List ℕ) → frame_after r x (xs ++ ys) ≡ frame_after r (frame_after r x xs) ys
 frames-more r x [] ys = refl

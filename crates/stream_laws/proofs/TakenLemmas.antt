@@ -58,15 +58,18 @@ done-is (reads f b n k) h = inr (refl, by b.item h)
 
 -- Stops.
 
-stop-is : (l : Limits) (before : List ℕ) (b : ℕ) → is_stopped (went l first_reading before) ≡ false → is_done (went l first_reading (before ++ b ∷ [])) ≡ true → IsStop l before b
+stop-is : (l : Limits) (before : List ℕ) (b : ℕ) → is_stopped (went l first_reading before) ≡ false → is_done (went l first_reading (before ++ b ∷ [])) ≡ true
+    → IsStop l before b
 stop-is l before b o h = by (done-is (went l first_reading (before ++ b ∷ [])) h)
   where
     by : Done (went l first_reading (before ++ b ∷ [])) → IsStop l before b
     by (inl (f, k, e)) = inr (f, (fault_waits l before b f k o e).0.1)
     by (inr (on, (i, e))) = inl (i, item_waits l before b i on e)
 
-no-stop : (l : Limits) (before : List ℕ) (b : ℕ) → is_stopped (went l first_reading before) ≡ false → is_done (went l first_reading (before ++ b ∷ [])) ≡ false → IsStop l before b → ⊥
-no-stop l before b o h (inl (i, is)) = let (on, none) = going-none (went l first_reading (before ++ b ∷ [])) h in none-some i (sym none ∙ item_given l before b i on is)
+no-stop : (l : Limits) (before : List ℕ) (b : ℕ) → is_stopped (went l first_reading before) ≡ false → is_done (went l first_reading (before ++ b ∷ [])) ≡ false
+    → IsStop l before b → ⊥
+no-stop l before b o h (inl (i, is)) = let (on, none) = going-none (went l first_reading (before ++ b ∷ [])) h in none-some i (sym none
+    ∙ item_given l before b i on is)
 no-stop l before b o h (inr (f, is)) = none_waits l before b f (going-none (went l first_reading (before ++ b ∷ [])) h).0 (o, is)
 
 -- One byte more before the piece.
@@ -77,11 +80,14 @@ head-free l before piece b never more = λ xs ys c e is. by xs ys c e is
     by : (xs ys : List ℕ) (c : ℕ) → b ∷ piece ≡ xs ++ (c ∷ ys) → IsStop l (before ++ xs) c → ⊥
     by [] ys c e is = never (subst (IsStop l before) (sym (same_head b c piece ys e)) (subst (λ (z : List ℕ). IsStop l z c) (append-nil before) is))
     by (x ∷ xs) ys c e is =
-        let here : before ++ (x ∷ xs) ≡ (before ++ b ∷ []) ++ xs = ap (λ (z : ℕ). before ++ (z ∷ xs)) (sym (same_head b x piece (xs ++ (c ∷ ys)) e)) ∙ sym (cons-after before xs b) in
+        let here : before ++ (x ∷ xs) ≡ (before ++ b ∷ []) ++ xs = ap (λ (z : ℕ). before ++ (z ∷ xs)) (sym (same_head b x piece (xs ++ (c ∷ ys)) e))
+        ∙ sym (cons-after before xs b) in
         more xs ys c (same_tail b x piece (xs ++ (c ∷ ys)) e) (subst (λ (z : List ℕ). IsStop l z c) here is)
 
-one-before : (l : Limits) (before piece : List ℕ) (b n : ℕ) → (IsStop l before b → ⊥) → IsTaken l (before ++ b ∷ []) piece n → IsTaken l before (b ∷ piece) (1 + n)
-one-before l before piece b n never (inl (free, is)) = inl (head-free l before piece b never free, (let e : 1 + n ≡ length (b ∷ piece) = omega (arith, is) in e))
+one-before : (l : Limits) (before piece : List ℕ) (b n : ℕ) → (IsStop l before b → ⊥) → IsTaken l (before ++ b ∷ []) piece n
+    → IsTaken l before (b ∷ piece) (1 + n)
+one-before l before piece b n never (inl (free, is)) =
+    inl (head-free l before piece b never free, (let e : 1 + n ≡ length (b ∷ piece) = omega (arith, is) in e))
 one-before l before piece b n never (inr (xs, c, ys, e, free, is, number)) = inr (
   b ∷ xs,
   c,
@@ -99,7 +105,8 @@ none-in-nil l before = λ xs ys b e is. by xs ys b e
     by [] ys b e = cons_not_nil b ys (sym e)
     by (x ∷ xs) ys b e = cons_not_nil x (xs ++ (b ∷ ys)) (sym e)
 
-taken-is : (piece : List ℕ) (l : Limits) (before : List ℕ) (s : Reading) → s ≡ handed (went l first_reading before) → is_stopped (went l first_reading before) ≡ false → IsTaken l before piece (taken_reading l s piece)
+taken-is : (piece : List ℕ) (l : Limits) (before : List ℕ) (s : Reading) → s ≡ handed (went l first_reading before)
+    → is_stopped (went l first_reading before) ≡ false → IsTaken l before piece (taken_reading l s piece)
 taken-is [] l before s e o = inl (none-in-nil l before, refl)
 taken-is (b ∷ bs) l before s e o = by (is_done (reading_next l s b)) refl (λ t h k. taken-is bs l (before ++ b ∷ []) t h k)
   where
@@ -107,7 +114,8 @@ taken-is (b ∷ bs) l before s e o = by (is_done (reading_next l s b)) refl (λ 
     next = ap (λ (x : Reading). reading_next l x b) e ∙ one-more l before b
 
     by : (t : Bool) → is_done (reading_next l s b) ≡ t
-        → ((u : Reading) → u ≡ handed (went l first_reading (before ++ b ∷ [])) → is_stopped (went l first_reading (before ++ b ∷ [])) ≡ false → IsTaken l (before ++ b ∷ []) bs (taken_reading l u bs))
+        → ((u : Reading) → u ≡ handed (went l first_reading (before ++ b ∷ [])) → is_stopped (went l first_reading (before ++ b ∷ [])) ≡ false
+        → IsTaken l (before ++ b ∷ []) bs (taken_reading l u bs))
         → IsTaken l before (b ∷ bs) (if t then 1 else 1 + taken_reading l (reading_next l s b) bs)
     by true h go = inr (
       [],
@@ -120,8 +128,10 @@ taken-is (b ∷ bs) l before s e o = by (is_done (reading_next l s b)) refl (λ 
     )
     by false h go =
         let on : is_done (went l first_reading (before ++ b ∷ [])) ≡ false = ap is_done (sym next) ∙ h in
-        let same : reading_next l s b ≡ handed (went l first_reading (before ++ b ∷ [])) = next ∙ sym (handed-ready (went l first_reading (before ++ b ∷ [])) (going-ready (went l first_reading (before ++ b ∷ [])) on)) in
-        one-before l before bs b (taken_reading l (reading_next l s b) bs) (no-stop l before b o on) (go (reading_next l s b) same (going-none (went l first_reading (before ++ b ∷ [])) on).0)
+        let same : reading_next l s b ≡ handed (went l first_reading (before ++ b ∷ [])) = next
+        ∙ sym (handed-ready (went l first_reading (before ++ b ∷ [])) (going-ready (went l first_reading (before ++ b ∷ [])) on)) in
+        one-before l before bs b (taken_reading l (reading_next l s b) bs) (no-stop l before b o on)
+        (go (reading_next l s b) same (going-none (went l first_reading (before ++ b ∷ [])) on).0)
 
 handed-goes : (s : Reading) → is_stopped s ≡ false → is_stopped (handed s) ≡ false
 handed-goes (reads f b n k) h = refl
@@ -137,7 +147,8 @@ piece_taken l before piece none =
     subst (IsTaken l before piece) (sym (taken-going l (handed (went l first_reading before)) piece (handed-goes (went l first_reading before) on)))
     (taken-is piece l before (handed (went l first_reading before)) refl on)
 
-pub faulty_taken : (l : Limits) (before piece : List ℕ) (k : ℕ) (f : FrameFault) → IsFault l before k f → taken l (handed (went l first_reading before)) piece ≡ length piece
+pub faulty_taken : (l : Limits) (before piece : List ℕ) (k : ℕ) (f : FrameFault) → IsFault l before k f
+    → taken l (handed (went l first_reading before)) piece ≡ length piece
 faulty_taken l before piece k f is = ap (λ (s : Reading). taken l (handed s) piece) (place_stops l before k f is)
 
 -- There is one such number.
@@ -149,7 +160,8 @@ first-stop : (xs us ys vs : List ℕ) (b c : ℕ) → xs ++ (b ∷ ys) ≡ us ++
 first-stop [] [] ys vs b c e = inl refl
 first-stop [] (u ∷ us) ys vs b c e = inr (inl (us, ap (λ (z : ℕ). z ∷ us) (sym (same_head b u ys (us ++ (c ∷ vs)) e))))
 first-stop (x ∷ xs) [] ys vs b c e = inr (inr (xs, ap (λ (z : ℕ). z ∷ xs) (same_head x c (xs ++ (b ∷ ys)) vs e)))
-first-stop (x ∷ xs) (u ∷ us) ys vs b c e = more (same_head x u (xs ++ (b ∷ ys)) (us ++ (c ∷ vs)) e) (first-stop xs us ys vs b c (same_tail x u (xs ++ (b ∷ ys)) (us ++ (c ∷ vs)) e))
+first-stop (x ∷ xs) (u ∷ us) ys vs b c e =
+    more (same_head x u (xs ++ (b ∷ ys)) (us ++ (c ∷ vs)) e) (first-stop xs us ys vs b c (same_tail x u (xs ++ (b ∷ ys)) (us ++ (c ∷ vs)) e))
   where
     more : x ≡ u → FirstStop xs b us c → FirstStop (x ∷ xs) b (u ∷ us) c
     more h (inl p) = inl (ap (λ (z : ℕ). z ∷ xs) h ∙ ap (λ (z : List ℕ). u ∷ z) p)
@@ -160,7 +172,8 @@ pub one_number : (l : Limits) (before piece : List ℕ) (n m : ℕ) → IsTaken 
 one_number l before piece n m (inl (free, is)) (inl (none, too)) = is ∙ sym too
 one_number l before piece n m (inl (free, is)) (inr (xs, b, ys, e, none, stop, too)) = absurd (free xs ys b e stop)
 one_number l before piece n m (inr (xs, b, ys, e, none, stop, is)) (inl (free, too)) = absurd (free xs ys b e stop)
-one_number l before piece n m (inr (xs, b, ys, e, none, stop, is)) (inr (us, c, vs, h, free, last, too)) = is ∙ (ap (λ (z : List ℕ). length z + 1) (by (first-stop xs us ys vs b c (sym e ∙ h))) ∙ sym too)
+one_number l before piece n m (inr (xs, b, ys, e, none, stop, is)) (inr (us, c, vs, h, free, last, too)) = is
+    ∙ (ap (λ (z : List ℕ). length z + 1) (by (first-stop xs us ys vs b c (sym e ∙ h))) ∙ sym too)
   where
     by : FirstStop xs b us c → xs ≡ us
     by (inl p) = p

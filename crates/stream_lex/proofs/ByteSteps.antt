@@ -83,7 +83,8 @@ pub left-plain : (s : Stage) (r : Bool) (more : List ℕ) (ms : List Sign) → L
 left-plain s r more ms (cs, sc, e, m) = (cs, sc, e, subst (λ (l : List Token). IsText (rest_at s) (lines r cs) (all_said l ++ ms)) (heard-nil (voice s)) m)
 
 pub plain-left : (s : Stage) (r : Bool) (more : List ℕ) (ms : List Sign) → Plain s r more ms → Left (at s pending.Nothing r) more ms
-plain-left s r more ms (cs, sc, e, m) = (cs, sc, e, subst (λ (l : List Token). IsText (rest_at s) (lines r cs) (all_said l ++ ms)) (sym (heard-nil (voice s))) m)
+plain-left s r more ms (cs, sc, e, m) =
+    (cs, sc, e, subst (λ (l : List Token). IsText (rest_at s) (lines r cs) (all_said l ++ ms)) (sym (heard-nil (voice s))) m)
 
 -- the first character of a text, by its bytes
 first_character-of : (n : ℕ) (q more cs : List ℕ) → encode_utf8 n ≡ q → all_scalars cs ≡ true → encode_utf8_all cs ≡ q ++ more
@@ -117,8 +118,14 @@ single-step s r0 r b c us u low line to from = record {
       );
   utf8 = λ more h.
       let (es, same, enc, scs) = first_character-of b (b ∷ []) more h.0 (encode1 b low) h.1.0 h.1.1 in (es, (scs, enc));
-  utf8_text = λ more h.
-      (b ∷ h.0, (and_from _ _ (ascii-scalar b low) h.1.0, ap (λ (l1 : List ℕ). l1 ++ encode_utf8_all h.0) (encode1 b low) ∙ ap (λ (l1 : List ℕ). b ∷ l1) h.1.1));
+  utf8_text = λ more h. (
+    b ∷ h.0,
+    (
+      and_from _ _ (ascii-scalar b low) h.1.0,
+      ap (λ (l1 : List ℕ). l1 ++ encode_utf8_all h.0) (encode1 b low)
+          ∙ ap (λ (l1 : List ℕ). b ∷ l1) h.1.1,
+    ),
+  );
 }
 
 -- the signs of a refused text
@@ -128,12 +135,14 @@ leaves-refused s Restricted cs ms (ns, e, m) = (ns, e)
 leaves-refused s BadEncoding cs ms (ns, e, m) = (ns, e)
 
 -- a text that is refused after the character, of a kind other than `NotWellFormed`
-leaves-shown : (s : Stage) (f : LexFault) (cs : List ℕ) (ns : List Sign) → IsText (beyond_refusal s) cs ns → (f ≡ NotWellFormed → ⊥) → Leaves s (stops f) cs (refuses f ∷ ns)
+leaves-shown : (s : Stage) (f : LexFault) (cs : List ℕ) (ns : List Sign) → IsText (beyond_refusal s) cs ns → (f ≡ NotWellFormed → ⊥)
+    → Leaves s (stops f) cs (refuses f ∷ ns)
 leaves-shown s NotWellFormed cs ns m h = absurd (h refl)
 leaves-shown s Restricted cs ns m h = (ns, refl, m)
 leaves-shown s BadEncoding cs ns m h = (ns, refl, m)
 
-has-shown : (f : LexFault) (st : State) (b : ℕ) → ((f ≡ NotWellFormed → ⊥) → (more : List ℕ) × (ns : List Sign) × Left st (b ∷ more) (refuses f ∷ ns)) → HasRefused f st b
+has-shown : (f : LexFault) (st : State) (b : ℕ) → ((f ≡ NotWellFormed → ⊥) → (more : List ℕ) × (ns : List Sign) × Left st (b ∷ more) (refuses f ∷ ns))
+    → HasRefused f st b
 has-shown NotWellFormed st b h = tt
 has-shown Restricted st b h = h (λ e. let bad : Restricted ≡ NotWellFormed = e in cc)
 has-shown BadEncoding st b h = h (λ e. let bad : BadEncoding ≡ NotWellFormed = e in cc)
@@ -199,7 +208,14 @@ feed-goes s b e =
             subst (λ (l1 : List ℕ). IsText (rest_at s) l1 ns) (sym (line es)) m,
           );
       utf8 = λ more h. let (es, same, enc, scs) = first_character-of b (b ∷ []) more h.0 (encode1 b low) h.1.0 h.1.1 in (es, (scs, enc));
-      utf8_text = λ more h. (b ∷ h.0, (and_from _ _ (ascii-scalar b low) h.1.0, ap (λ (l1 : List ℕ). l1 ++ encode_utf8_all h.0) (encode1 b low) ∙ ap (λ (l1 : List ℕ). b ∷ l1) h.1.1));
+      utf8_text = λ more h. (
+        b ∷ h.0,
+        (
+          and_from _ _ (ascii-scalar b low) h.1.0,
+          ap (λ (l1 : List ℕ). l1 ++ encode_utf8_all h.0) (encode1 b low)
+              ∙ ap (λ (l1 : List ℕ). b ∷ l1) h.1.1,
+        ),
+      );
     }
 
 return-line : (r0 : Bool) (b : ℕ) (cs : List ℕ) → (r0 && b == 10) ≡ false → b ≡ 13 → lines r0 (b ∷ cs) ≡ 10 ∷ lines true cs
@@ -261,15 +277,19 @@ grouped : (p : Pending) (b : ℕ) (more : List ℕ) → (bytes_of p ++ b ∷ [])
 grouped p b more = append_assoc (bytes_of p) (b ∷ []) more
 
 -- such bytes begin no character below 128
-not-low : (p : Pending) (b n : ℕ) (ys zs : List ℕ) → is_begun p ≡ true → (bytes_of p ≡ [] → 128 ≤ b) → encode_utf8 n ++ ys ≡ bytes_of p ++ (b ∷ zs) → n < 128 → ⊥
+not-low : (p : Pending) (b n : ℕ) (ys zs : List ℕ) → is_begun p ≡ true → (bytes_of p ≡ [] → 128 ≤ b) → encode_utf8 n ++ ys ≡ bytes_of p ++ (b ∷ zs) → n < 128
+    → ⊥
 not-low pending.Nothing b n ys zs h k e low =
     let same : n ≡ b = same_head n b ys zs (ap (λ (l : List ℕ). l ++ ys) (sym (encode1 n low)) ∙ e) in let high = k refl in omega arith
 not-low (pending.One a) b n ys zs h k e low =
-    let same : n ≡ a = same_head n a ys (b ∷ zs) (ap (λ (l : List ℕ). l ++ ys) (sym (encode1 n low)) ∙ e) in let (x, y) = between-parts 194 244 a h in omega arith
+    let same : n ≡ a = same_head n a ys (b ∷ zs) (ap (λ (l : List ℕ). l ++ ys) (sym (encode1 n low)) ∙ e) in let (x, y) =
+    between-parts 194 244 a h in omega arith
 not-low (pending.Two a c) b n ys zs h k e low =
-    let same : n ≡ a = same_head n a ys (c ∷ b ∷ zs) (ap (λ (l : List ℕ). l ++ ys) (sym (encode1 n low)) ∙ e) in let (x, y) = between-parts 224 244 a (and_parts (is_between 224 244 a) (is_second a c) h).0 in omega arith
+    let same : n ≡ a = same_head n a ys (c ∷ b ∷ zs) (ap (λ (l : List ℕ). l ++ ys) (sym (encode1 n low)) ∙ e) in let (x, y) =
+    between-parts 224 244 a (and_parts (is_between 224 244 a) (is_second a c) h).0 in omega arith
 not-low (pending.Three a c d) b n ys zs h k e low =
-    let same : n ≡ a = same_head n a ys (c ∷ d ∷ b ∷ zs) (ap (λ (l : List ℕ). l ++ ys) (sym (encode1 n low)) ∙ e) in let (x, y) = between-parts 240 244 a (and_parts (is_between 240 244 a) (is_second a c && is_continuation d) h).0 in omega arith
+    let same : n ≡ a = same_head n a ys (c ∷ d ∷ b ∷ zs) (ap (λ (l : List ℕ). l ++ ys) (sym (encode1 n low)) ∙ e) in let (x, y) =
+    between-parts 240 244 a (and_parts (is_between 240 244 a) (is_second a c && is_continuation d) h).0 in omega arith
 
 -- the first character of a text that begins so
 pub record First (p : Pending) (b : ℕ) (more cs : List ℕ) : Type 0 where
@@ -343,9 +363,11 @@ heard_on (by_byte first_character further_character) n rest = map further_charac
 
 voiced-cut : (v : Voice) (n a : ℕ) (bs rest : List ℕ) → encode_utf8 n ≡ (a ∷ bs) ++ rest → voiced v n ≡ heard v (a ∷ bs) ++ heard_on v n rest
 voiced-cut (whole f) n a bs rest e = refl
-voiced-cut (by_byte first_character further_character) n a bs rest e = ap (spread first_character further_character) e ∙ ap (λ (l : List Token). first_character a ∷ l) (map-more further_character bs rest)
+voiced-cut (by_byte first_character further_character) n a bs rest e = ap (spread first_character further_character) e
+    ∙ ap (λ (l : List Token). first_character a ∷ l) (map-more further_character bs rest)
 
-front : (v : Voice) (p : Pending) (b n : ℕ) (rest : List ℕ) → encode_utf8 n ≡ (bytes_of p ++ b ∷ []) ++ rest → voiced v n ≡ heard v (bytes_of p ++ b ∷ []) ++ heard_on v n rest
+front : (v : Voice) (p : Pending) (b n : ℕ) (rest : List ℕ) → encode_utf8 n ≡ (bytes_of p ++ b ∷ []) ++ rest
+    → voiced v n ≡ heard v (bytes_of p ++ b ∷ []) ++ heard_on v n rest
 front v pending.Nothing b n rest e = voiced-cut v n b [] rest e
 front v (pending.One a) b n rest e = voiced-cut v n a (b ∷ []) rest e
 front v (pending.Two a c) b n rest e = voiced-cut v n a (c ∷ b ∷ []) rest e
@@ -353,12 +375,17 @@ front v (pending.Three a c d) b n rest e = voiced-cut v n a (c ∷ d ∷ b ∷ [
 
 pub voiced-split : (v : Voice) (p : Pending) (b n : ℕ) (rest : List ℕ) → encode_utf8 n ≡ (bytes_of p ++ b ∷ []) ++ rest
     → voiced v n ≡ heard v (bytes_of p) ++ (byte_told v p b ++ heard_on v n rest)
-voiced-split v p b n rest e = front v p b n rest e ∙ (ap (λ (l : List Token). l ++ heard_on v n rest) (voiced-more v p b) ∙ append_assoc (heard v (bytes_of p)) (byte_told v p b) (heard_on v n rest))
+voiced-split v p b n rest e = front v p b n rest e
+    ∙ (ap (λ (l : List Token). l ++ heard_on v n rest) (voiced-more v p b) ∙ append_assoc (heard v (bytes_of p)) (byte_told v p b) (heard_on v n rest))
 
-voiced-whole : (v : Voice) (p : Pending) (b n : ℕ) → encode_utf8 n ≡ bytes_of p ++ b ∷ [] → voiced v n ≡ heard v (bytes_of p) ++ (byte_told v p b ++ end_told v n)
+voiced-whole : (v : Voice) (p : Pending) (b n : ℕ) → encode_utf8 n ≡ bytes_of p ++ b ∷ []
+    → voiced v n ≡ heard v (bytes_of p) ++ (byte_told v p b ++ end_told v n)
 voiced-whole (whole f) p b n e = refl
 voiced-whole (by_byte first_character further_character) p b n e =
-    ap (spread first_character further_character) e ∙ (voiced-more (by_byte first_character further_character) p b ∙ ap (λ (l : List Token). heard (by_byte first_character further_character) (bytes_of p) ++ l) (sym (append-nil (byte_told (by_byte first_character further_character) p b))))
+    ap (spread first_character further_character) e
+    ∙ (voiced-more (by_byte first_character further_character) p b
+    ∙ ap (λ (l : List Token). heard (by_byte first_character further_character) (bytes_of p) ++ l)
+    (sym (append-nil (byte_told (by_byte first_character further_character) p b))))
 
 -- what follows the same tokens
 same-derivative : (ts : List Token) (xs ys : List Sign) → all_said ts ++ xs ≡ all_said ts ++ ys → xs ≡ ys
@@ -406,8 +433,10 @@ begun-told s p q b more cs low high r0 ms live begun met f true e m =
     subst (λ (l : List ℕ). IsText (rest_at s) l (all_said (heard (voice s) (bytes_of p)) ++ ms)) (ap (lines r0) f.is ∙ high-line r0 f.n f.es f.high) m in
     let (ns, same, m2) = wide-leaves s f.n (lines false f.es) (all_said (heard (voice s) (bytes_of p)) ++ ms) live f.high e m1 in
     let (rest, enc, left) = reach-starts p b f.n begun f.within in
-    let cut : all_said (heard (voice s) (bytes_of p)) ++ ms ≡ all_said (heard (voice s) (bytes_of p)) ++ (all_said (byte_told (voice s) p b) ++ (all_said (heard_on (voice s) f.n rest) ++ ns)) =
-    same ∙ (ap (λ (l : List Token). all_said l ++ ns) (voiced-split (voice s) p b f.n rest enc) ∙ said-three (heard (voice s) (bytes_of p)) (byte_told (voice s) p b) (heard_on (voice s) f.n rest) ns) in
+    let cut : all_said (heard (voice s) (bytes_of p)) ++ ms ≡ all_said (heard (voice s) (bytes_of p))
+    ++ (all_said (byte_told (voice s) p b) ++ (all_said (heard_on (voice s) f.n rest) ++ ns)) =
+    same ∙ (ap (λ (l : List Token). all_said l ++ ns) (voiced-split (voice s) p b f.n rest enc)
+    ∙ said-three (heard (voice s) (bytes_of p)) (byte_told (voice s) p b) (heard_on (voice s) f.n rest) ns) in
     (all_said (heard_on (voice s) f.n rest) ++ ns, same-derivative (heard (voice s) (bytes_of p)) ms _ cut)
 begun-told s p q b more cs low high r0 ms live begun met f false e m =
     let m1 : IsText (rest_at s) (f.n ∷ lines false f.es) (all_said (heard (voice s) (bytes_of p)) ++ ms) =
@@ -421,8 +450,10 @@ begun-goes : (s : Stage) (p q : Pending) (r0 : Bool) (b low high : ℕ) → is_l
     → bytes_of q ≡ bytes_of p ++ b ∷ [] → has_between (class_of (allowed_at s)) low high ≡ true
     → Goes (at s p r0) b (byte_told (voice s) p b) (at s q r0)
 begun-goes s p q r0 b low high live begun k spelt met =
-    let longer : (more : List ℕ) → bytes_of p ++ (b ∷ more) ≡ bytes_of q ++ more = λ more. sym (grouped p b more) ∙ ap (λ (l : List ℕ). l ++ more) (sym spelt) in
-    let hears : heard (voice s) (bytes_of q) ≡ heard (voice s) (bytes_of p) ++ byte_told (voice s) p b = ap (heard (voice s)) spelt ∙ voiced-more (voice s) p b in record {
+    let longer : (more : List ℕ) → bytes_of p ++ (b ∷ more) ≡ bytes_of q ++ more = λ more. sym (grouped p b more)
+    ∙ ap (λ (l : List ℕ). l ++ more) (sym spelt) in
+    let hears : heard (voice s) (bytes_of q) ≡ heard (voice s) (bytes_of p) ++ byte_told (voice s) p b = ap (heard (voice s)) spelt
+    ∙ voiced-more (voice s) p b in record {
       rest = λ more ms l.
           let (cs, sc, e, m) = l in
           let f = first_character-in p b more cs begun k sc e in
@@ -434,7 +465,9 @@ begun-goes s p q r0 b low high live begun k spelt met =
               sc,
               e ∙ longer more,
               subst (λ (l1 : List Sign). IsText (rest_at s) (lines r0 cs) l1)
-                  (ap (λ (l1 : List Sign). all_said (heard (voice s) (bytes_of p)) ++ l1) same ∙ (sym (said-two (heard (voice s) (bytes_of p)) (byte_told (voice s) p b) ns) ∙ ap (λ (l1 : List Token). all_said l1 ++ ns) (sym hears))) m,
+                  (ap (λ (l1 : List Sign). all_said (heard (voice s) (bytes_of p)) ++ l1) same
+                  ∙ (sym (said-two (heard (voice s) (bytes_of p)) (byte_told (voice s) p b) ns) ∙ ap (λ (l1 : List Token). all_said l1 ++ ns) (sym hears)))
+                  m,
             ),
           );
       text = λ more ns l.
@@ -452,7 +485,8 @@ begun-goes s p q r0 b low high live begun k spelt met =
 -- The last byte of a character.
 
 whole-goes : (s : Stage) (p : Pending) (r0 : Bool) (b n : ℕ) → is_live_stage s ≡ true → encode_utf8 n ≡ bytes_of p ++ b ∷ []
-    → has_between (class_of (allowed_at s)) n n ≡ true → Goes (at s p r0) b (byte_told (voice s) p b ++ end_told (voice s) n) (at (through s) pending.Nothing false)
+    → has_between (class_of (allowed_at s)) n n ≡ true
+    → Goes (at s p r0) b (byte_told (voice s) p b ++ end_told (voice s) n) (at (through s) pending.Nothing false)
 whole-goes s p r0 b n live enc met =
     let high : 128 ≤ n = class-low (allowed_at s) n met in
     let us : List Token = byte_told (voice s) p b ++ end_told (voice s) n in
@@ -462,13 +496,15 @@ whole-goes s p r0 b n live enc met =
       rest = λ more ms l.
           let (cs, sc, e, m) = l in
           let (es, same, en, scs) = first_character-of n (bytes_of p ++ b ∷ []) more cs enc sc (e ∙ sym (longer more)) in
-          let m1 : IsText (rest_at s) (n ∷ lines false es) (all_said hs ++ ms) = subst (λ (l1 : List ℕ). IsText (rest_at s) l1 (all_said hs ++ ms)) (ap (lines r0) same ∙ high-line r0 n es high) m in
+          let m1 : IsText (rest_at s) (n ∷ lines false es) (all_said hs ++ ms) =
+          subst (λ (l1 : List ℕ). IsText (rest_at s) l1 (all_said hs ++ ms)) (ap (lines r0) same ∙ high-line r0 n es high) m in
           let (ns, told, m2) = wide-leaves s n (lines false es) (all_said hs ++ ms) live high met m1 in
           let cut : all_said hs ++ ms ≡ all_said hs ++ (all_said us ++ ns) = told ∙ (ap (λ (l1 : List Token). all_said l1 ++ ns) tells ∙ said-two hs us ns) in
           (ns, same-derivative hs ms (all_said us ++ ns) cut, plain-left (through s) false more ns (es, scs, en, m2));
       text = λ more ns l.
           let (es, sc, e, m) = left-plain (through s) false more ns l in
-          let told : all_said hs ++ (all_said us ++ ns) ≡ all_said (voiced (voice s) n) ++ ns = sym (said-two hs us ns) ∙ ap (λ (l1 : List Token). all_said l1 ++ ns) (sym tells) in (
+          let told : all_said hs ++ (all_said us ++ ns) ≡ all_said (voiced (voice s) n) ++ ns = sym (said-two hs us ns)
+          ∙ ap (λ (l1 : List Token). all_said l1 ++ ns) (sym tells) in (
             n ∷ es,
             and_from _ _ (class-scalar (allowed_at s) n met) sc,
             ap (λ (l1 : List ℕ). l1 ++ encode_utf8_all es) enc ∙ (ap (λ (l1 : List ℕ). (bytes_of p ++ b ∷ []) ++ l1) e ∙ longer more),
@@ -477,8 +513,14 @@ whole-goes s p r0 b n live enc met =
           );
       utf8 = λ more h.
           let (es, same, en, scs) = first_character-of n (bytes_of p ++ b ∷ []) more h.0 enc h.1.0 (h.1.1 ∙ sym (longer more)) in (es, (scs, en));
-      utf8_text = λ more h.
-          (n ∷ h.0, (and_from _ _ (class-scalar (allowed_at s) n met) h.1.0, ap (λ (l1 : List ℕ). l1 ++ encode_utf8_all h.0) enc ∙ (ap (λ (l1 : List ℕ). (bytes_of p ++ b ∷ []) ++ l1) h.1.1 ∙ longer more)));
+      utf8_text = λ more h. (
+        n ∷ h.0,
+        (
+          and_from _ _ (class-scalar (allowed_at s) n met) h.1.0,
+          ap (λ (l1 : List ℕ). l1 ++ encode_utf8_all h.0) enc
+              ∙ (ap (λ (l1 : List ℕ). (bytes_of p ++ b ∷ []) ++ l1) h.1.1 ∙ longer more),
+        ),
+      );
     }
 
 -- A byte that begins no character that may come.
@@ -512,11 +554,13 @@ pub record Spans (p : Pending) (b low high : ℕ) : Type 0 where
   pub only : (n : ℕ) → Within (reach p b) n → (low ≤ n) × (n ≤ high)
   pub each : (n : ℕ) → low ≤ n → n ≤ high → Within (reach p b) n
 
-not-met : (s : Stage) (n low high : ℕ) → has_between (class_of (allowed_at s)) low high ≡ false → low ≤ n → n ≤ high → has_between (class_of (allowed_at s)) n n ≡ false
+not-met : (s : Stage) (n low high : ℕ) → has_between (class_of (allowed_at s)) low high ≡ false → low ≤ n → n ≤ high
+    → has_between (class_of (allowed_at s)) n n ≡ false
 not-met s n low high void h k =
     false_from_ne_true (has_between (class_of (allowed_at s)) n n) (λ e. true-false (has_between-of (class_of (allowed_at s)) n low high e h k) void)
 
-wide-refuses : (s : Stage) (p : Pending) (r0 : Bool) (b low high : ℕ) → is_live_stage s ≡ true → is_begun p ≡ true → is_awaited (class_of (allowed_at s)) p ≡ true
+wide-refuses : (s : Stage) (p : Pending) (r0 : Bool) (b low high : ℕ) → is_live_stage s ≡ true → is_begun p ≡ true
+    → is_awaited (class_of (allowed_at s)) p ≡ true
     → (bytes_of p ≡ [] → 128 ≤ b) → Spans p b low high → has_between (class_of (allowed_at s)) low high ≡ false → has_between scalar_values low high ≡ true
     → Refuses (at s p r0) b (wide_fault s)
 wide-refuses s p r0 b low high live begun waits k span void some =
@@ -524,7 +568,8 @@ wide-refuses s p r0 b low high live begun waits k span void some =
     let (rest, enc, left) = reach-starts p b n begun (span.each n above below) in
     let high_n : 128 ≤ n = scalars-low n is in
     let spelt : (es : List ℕ) → encode_utf8_all (n ∷ es) ≡ bytes_of p ++ (b ∷ (rest ++ encode_utf8_all es)) =
-    λ es. ap (λ (l : List ℕ). l ++ encode_utf8_all es) enc ∙ (append_assoc (bytes_of p ++ b ∷ []) rest (encode_utf8_all es) ∙ grouped p b (rest ++ encode_utf8_all es)) in record {
+    λ es. ap (λ (l : List ℕ). l ++ encode_utf8_all es) enc
+    ∙ (append_assoc (bytes_of p ++ b ∷ []) rest (encode_utf8_all es) ∙ grouped p b (rest ++ encode_utf8_all es)) in record {
       refused = λ more ms l.
           let (cs, sc, e, m) = l in
           let f = first_character-in p b more cs begun k sc e in
@@ -541,9 +586,12 @@ wide-refuses s p r0 b low high live begun waits k span void some =
               n ∷ es,
               and_from _ _ (scalars-are n is) (clean-scalars es clean),
               spelt es,
-              subst (λ (l1 : List Token). IsText (rest_at s) (lines r0 (n ∷ es)) (all_said l1 ++ (refuses (wide_fault s) ∷ all_said ts))) (sym (void-heard s p waits other))
-                  (subst (λ (l1 : List ℕ). IsText (rest_at s) l1 (refuses (wide_fault s) ∷ all_said ts)) (sym (high-line r0 n es high_n ∙ ap (λ (l1 : List ℕ). n ∷ l1) (clean-lines false es clean)))
-                  (wide-refused s n es (refuses (wide_fault s) ∷ all_said ts) live high_n (not-met s n low high void above below) (leaves-shown s (wide_fault s) es (all_said ts) m other))),
+              subst (λ (l1 : List Token). IsText (rest_at s) (lines r0 (n ∷ es)) (all_said l1 ++ (refuses (wide_fault s) ∷ all_said ts)))
+                  (sym (void-heard s p waits other))
+                  (subst (λ (l1 : List ℕ). IsText (rest_at s) l1 (refuses (wide_fault s) ∷ all_said ts))
+                  (sym (high-line r0 n es high_n ∙ ap (λ (l1 : List ℕ). n ∷ l1) (clean-lines false es clean)))
+                  (wide-refused s n es (refuses (wide_fault s) ∷ all_said ts) live high_n (not-met s n low high void above below)
+                  (leaves-shown s (wide_fault s) es (all_said ts) m other))),
             ),
           ));
       utf8 = (rest ++ encode_utf8_all [], (n ∷ [], (and_from _ _ (scalars-are n is) refl, spelt [])));
@@ -563,7 +611,8 @@ wide-fails s p r0 b low high live begun waits k span void =
     (λ some. refusing (wide-refuses s p r0 b low high live begun waits k span void some))
     (λ nothing. undecodable refl (wide-undecodable s p r0 b low high begun k span nothing))
 
-wide-does : (s : Stage) (p : Pending) (r0 : Bool) (b : ℕ) (r : Reach) → reach p b ≡ r → is_live_stage s ≡ true → is_begun p ≡ true → is_awaited (class_of (allowed_at s)) p ≡ true
+wide-does : (s : Stage) (p : Pending) (r0 : Bool) (b : ℕ) (r : Reach) → reach p b ≡ r → is_live_stage s ≡ true → is_begun p ≡ true
+    → is_awaited (class_of (allowed_at s)) p ≡ true
     → (bytes_of p ≡ [] → 128 ≤ b) → Does (at s p r0) b (turn_wide (at s p r0) b r)
 unfolding turn_wide
 wide-does s p r0 b (Begun q low high) e live begun waits k =
@@ -580,7 +629,8 @@ wide-does s p r0 b (Whole n) e live begun waits k =
     let here : Within (reach p b) n = subst (λ (x : Reach). Within x n) (sym e) refl in
     let (rest, enc, left) = reach-starts p b n begun here in
     let nothing : rest ≡ [] = subst (λ (x : Reach). IsRest x rest) e left in
-    let whole_enc : encode_utf8 n ≡ bytes_of p ++ b ∷ [] = enc ∙ (ap (λ (l : List ℕ). (bytes_of p ++ b ∷ []) ++ l) nothing ∙ append-nil (bytes_of p ++ b ∷ [])) in
+    let whole_enc : encode_utf8 n ≡ bytes_of p ++ b ∷ [] = enc
+    ∙ (ap (λ (l : List ℕ). (bytes_of p ++ b ∷ []) ++ l) nothing ∙ append-nil (bytes_of p ++ b ∷ [])) in
     let span : Spans p b n n = record {
       ordered = omega arith;
       only = λ m w. let same : m ≡ n = subst (λ (x : Reach). Within x m) e w in (omega arith, omega arith);
@@ -595,12 +645,16 @@ wide-does s p r0 b Broken e live begun waits k =
 does-at : (s : Stage) (p : Pending) (r0 : Bool) (b : ℕ) → is_live_stage s ≡ true → is_begun p ≡ true → is_awaited (class_of (allowed_at s)) p ≡ true
     → Does (at s p r0) b (turn (at s p r0) b)
 does-at s pending.Nothing r0 b live begun waits =
-    cond_both (nat_lt b 128) (turn_ascii (at s pending.Nothing r0) b) (turn_wide (at s pending.Nothing r0) b (reach pending.Nothing b)) (Does (at s pending.Nothing r0) b)
+    cond_both (nat_lt b 128) (turn_ascii (at s pending.Nothing r0) b) (turn_wide (at s pending.Nothing r0) b (reach pending.Nothing b))
+    (Does (at s pending.Nothing r0) b)
     (λ e. turn_ascii-does s r0 b live (ltb-true b 128 e))
     (λ f. wide-does s pending.Nothing r0 b (reach pending.Nothing b) refl live begun waits (λ e. ltb-false b 128 f))
-does-at s (pending.One a) r0 b live begun waits = wide-does s (pending.One a) r0 b (reach (pending.One a) b) refl live begun waits (λ e. absurd (cons_not_nil a [] e))
-does-at s (pending.Two a c) r0 b live begun waits = wide-does s (pending.Two a c) r0 b (reach (pending.Two a c) b) refl live begun waits (λ e. absurd (cons_not_nil a (c ∷ []) e))
-does-at s (pending.Three a c d) r0 b live begun waits = wide-does s (pending.Three a c d) r0 b (reach (pending.Three a c d) b) refl live begun waits (λ e. absurd (cons_not_nil a (c ∷ d ∷ []) e))
+does-at s (pending.One a) r0 b live begun waits =
+    wide-does s (pending.One a) r0 b (reach (pending.One a) b) refl live begun waits (λ e. absurd (cons_not_nil a [] e))
+does-at s (pending.Two a c) r0 b live begun waits =
+    wide-does s (pending.Two a c) r0 b (reach (pending.Two a c) b) refl live begun waits (λ e. absurd (cons_not_nil a (c ∷ []) e))
+does-at s (pending.Three a c d) r0 b live begun waits =
+    wide-does s (pending.Three a c d) r0 b (reach (pending.Three a c d) b) refl live begun waits (λ e. absurd (cons_not_nil a (c ∷ d ∷ []) e))
 
 -- What a byte does at a live state is its outcome.
 pub does : (st : State) (b : ℕ) → is_live st ≡ true → Does st b (turn st b)

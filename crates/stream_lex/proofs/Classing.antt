@@ -31,13 +31,19 @@ abbrev pub has_no_empty_run : CharacterClass → Bool
 has_no_empty_run [] = true
 has_no_empty_run (run ∷ runs) = nat_le run.0 run.1 && has_no_empty_run runs
 
-pub has_between-has : (C : CharacterClass) (low high : ℕ) → has_no_empty_run C ≡ true → low ≤ high → has_between C low high ≡ true → (c : ℕ) × (low ≤ c) × (c ≤ high) × (has_between C c c ≡ true)
+pub has_between-has : (C : CharacterClass) (low high : ℕ) → has_no_empty_run C ≡ true → low ≤ high → has_between C low high ≡ true
+    → (c : ℕ) × (low ≤ c) × (c ≤ high) × (has_between C c c ≡ true)
 has_between-has [] low high s a m = false-true m
 has_between-has (run ∷ runs) low high s a m =
     let q = and_parts (nat_le run.0 run.1) (has_no_empty_run runs) s in
     elim (or_cases (nat_le run.0 high && nat_le low run.1) (has_between runs low high) m) [
-      | inl t ↦ let (h, k) = two run.0 high low run.1 t in let j = leb-true run.0 run.1 q.0 in
-          (max low run.0, omega arith, omega arith, or_left _ _ (and_from _ _ (le-leb run.0 (max low run.0) (omega arith)) (le-leb (max low run.0) run.1 (omega arith))))
+      | inl t ↦ let (h, k) = two run.0 high low run.1 t in let j = leb-true run.0 run.1 q.0 in (
+        max low run.0,
+        omega arith,
+        omega arith,
+        or_left _ _
+            (and_from _ _ (le-leb run.0 (max low run.0) (omega arith)) (le-leb (max low run.0) run.1 (omega arith))),
+      )
       | inr t ↦ let r = has_between-has runs low high q.1 a t in (r.0, r.1, r.2, or_right _ _ r.3)
     ]
 
@@ -130,13 +136,15 @@ same-further_character allowed.NameStart c n m = sym n
 same-further_character allowed.NameFurther c n m = sym m
 same-further_character allowed.Any c n m = sym (names-inside c m)
 
-same-other : (a : Allowed) (c : ℕ) → has_between name_starts c c ≡ false → has_between name_characters c c ≡ false → has_between characters c c ≡ true → Same (takes_other a) a c
+same-other : (a : Allowed) (c : ℕ) → has_between name_starts c c ≡ false → has_between name_characters c c ≡ false → has_between characters c c ≡ true
+    → Same (takes_other a) a c
 same-other allowed.None c n k m = refl
 same-other allowed.NameStart c n k m = sym n
 same-other allowed.NameFurther c n k m = sym k
 same-other allowed.Any c n k m = sym m
 
-same-void : (a : Allowed) (c : ℕ) → has_between name_starts c c ≡ false → has_between name_characters c c ≡ false → has_between characters c c ≡ false → Same false a c
+same-void : (a : Allowed) (c : ℕ) → has_between name_starts c c ≡ false → has_between name_characters c c ≡ false → has_between characters c c ≡ false
+    → Same false a c
 same-void allowed.None c n k m = refl
 same-void allowed.NameStart c n k m = sym n
 same-void allowed.NameFurther c n k m = sym k
@@ -208,7 +216,8 @@ narrow-next s k c h = refl
 
 -- what a character below 128 does
 pub ascii-next : (s : Stage) (c : ℕ) → c < 128 → next s (kind c) c ≡ ascii s (ascii_kind c) c
-ascii-next s c h = ap (λ (k : Kind). next s k c) (cond-true (nat_lt c 128) (ascii_kind c) (wide_kind c) (lt-ltb c 128 h)) ∙ narrow-next s (ascii_kind c) c (ascii-narrow c)
+ascii-next s c h = ap (λ (k : Kind). next s k c) (cond-true (nat_lt c 128) (ascii_kind c) (wide_kind c) (lt-ltb c 128 h))
+    ∙ narrow-next s (ascii_kind c) c (ascii-narrow c)
 
 -- and one from 128 on
 pub high-next : (s : Stage) (c : ℕ) → 128 ≤ c → next s (kind c) c ≡ passed (has_between (class_of (allowed_at s)) c c) s c

@@ -113,7 +113,8 @@ empty_part-from (silent_symbol P) cs ms m = absurd m
 empty_part-from (symbol P f) cs ms m = absurd m
 empty_part-from (digits base f) cs ms m = absurd m
 empty_part-from (number base f v) cs ms m = absurd m
-empty_part-from (concat p q) cs ms m = empty_part-concat p q cs ms (empty_part-from p) (empty_part-from q) (concat_of-from (empty_part p) (empty_part q) cs ms m)
+empty_part-from (concat p q) cs ms m =
+    empty_part-concat p q cs ms (empty_part-from p) (empty_part-from q) (concat_of-from (empty_part p) (empty_part q) cs ms m)
 empty_part-from (union p q) cs ms m = empty_part-union p q cs ms (empty_part-from p) (empty_part-from q) (union_of-from (empty_part p) (empty_part q) cs ms m)
 empty_part-from (star p) cs ms m = (m.0, (0, (refl, m.1)))
 
@@ -129,13 +130,15 @@ cond-from false p cs ms m = absurd m
 
 -- numbers
 derivative-digit : (base : Base) (f : ℕ → List Sign) (v c : ℕ) (k : Kind) → is_digit base k ≡ true
-    → derivative k c (number base f v) ≡ cond (is_digit base k && nat_lt (base_of base * v + digit c) 0x110000) (number base f (base_of base * v + digit c)) void
+    → derivative k c (number base f v) ≡ cond (is_digit base k && nat_lt (base_of base * v + digit c) 0x110000) (number base f (base_of base * v + digit c))
+    void
 derivative-digit Decimal f v c kinds.Semicolon h = false-true h
 derivative-digit Hexadecimal f v c kinds.Semicolon h = false-true h
 derivative-digit Decimal f v c k h = refl
 derivative-digit Hexadecimal f v c k h = refl
 
-number-to : (base : Base) (f : ℕ → List Sign) (v c : ℕ) (cs : List ℕ) (ms : List Sign) → IsNumber base f v (c ∷ cs) ms → IsText (derivative (kind c) c (number base f v)) cs ms
+number-to : (base : Base) (f : ℕ → List Sign) (v c : ℕ) (cs : List ℕ) (ms : List Sign) → IsNumber base f v (c ∷ cs) ms
+    → IsText (derivative (kind c) c (number base f v)) cs ms
 unfolding IsText
 number-to base f v c cs ms ([], e, are, s, a, x, g) =
     let same : c ≡ e = same_head c e cs [] a in
@@ -143,7 +146,8 @@ number-to base f v c cs ms ([], e, are, s, a, x, g) =
     (cond-to (is_xml v) (yields (f v)) cs ms x (same_tail c e cs [] a, g))
 number-to base f v c cs ms (d ∷ ds, e, are, s, a, x, g) =
     let same : c ≡ d = same_head c d cs (ds ++ e ∷ []) a in
-    let small : base_of base * v + digit d < 0x110000 = let low = value-grows base (base_of base * v + digit d) ds in let high = xml-bound (value base (base_of base * v + digit d) ds) x in omega arith in
+    let small : base_of base * v + digit d < 0x110000 = let low = value-grows base (base_of base * v + digit d) ds in let high =
+    xml-bound (value base (base_of base * v + digit d) ds) x in omega arith in
     let is : is_digit base (kind c) ≡ true = subst (λ (n : ℕ). is_digit base (kind n) ≡ true) (sym same) are.0 in
     let grown : IsText (number base f (base_of base * v + digit c)) cs ms =
     subst (λ (n : ℕ). IsText (number base f (base_of base * v + digit n)) cs ms) (sym same) (ds, e, are.1, s, same_tail c d cs (ds ++ e ∷ []) a, x, g) in
@@ -159,7 +163,8 @@ number-ends base f v c cs ms e m =
     ([], c, tt, e, ap (λ (l : List ℕ). c ∷ l) r.1.0, r.0, r.1.1)
 
 number-grows : (base : Base) (f : ℕ → List Sign) (v c : ℕ) (cs : List ℕ) (ms : List Sign) (k : Kind) → kind c ≡ k
-    → IsText (cond (is_digit base k && nat_lt (base_of base * v + digit c) 0x110000) (number base f (base_of base * v + digit c)) void) cs ms → IsNumber base f v (c ∷ cs) ms
+    → IsText (cond (is_digit base k && nat_lt (base_of base * v + digit c) 0x110000) (number base f (base_of base * v + digit c)) void) cs ms
+    → IsNumber base f v (c ∷ cs) ms
 unfolding IsText
 number-grows base f v c cs ms k e m =
     let r = cond-from (is_digit base k && nat_lt (base_of base * v + digit c) 0x110000) (number base f (base_of base * v + digit c)) cs ms m in
@@ -181,7 +186,8 @@ unfolding IsText
 concat-to p q c cs ms xs us ys vs hp hq m n f (within zs e1 e2) =
     inl (concat_of-to (derivative (kind c) c p) q cs ms (zs, us, ys, vs, hp zs us (subst (λ (l : List ℕ). IsText p l us) e1 m), n, e2, f))
 concat-to p q c cs ms xs us ys vs hp hq m n f (before e1 e2) =
-    inr (concat_of-to (empty_part p) (derivative (kind c) c q) cs ms ([], us, cs, vs, empty_part-to p xs us e1 m, hq cs vs (subst (λ (l : List ℕ). IsText q l vs) e2 n), refl, f))
+    inr (concat_of-to (empty_part p) (derivative (kind c) c q) cs ms
+    ([], us, cs, vs, empty_part-to p xs us e1 m, hq cs vs (subst (λ (l : List ℕ). IsText q l vs) e2 n), refl, f))
 
 concat-from : (p q : Expression) (c : ℕ) (cs : List ℕ) (ms : List Sign)
     → ((zs : List ℕ) (ws : List Sign) → IsText (derivative (kind c) c p) zs ws → IsText p (c ∷ zs) ws)
@@ -241,7 +247,8 @@ derivative-to (concat p q) c cs ms (xs, us, ys, vs, m, n, e, f) =
     (concat-to p q c cs ms xs us ys vs (derivative-to p c) (derivative-to q c) m n f (cut c cs xs ys e))
 derivative-to (union p q) c cs ms (inl m) = union_of-to (derivative (kind c) c p) (derivative (kind c) c q) cs ms (inl (derivative-to p c cs ms m))
 derivative-to (union p q) c cs ms (inr m) = union_of-to (derivative (kind c) c p) (derivative (kind c) c q) cs ms (inr (derivative-to q c cs ms m))
-derivative-to (star p) c cs ms (n, m) = concat_of-to (derivative (kind c) c p) (star p) cs ms (times-to p n c cs ms (derivative (kind c) c p) (derivative-to p c) m)
+derivative-to (star p) c cs ms (n, m) =
+    concat_of-to (derivative (kind c) c p) (star p) cs ms (times-to p n c cs ms (derivative (kind c) c p) (derivative-to p c) m)
 
 pub derivative-from : (p : Expression) (c : ℕ) (cs : List ℕ) (ms : List Sign) → IsText (derivative (kind c) c p) cs ms → IsText p (c ∷ cs) ms
 unfolding IsText
@@ -261,5 +268,6 @@ derivative-from (number base g v) c cs ms m = number-from base g v c cs ms (kind
 derivative-from (concat p q) c cs ms m =
     concat-from p q c cs ms (derivative-from p c) (derivative-from q c)
     (union_of-from (concat_of (derivative (kind c) c p) q) (concat_of (empty_part p) (derivative (kind c) c q)) cs ms m)
-derivative-from (union p q) c cs ms m = union-from p q c cs ms (derivative-from p c) (derivative-from q c) (union_of-from (derivative (kind c) c p) (derivative (kind c) c q) cs ms m)
+derivative-from (union p q) c cs ms m =
+    union-from p q c cs ms (derivative-from p c) (derivative-from q c) (union_of-from (derivative (kind c) c p) (derivative (kind c) c q) cs ms m)
 derivative-from (star p) c cs ms m = times-from p c cs ms (derivative-from p c) (concat_of-from (derivative (kind c) c p) (star p) cs ms m)

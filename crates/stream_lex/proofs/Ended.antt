@@ -53,7 +53,8 @@ fixed-still w d ds = refl
 
 still-Fixed : (w : Literal) (at : ℕ) → at < length (letters w) → is_still (empty_part (rest_at (stage.Fixed w at))) ≡ true
 unfolding rest_at
-still-Fixed w at h = ap (λ (l : List ℕ). is_still (empty_part (rest_of_fixed w l))) (drop_more (letters w) at 0 h) ∙ fixed-still w (get_or (letters w) at 0) (drop (at + 1) (letters w))
+still-Fixed w at h = ap (λ (l : List ℕ). is_still (empty_part (rest_of_fixed w l))) (drop_more (letters w) at 0 h)
+    ∙ fixed-still w (get_or (letters w) at 0) (drop (at + 1) (letters w))
 
 still : (s : Stage) → is_live_stage s ≡ true → is_still (empty_part (rest_at s)) ≡ true
 unfolding rest_at
@@ -126,7 +127,8 @@ has-bytes n more e (width2 h k w) = cons_not_nil _ _ (ap (λ (l : List ℕ). l +
 has-bytes n more e (width3 h k w) = cons_not_nil _ _ (ap (λ (l : List ℕ). l ++ more) (sym w) ∙ e)
 has-bytes n more e (width4 h w) = cons_not_nil _ _ (ap (λ (l : List ℕ). l ++ more) (sym w) ∙ e)
 
-plain-done : (s : Stage) (r : Bool) (cs : List ℕ) (ms : List Sign) → is_live_stage s ≡ true → encode_utf8_all cs ≡ [] → IsText (rest_at s) (lines r cs) ms → ms ≡ []
+plain-done : (s : Stage) (r : Bool) (cs : List ℕ) (ms : List Sign) → is_live_stage s ≡ true → encode_utf8_all cs ≡ [] → IsText (rest_at s) (lines r cs) ms
+    → ms ≡ []
 plain-done s r [] ms live e m = still-nothing (empty_part (rest_at s)) ms (still s live) (empty_part-to (rest_at s) [] ms refl m)
 plain-done s r (n ∷ es) ms live e m = absurd (has-bytes n (encode_utf8_all es) e (width_of n))
 
@@ -138,7 +140,8 @@ first_character-high : (a : ℕ) → is_begun (pending.One a) ≡ true → 128 �
 first_character-high a h = let (low, high) = between-parts 194 244 a h in omega arith
 
 -- no text ends within a character
-cut-done : (s : Stage) (p : Pending) (b : ℕ) (x : Reach) (cs : List ℕ) → reach p b ≡ x → is_begun p ≡ true → (bytes_of p ≡ [] → 128 ≤ b) → is_met (class_of (allowed_at s)) x ≡ true
+cut-done : (s : Stage) (p : Pending) (b : ℕ) (x : Reach) (cs : List ℕ) → reach p b ≡ x → is_begun p ≡ true → (bytes_of p ≡ [] → 128 ≤ b)
+    → is_met (class_of (allowed_at s)) x ≡ true
     → all_scalars cs ≡ true → encode_utf8_all cs ≡ bytes_of p ++ b ∷ [] → ⊥
 cut-done s p b (Whole n) cs e begun k met sc enc = false-true met
 cut-done s p b Broken cs e begun k met sc enc = false-true met
@@ -150,11 +153,15 @@ cut-done s p b (Begun q low high) cs e begun k met sc enc =
     sym (append_assoc (bytes_of p ++ b ∷ []) rest (encode_utf8_all f.es)) ∙ (ap (λ (l : List ℕ). l ++ encode_utf8_all f.es) (sym spelt) ∙ f.bytes) in
     cons_not_nil d ds (sym some ∙ (nil_parts rest (encode_utf8_all f.es) (nil-from-same (bytes_of p ++ b ∷ []) (rest ++ encode_utf8_all f.es) all)).0)
 
-done-at : (s : Stage) (p : Pending) (r : Bool) (ms : List Sign) → is_live_stage s ≡ true → is_begun p ≡ true → is_awaited (class_of (allowed_at s)) p ≡ true → Left (at s p r) [] ms → ms ≡ []
+done-at : (s : Stage) (p : Pending) (r : Bool) (ms : List Sign) → is_live_stage s ≡ true → is_begun p ≡ true → is_awaited (class_of (allowed_at s)) p ≡ true
+    → Left (at s p r) [] ms → ms ≡ []
 done-at s pending.Nothing r ms live begun waits l = let (cs, sc, e, m) = left-plain s r [] ms l in plain-done s r cs ms live e m
-done-at s (pending.One a) r ms live begun waits (cs, sc, e, m) = absurd (cut-done s pending.Nothing a (reach_first a) cs refl refl (λ f. first_character-high a begun) waits sc e)
-done-at s (pending.Two a b) r ms live begun waits (cs, sc, e, m) = absurd (cut-done s (pending.One a) b (reach_second a b) cs refl (begun-symbol a b begun) (λ f. absurd (cons_not_nil a [] f)) waits sc e)
-done-at s (pending.Three a b c) r ms live begun waits (cs, sc, e, m) = absurd (cut-done s (pending.Two a b) c (reach_third a b c) cs refl (begun-two a b c begun) (λ f. absurd (cons_not_nil a (b ∷ []) f)) waits sc e)
+done-at s (pending.One a) r ms live begun waits (cs, sc, e, m) =
+    absurd (cut-done s pending.Nothing a (reach_first a) cs refl refl (λ f. first_character-high a begun) waits sc e)
+done-at s (pending.Two a b) r ms live begun waits (cs, sc, e, m) =
+    absurd (cut-done s (pending.One a) b (reach_second a b) cs refl (begun-symbol a b begun) (λ f. absurd (cons_not_nil a [] f)) waits sc e)
+done-at s (pending.Three a b c) r ms live begun waits (cs, sc, e, m) =
+    absurd (cut-done s (pending.Two a b) c (reach_third a b c) cs refl (begun-two a b c begun) (λ f. absurd (cons_not_nil a (b ∷ []) f)) waits sc e)
 
 pub left-done : (st : State) (ms : List Sign) → is_live st ≡ true → Left st [] ms → ms ≡ []
 left-done st ms live l = let p = live-parts st live in done-at st.stage st.pending st.returned ms p.0 p.1 p.2 l

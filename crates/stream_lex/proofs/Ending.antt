@@ -353,8 +353,10 @@ low-text p Hexadecimal v h k = number-text p Hexadecimal v (48 ∷ 48 ∷ []) re
 
 nine-text : (p : Context) (base : Base) (v : ℕ) → v ≡ 0 → HasReading (number base (λ c. all_said (text_token p c ∷ [])) v)
 unfolding ascii_kind
-nine-text p Decimal v e = subst (λ (n : ℕ). HasReading (number Decimal (λ c. all_said (text_token p c ∷ [])) n)) (sym e) (number-text p Decimal 0 (57 ∷ []) refl (refl, tt) refl)
-nine-text p Hexadecimal v e = subst (λ (n : ℕ). HasReading (number Hexadecimal (λ c. all_said (text_token p c ∷ [])) n)) (sym e) (number-text p Hexadecimal 0 (57 ∷ []) refl (refl, tt) refl)
+nine-text p Decimal v e =
+    subst (λ (n : ℕ). HasReading (number Decimal (λ c. all_said (text_token p c ∷ [])) n)) (sym e) (number-text p Decimal 0 (57 ∷ []) refl (refl, tt) refl)
+nine-text p Hexadecimal v e = subst (λ (n : ℕ). HasReading (number Hexadecimal (λ c. all_said (text_token p c ∷ [])) n)) (sym e)
+    (number-text p Hexadecimal 0 (57 ∷ []) refl (refl, tt) refl)
 
 any-number-text : (p : Context) (base : Base) (v : ℕ) → v < 0x110000 → HasReading (number base (λ c. all_said (text_token p c ∷ [])) v)
 any-number-text p base v h = elim (cases_lt v 32) [
@@ -439,8 +441,11 @@ literal-text literal.Cdata = text-Cdata
 
 text-Fixed : (w : Literal) (at : ℕ) → HasReading (rest_at (stage.Fixed w at))
 unfolding rest_at
-text-Fixed (literal.Charset q) at = charset-text (drop at (codes "utf-8")) (charset_end q) (every-drop is_own_lower (codes "utf-8") at own-charset) (literal-text (literal.Charset q))
-text-Fixed literal.Xml at = word-text (drop at (letters literal.Xml)) (rest_of_literal literal.Xml) (every-drop is_own (letters literal.Xml) at (own-letters literal.Xml)) (literal-text literal.Xml)
+text-Fixed (literal.Charset q) at = charset-text (drop at (codes "utf-8")) (charset_end q) (every-drop is_own_lower (codes "utf-8") at own-charset)
+    (literal-text (literal.Charset q))
+text-Fixed literal.Xml at =
+    word-text (drop at (letters literal.Xml)) (rest_of_literal literal.Xml) (every-drop is_own (letters literal.Xml) at (own-letters literal.Xml))
+    (literal-text literal.Xml)
 text-Fixed w at = word-text (drop at (letters w)) (rest_of_literal w) (every-drop is_own (letters w) at (own-letters w)) (literal-text w)
 
 -- each live stage has a text

@@ -58,7 +58,8 @@ word-so : (t : Bool) (p : Expression) → union_of (concat_of (cond t empty void
 word-so true p = union_of-void p
 word-so false p = refl
 
-charset-so : (t : Bool) (p : Expression) → union_of (union_of (concat_of (cond t empty void) p) void) (union_of (concat_of (cond (not t) (yields (refuses BadEncoding ∷ [])) void) prolog) void)
+charset-so : (t : Bool) (p : Expression)
+    → union_of (union_of (concat_of (cond t empty void) p) void) (union_of (concat_of (cond (not t) (yields (refuses BadEncoding ∷ [])) void) prolog) void)
     ≡ cond t p (concat (yields (refuses BadEncoding ∷ [])) prolog)
 charset-so true p = union_of-void (union_of p void) ∙ union_of-void p
 charset-so false p = refl
@@ -80,11 +81,13 @@ unfolding rest_at
 fixed-end literal.Xml = refl
 fixed-end w = refl
 
-fixed-goes : (w : Literal) (at : ℕ) → at < length (letters w) → rest_of_fixed w (drop (at + 1) (letters w)) ≡ rest_at (cond (nat_lt (at + 1) (length (letters w))) (stage.Fixed w (at + 1)) (fixed_end w))
+fixed-goes : (w : Literal) (at : ℕ) → at < length (letters w)
+    → rest_of_fixed w (drop (at + 1) (letters w)) ≡ rest_at (cond (nat_lt (at + 1) (length (letters w))) (stage.Fixed w (at + 1)) (fixed_end w))
 unfolding rest_at
 fixed-goes w at h =
     cond_both (nat_lt (at + 1) (length (letters w))) (stage.Fixed w (at + 1)) (fixed_end w) (λ s. rest_of_fixed w (drop (at + 1) (letters w)) ≡ rest_at s)
-    (λ e. refl) (λ e. ap (λ (l : List ℕ). rest_of_fixed w l) (drop_all (at + 1) (letters w) (let g = ltb-false (at + 1) (length (letters w)) e in omega arith)) ∙ fixed-end w)
+    (λ e. refl) (λ e. ap (λ (l : List ℕ). rest_of_fixed w l) (drop_all (at + 1) (letters w) (let g = ltb-false (at + 1) (length (letters w)) e in omega arith))
+    ∙ fixed-end w)
 
 fixed-turn : (w : Literal) (at : ℕ) (t : Bool) (ds : List ℕ) (s : Stage) → rest_of_fixed w ds ≡ rest_at s
     → fixed_left w t ds ≡ shown (stage.Fixed w at) (cond t (goes s) (stops (fixed_fault w)))
@@ -227,7 +230,8 @@ keeps-Minor Double k c = refl
 keeps-Minor Single kinds.Space c = refl
 keeps-Minor Single k c = refl
 
-keeps-CharsetSeen : (q : Quote) (k : Kind) (c : ℕ) → derivative k c (rest_at (stage.CharsetSeen q)) ≡ shown (stage.CharsetSeen q) (next (stage.CharsetSeen q) k c)
+keeps-CharsetSeen : (q : Quote) (k : Kind) (c : ℕ)
+    → derivative k c (rest_at (stage.CharsetSeen q)) ≡ shown (stage.CharsetSeen q) (next (stage.CharsetSeen q) k c)
 unfolding rest_at beyond_refusal ascii in_declaration in_reference in_number in_name in_tag allowed_at voice through wide_fault
 keeps-CharsetSeen Double kinds.Space c = refl
 keeps-CharsetSeen Double k c = refl
@@ -264,14 +268,16 @@ keeps-Bracketed One k c = refl
 keeps-Bracketed Many kinds.Space c = refl
 keeps-Bracketed Many k c = refl
 
-keeps-CdataBracketed : (b : Brackets) (k : Kind) (c : ℕ) → derivative k c (rest_at (stage.CdataBracketed b)) ≡ shown (stage.CdataBracketed b) (next (stage.CdataBracketed b) k c)
+keeps-CdataBracketed : (b : Brackets) (k : Kind) (c : ℕ)
+    → derivative k c (rest_at (stage.CdataBracketed b)) ≡ shown (stage.CdataBracketed b) (next (stage.CdataBracketed b) k c)
 unfolding rest_at beyond_refusal ascii in_declaration in_reference in_number in_name in_tag allowed_at voice through wide_fault
 keeps-CdataBracketed One kinds.Space c = refl
 keeps-CdataBracketed One k c = refl
 keeps-CdataBracketed Many kinds.Space c = refl
 keeps-CdataBracketed Many k c = refl
 
-keeps-Reference : (p : Context) (l : EntityName) (k : Kind) (c : ℕ) → derivative k c (rest_at (stage.Reference p l)) ≡ shown (stage.Reference p l) (next (stage.Reference p l) k c)
+keeps-Reference : (p : Context) (l : EntityName) (k : Kind) (c : ℕ)
+    → derivative k c (rest_at (stage.Reference p l)) ≡ shown (stage.Reference p l) (next (stage.Reference p l) k c)
 unfolding rest_at beyond_refusal ascii in_declaration in_reference in_number in_name in_tag allowed_at voice through wide_fault
 keeps-Reference p entity_name.Empty kinds.Space c = refl
 keeps-Reference p entity_name.Empty k c = refl
@@ -334,7 +340,8 @@ unfolding rest_at beyond_refusal ascii in_declaration in_reference in_number in_
 keeps-Colon r kinds.Space c = refl
 keeps-Colon r k c = refl
 
-grows-so : (t : Bool) (p : Context) (base : Base) (n : ℕ) → union_of (concat_of (cond t (number base (λ c. all_said (text_token p c ∷ [])) n) void) (rest_of_text p)) void
+grows-so : (t : Bool) (p : Context) (base : Base) (n : ℕ)
+    → union_of (concat_of (cond t (number base (λ c. all_said (text_token p c ∷ [])) n) void) (rest_of_text p)) void
     ≡ shown (stage.Number p base n) (cond t (goes (stage.Number p base n)) (stops NotWellFormed))
 unfolding rest_at
 grows-so true p base n = refl
@@ -346,7 +353,8 @@ unfolding rest_at
 ends-so true p base n = refl
 ends-so false p base n = refl
 
-keeps-Number : (p : Context) (base : Base) (v : ℕ) (k : Kind) (c : ℕ) → derivative k c (rest_at (stage.Number p base v)) ≡ shown (stage.Number p base v) (next (stage.Number p base v) k c)
+keeps-Number : (p : Context) (base : Base) (v : ℕ) (k : Kind) (c : ℕ)
+    → derivative k c (rest_at (stage.Number p base v)) ≡ shown (stage.Number p base v) (next (stage.Number p base v) k c)
 unfolding rest_at beyond_refusal ascii in_declaration in_reference in_number in_name in_tag allowed_at voice through wide_fault
 keeps-Number p Decimal v kinds.Semicolon c = ends-so (is_xml v) p Decimal v
 keeps-Number p Decimal v kinds.Digit c = grows-so (nat_lt (base_of Decimal * v + digit c) 0x110000) p Decimal (base_of Decimal * v + digit c)
@@ -355,18 +363,23 @@ keeps-Number p Hexadecimal v kinds.Semicolon c = ends-so (is_xml v) p Hexadecima
 keeps-Number p Hexadecimal v kinds.Digit c = grows-so (nat_lt (base_of Hexadecimal * v + digit c) 0x110000) p Hexadecimal (base_of Hexadecimal * v + digit c)
 keeps-Number p Hexadecimal v kinds.SmallA c = grows-so (nat_lt (base_of Hexadecimal * v + digit c) 0x110000) p Hexadecimal (base_of Hexadecimal * v + digit c)
 keeps-Number p Hexadecimal v kinds.SmallE c = grows-so (nat_lt (base_of Hexadecimal * v + digit c) 0x110000) p Hexadecimal (base_of Hexadecimal * v + digit c)
-keeps-Number p Hexadecimal v kinds.HexLetter c = grows-so (nat_lt (base_of Hexadecimal * v + digit c) 0x110000) p Hexadecimal (base_of Hexadecimal * v + digit c)
+keeps-Number p Hexadecimal v kinds.HexLetter c =
+    grows-so (nat_lt (base_of Hexadecimal * v + digit c) 0x110000) p Hexadecimal (base_of Hexadecimal * v + digit c)
 keeps-Number p Hexadecimal v k c = refl
 
 kept-Fixed : (w : Literal) (at : ℕ) (k : Kind) (c : ℕ) → at < length (letters w) → derivative k c (rest_at (stage.Fixed w at))
-    ≡ shown (stage.Fixed w at) (cond (fits w k (get_or (letters w) at 0) c) (goes (cond (nat_lt (at + 1) (length (letters w))) (stage.Fixed w (at + 1)) (fixed_end w))) (stops (fixed_fault w)))
+    ≡ shown (stage.Fixed w at)
+    (cond (fits w k (get_or (letters w) at 0) c) (goes (cond (nat_lt (at + 1) (length (letters w))) (stage.Fixed w (at + 1)) (fixed_end w)))
+    (stops (fixed_fault w)))
 unfolding rest_at
 kept-Fixed w at k c h =
     ap (λ (l : List ℕ). derivative k c (rest_of_fixed w l)) (drop_more (letters w) at 0 h)
     ∙ (fixed-letter w k c (get_or (letters w) at 0) (drop (at + 1) (letters w))
-    ∙ fixed-turn w at (fits w k (get_or (letters w) at 0) c) (drop (at + 1) (letters w)) (cond (nat_lt (at + 1) (length (letters w))) (stage.Fixed w (at + 1)) (fixed_end w)) (fixed-goes w at h))
+    ∙ fixed-turn w at (fits w k (get_or (letters w) at 0) c) (drop (at + 1) (letters w))
+    (cond (nat_lt (at + 1) (length (letters w))) (stage.Fixed w (at + 1)) (fixed_end w)) (fixed-goes w at h))
 
-keeps-Fixed : (w : Literal) (at : ℕ) (k : Kind) (c : ℕ) → at < length (letters w) → derivative k c (rest_at (stage.Fixed w at)) ≡ shown (stage.Fixed w at) (next (stage.Fixed w at) k c)
+keeps-Fixed : (w : Literal) (at : ℕ) (k : Kind) (c : ℕ) → at < length (letters w)
+    → derivative k c (rest_at (stage.Fixed w at)) ≡ shown (stage.Fixed w at) (next (stage.Fixed w at) k c)
 unfolding rest_at ascii in_fixed allowed_at wide_fault
 keeps-Fixed w at kinds.WideStart c h = kept-Fixed w at kinds.WideStart c h
 keeps-Fixed w at k c h = kept-Fixed w at k c h

@@ -54,4 +54,5 @@ said-same [] [] e = refl
 said-same [] (u ∷ us) e = absurd (cc)
 said-same (t ∷ ts) [] e = absurd (cc)
 said-same (t ∷ ts) (u ∷ us) e =
-    ap (λ (x : Token). x ∷ ts) (says-head t u (all_said ts) (all_said us) e) ∙ ap (λ (l : List Token). u ∷ l) (said-same ts us (says-tail t u (all_said ts) (all_said us) e))
+    ap (λ (x : Token). x ∷ ts) (says-head t u (all_said ts) (all_said us) e)
+    ∙ ap (λ (l : List Token). u ∷ l) (said-same ts us (says-tail t u (all_said ts) (all_said us) e))

@@ -50,7 +50,8 @@ is_live_turn (stops f) = true
 digit-small : (c : ℕ) → c < 256 → nat_lt (digit c) 0x110000 ≡ true
 digit-small c h =
     cond_both (nat_lt c 58) (c - 48) _ (λ n. nat_lt n 0x110000 ≡ true) (λ e. lt-ltb (c - 48) 0x110000 (omega arith))
-    (λ f. cond_both (nat_lt c 71) (c - 55) (c - 87) (λ n. nat_lt n 0x110000 ≡ true) (λ e. lt-ltb (c - 55) 0x110000 (omega arith)) (λ g. lt-ltb (c - 87) 0x110000 (omega arith)))
+    (λ f. cond_both (nat_lt c 71) (c - 55) (c - 87) (λ n. nat_lt n 0x110000 ≡ true) (λ e. lt-ltb (c - 55) 0x110000 (omega arith))
+    (λ g. lt-ltb (c - 87) 0x110000 (omega arith)))
 
 live-Start : (k : Kind) (c : ℕ) → is_live_turn (ascii stage.Start k c) ≡ true
 unfolding ascii in_declaration in_reference in_number in_name in_tag
@@ -288,11 +289,14 @@ live-Hash p k c h = refl
 live-HashX : (p : Context) (k : Kind) (c : ℕ) → c < 256 → is_live_turn (ascii (stage.HashX p) k c) ≡ true
 unfolding ascii
 live-HashX p k c h =
-    cond_both (is_digit Hexadecimal k) (goes (stage.Number p Hexadecimal (digit c))) (stops NotWellFormed) (λ t. is_live_turn t ≡ true) (λ e. digit-small c h) (λ e. refl)
+    cond_both (is_digit Hexadecimal k) (goes (stage.Number p Hexadecimal (digit c))) (stops NotWellFormed) (λ t. is_live_turn t ≡ true) (λ e. digit-small c h)
+    (λ e. refl)
 
-live-grown : (p : Context) (base : Base) (n : ℕ) (t : Bool) → is_live_turn (cond (t && nat_lt n 0x110000) (goes (stage.Number p base n)) (stops NotWellFormed)) ≡ true
+live-grown : (p : Context) (base : Base) (n : ℕ) (t : Bool)
+    → is_live_turn (cond (t && nat_lt n 0x110000) (goes (stage.Number p base n)) (stops NotWellFormed)) ≡ true
 live-grown p base n t =
-    cond_both (t && nat_lt n 0x110000) (goes (stage.Number p base n)) (stops NotWellFormed) (λ u. is_live_turn u ≡ true) (λ e. (and_parts t (nat_lt n 0x110000) e).1) (λ e. refl)
+    cond_both (t && nat_lt n 0x110000) (goes (stage.Number p base n)) (stops NotWellFormed) (λ u. is_live_turn u ≡ true)
+    (λ e. (and_parts t (nat_lt n 0x110000) e).1) (λ e. refl)
 
 live-ended : (p : Context) (v : ℕ) (t : Bool) → is_live_turn (cond t (yields (text_token p v ∷ []) (stage.Text p)) (stops NotWellFormed)) ≡ true
 live-ended p v true = refl
@@ -311,7 +315,8 @@ live-Fixed : (w : Literal) (at : ℕ) (k : Kind) (c : ℕ) → is_live_turn (asc
 unfolding ascii in_fixed
 live-Fixed w at k c =
     cond_both (is_fixed w (get_or (letters w) at 0) c) _ (stops (fixed_fault w)) (λ u. is_live_turn u ≡ true)
-    (λ e. cond_both (nat_lt (at + 1) (length (letters w))) (stage.Fixed w (at + 1)) (fixed_end w) (λ s. is_live_stage s ≡ true) (λ g. g) (λ g. live-end w)) (λ e. refl)
+    (λ e. cond_both (nat_lt (at + 1) (length (letters w))) (stage.Fixed w (at + 1)) (fixed_end w) (λ s. is_live_stage s ≡ true) (λ g. g) (λ g. live-end w))
+    (λ e. refl)
 
 pub live-ascii : (s : Stage) (k : Kind) (c : ℕ) → c < 256 → is_live_turn (ascii s k c) ≡ true
 live-ascii (stage.Text p) k c h = live-Text p k c
@@ -373,9 +378,12 @@ between-four a h k = between-true 240 244 a h k
 awaited1 : (a : ℕ) → Awaited (reach_first a)
 unfolding reach_first
 awaited1 a =
-    cond_both (is_between 194 223 a) _ _ Awaited (λ t. let (h, k) = between-parts 194 223 a t in (between a (omega arith) (omega arith), λ C. ap (is_met C) (reach1-two a h k)))
-    (λ f1. cond_both (is_between 224 239 a) _ _ Awaited (λ t. let (h, k) = between-parts 224 239 a t in (between a (omega arith) (omega arith), λ C. ap (is_met C) (reach1-three a h k)))
-    (λ f2. cond_both (is_between 240 244 a) _ _ Awaited (λ t. let (h, k) = between-parts 240 244 a t in (between a (omega arith) (omega arith), λ C. ap (is_met C) (reach1-four a h k)))
+    cond_both (is_between 194 223 a) _ _ Awaited
+    (λ t. let (h, k) = between-parts 194 223 a t in (between a (omega arith) (omega arith), λ C. ap (is_met C) (reach1-two a h k)))
+    (λ f1. cond_both (is_between 224 239 a) _ _ Awaited
+    (λ t. let (h, k) = between-parts 224 239 a t in (between a (omega arith) (omega arith), λ C. ap (is_met C) (reach1-three a h k)))
+    (λ f2. cond_both (is_between 240 244 a) _ _ Awaited
+    (λ t. let (h, k) = between-parts 240 244 a t in (between a (omega arith) (omega arith), λ C. ap (is_met C) (reach1-four a h k)))
     (λ f3. tt)))
 
 awaited2 : (a b : ℕ) → is_begun (pending.One a) ≡ true → Awaited (reach_second a b)
@@ -395,7 +403,11 @@ awaited3 a b c h =
     let (low, high) = between-parts 224 244 a hs.0 in
     cond_both (not (is_continuation c)) _ _ Awaited (λ t. tt)
     (λ f. let tail = not-false _ f in let (tl, th) = between-parts 128 191 c tail in cond_both (nat_lt a 240) _ _ Awaited (λ t. tt)
-    (λ f1. (and_from _ _ (between-four a (ltb-false a 240 f1) high) (and_from _ _ hs.1 tail), λ C. ap (is_met C) (reach3-four a b c (ltb-false a 240 f1) tl th))))
+    (λ f1. (
+      and_from _ _ (between-four a (ltb-false a 240 f1) high) (and_from _ _ hs.1 tail),
+      λ C. ap (is_met C)
+          (reach3-four a b c (ltb-false a 240 f1) tl th),
+    )))
 
 awaited4 : (a b c d : ℕ) → Awaited (reach_fourth a b c d)
 unfolding reach_fourth
@@ -408,7 +420,8 @@ reach-awaited (pending.Two a c) b h = awaited3 a c b h
 reach-awaited (pending.Three a c d) b h = awaited4 a c d b
 
 pub begun-symbol : (a b : ℕ) → is_begun (pending.Two a b) ≡ true → is_begun (pending.One a) ≡ true
-begun-symbol a b h = let (low, high) = between-parts 224 244 a (and_parts (is_between 224 244 a) (is_second a b) h).0 in between-true 194 244 a (omega arith) high
+begun-symbol a b h = let (low, high) = between-parts 224 244 a (and_parts (is_between 224 244 a) (is_second a b) h).0 in between-true 194 244 a (omega arith)
+    high
 
 pub begun-two : (a b c : ℕ) → is_begun (pending.Three a b c) ≡ true → is_begun (pending.Two a b) ≡ true
 begun-two a b c h =
@@ -417,14 +430,16 @@ begun-two a b c h =
     and_from _ _ (between-true 224 244 a (omega arith) high) (and_parts (is_second a b) (is_continuation c) p.1).0
 
 -- the parts of a live state
-pub live-parts : (st : State) → is_live st ≡ true → (is_live_stage st.stage ≡ true) × (is_begun st.pending ≡ true) × (is_awaited (class_of (allowed_at st.stage)) st.pending ≡ true)
+pub live-parts : (st : State) → is_live st ≡ true
+    → (is_live_stage st.stage ≡ true) × (is_begun st.pending ≡ true) × (is_awaited (class_of (allowed_at st.stage)) st.pending ≡ true)
 unfolding is_live
 live-parts st h =
     let a = and_parts (is_live_stage st.stage) (is_begun st.pending && is_awaited (class_of (allowed_at st.stage)) st.pending) h in
     let b = and_parts (is_begun st.pending) (is_awaited (class_of (allowed_at st.stage)) st.pending) a.1 in
     (a.0, b.0, b.1)
 
-live-at : (s : Stage) (p : Pending) (r : Bool) → is_live_stage s ≡ true → is_begun p ≡ true → is_awaited (class_of (allowed_at s)) p ≡ true → is_live (at s p r) ≡ true
+live-at : (s : Stage) (p : Pending) (r : Bool) → is_live_stage s ≡ true → is_begun p ≡ true → is_awaited (class_of (allowed_at s)) p ≡ true
+    → is_live (at s p r) ≡ true
 unfolding is_live
 live-at s p r h k j = and_from _ _ h (and_from _ _ k j)
 
@@ -448,9 +463,11 @@ live-turn_ascii st b h small =
 pub live-turn_wide : (st : State) (b : ℕ) (r : Reach) → is_live_stage st.stage ≡ true → Awaited r → LeadsLive (turn_wide st b r)
 unfolding turn_wide
 live-turn_wide st b (Begun q low high) h a =
-    cond_both (has_between (class_of (allowed_at st.stage)) low high) _ _ LeadsLive (λ e. live-at st.stage q st.returned h a.0 (a.1 (class_of (allowed_at st.stage)) ∙ e)) (λ e. tt)
+    cond_both (has_between (class_of (allowed_at st.stage)) low high) _ _ LeadsLive
+    (λ e. live-at st.stage q st.returned h a.0 (a.1 (class_of (allowed_at st.stage)) ∙ e)) (λ e. tt)
 live-turn_wide st b (Whole n) h a =
-    cond_both (has_between (class_of (allowed_at st.stage)) n n) _ _ LeadsLive (λ e. live-at (through st.stage) pending.Nothing false (live-through st.stage h) refl refl) (λ e. tt)
+    cond_both (has_between (class_of (allowed_at st.stage)) n n) _ _ LeadsLive
+    (λ e. live-at (through st.stage) pending.Nothing false (live-through st.stage h) refl refl) (λ e. tt)
 live-turn_wide st b Broken h a = tt
 
 pub live-turn : (st : State) (b : ℕ) → is_live st ≡ true → b < 256 → LeadsLive (turn st b)

@@ -13,4 +13,5 @@ xml-bound n h = grind (arith, nat_tests)
 pub value-grows : (base : Base) (v : ℕ) (ds : List ℕ) → v ≤ value base v ds
 value-grows base v [] = omega arith
 value-grows Decimal v (d ∷ ds) = let h : 10 * v + digit d ≤ value Decimal (10 * v + digit d) ds = value-grows Decimal (10 * v + digit d) ds in omega arith
-value-grows Hexadecimal v (d ∷ ds) = let h : 16 * v + digit d ≤ value Hexadecimal (16 * v + digit d) ds = value-grows Hexadecimal (16 * v + digit d) ds in omega arith
+value-grows Hexadecimal v (d ∷ ds) = let h : 16 * v + digit d ≤ value Hexadecimal (16 * v + digit d) ds =
+    value-grows Hexadecimal (16 * v + digit d) ds in omega arith

@@ -81,7 +81,14 @@ second-true : (a b : ℕ) → IsSecond a b → is_second a b ≡ true
 second-true a b h = grind (arith, nat_tests, h.0, h.1, h.2, h.3, h.4)
 
 pub second-parts : (a b : ℕ) → is_second a b ≡ true → IsSecond a b
-second-parts a b h = (grind (arith, nat_tests, h), grind (arith, nat_tests, h), λ e. grind (arith, nat_tests, h, e), λ e. grind (arith, nat_tests, h, e), λ e. grind (arith, nat_tests, h, e))
+second-parts a b h = (
+  grind (arith, nat_tests, h),
+  grind (arith, nat_tests, h),
+  λ e. grind (arith, nat_tests, h, e),
+  λ e. grind (arith, nat_tests, h, e),
+  λ e.
+      grind (arith, nat_tests, h, e),
+)
 
 -- What each reach is, by its first byte.
 
@@ -93,9 +100,11 @@ pub reach1-three : (a : ℕ) → 224 ≤ a → a ≤ 239 → reach_first a ≡ B
 unfolding reach_first
 reach1-three a h k = cond-false _ _ _ (between-above 194 223 a (omega arith)) ∙ cond-true _ _ _ (between-true 224 239 a h k)
 
-pub reach1-four : (a : ℕ) → 240 ≤ a → a ≤ 244 → reach_first a ≡ Begun (pending.One a) (max (262144 * (a - 240)) 65536) (min (262144 * (a - 240) + 262143) 1114111)
+pub reach1-four : (a : ℕ) → 240 ≤ a → a ≤ 244
+    → reach_first a ≡ Begun (pending.One a) (max (262144 * (a - 240)) 65536) (min (262144 * (a - 240) + 262143) 1114111)
 unfolding reach_first
-reach1-four a h k = cond-false _ _ _ (between-above 194 223 a (omega arith)) ∙ (cond-false _ _ _ (between-above 224 239 a (omega arith)) ∙ cond-true _ _ _ (between-true 240 244 a h k))
+reach1-four a h k = cond-false _ _ _ (between-above 194 223 a (omega arith))
+    ∙ (cond-false _ _ _ (between-above 224 239 a (omega arith)) ∙ cond-true _ _ _ (between-true 240 244 a h k))
 
 not-true : (t : Bool) → t ≡ true → not t ≡ false
 not-true true e = refl
@@ -105,11 +114,13 @@ reach2-two : (a b : ℕ) → a < 224 → IsSecond a b → reach_second a b ≡ W
 unfolding reach_second
 reach2-two a b h s = cond-false _ _ _ (not-true _ (second-true a b s)) ∙ cond-true _ _ _ (lt-ltb a 224 h)
 
-pub reach2-three : (a b : ℕ) → 224 ≤ a → a < 240 → IsSecond a b → reach_second a b ≡ Begun (pending.Two a b) (4096 * (a - 224) + 64 * (b - 128)) (4096 * (a - 224) + 64 * (b - 128) + 63)
+pub reach2-three : (a b : ℕ) → 224 ≤ a → a < 240 → IsSecond a b
+    → reach_second a b ≡ Begun (pending.Two a b) (4096 * (a - 224) + 64 * (b - 128)) (4096 * (a - 224) + 64 * (b - 128) + 63)
 unfolding reach_second
 reach2-three a b h k s = cond-false _ _ _ (not-true _ (second-true a b s)) ∙ (cond-false _ _ _ (le-ltb a 224 h) ∙ cond-true _ _ _ (lt-ltb a 240 k))
 
-pub reach2-four : (a b : ℕ) → 240 ≤ a → IsSecond a b → reach_second a b ≡ Begun (pending.Two a b) (262144 * (a - 240) + 4096 * (b - 128)) (262144 * (a - 240) + 4096 * (b - 128) + 4095)
+pub reach2-four : (a b : ℕ) → 240 ≤ a → IsSecond a b
+    → reach_second a b ≡ Begun (pending.Two a b) (262144 * (a - 240) + 4096 * (b - 128)) (262144 * (a - 240) + 4096 * (b - 128) + 4095)
 unfolding reach_second
 reach2-four a b h s = cond-false _ _ _ (not-true _ (second-true a b s)) ∙ (cond-false _ _ _ (le-ltb a 224 (omega arith)) ∙ cond-false _ _ _ (le-ltb a 240 h))
 
@@ -151,13 +162,18 @@ in2 n a b ys zs top e h (width1 k w) = let ea : n ≡ a = same_head n a ys (b �
 in2 n a b ys zs top e h (width2 k j w) =
     let (ea, eb, er) = two_of _ _ a b _ zs (ap (λ (l : List ℕ). l ++ ys) (sym w) ∙ e) in
     let is : n ≡ 64 * (a - 192) + (b - 128) = omega arith in
-    subst (λ (r : Reach). Within r n) (sym (reach2-two a b (omega arith) (omega arith, omega arith, λ f. absurd (omega arith), λ f. absurd (omega arith), λ f. absurd (omega arith)))) is
+    subst (λ (r : Reach). Within r n)
+    (sym (reach2-two a b (omega arith) (omega arith, omega arith, λ f. absurd (omega arith), λ f. absurd (omega arith), λ f. absurd (omega arith)))) is
 in2 n a b ys zs top e h (width3 k j w) =
     let (ea, eb, er) = two_of _ _ a b _ _ (ap (λ (l : List ℕ). l ++ ys) (sym w) ∙ e) in
-    subst (λ (r : Reach). Within r n) (sym (reach2-three a b (omega arith) (omega arith) (omega arith, omega arith, λ f. omega arith, λ f. absurd (omega arith), λ f. absurd (omega arith)))) (omega arith, omega arith)
+    subst (λ (r : Reach). Within r n)
+    (sym (reach2-three a b (omega arith) (omega arith) (omega arith, omega arith, λ f. omega arith, λ f. absurd (omega arith), λ f. absurd (omega arith))))
+    (omega arith, omega arith)
 in2 n a b ys zs top e h (width4 k w) =
     let (ea, eb, er) = two_of _ _ a b _ _ (ap (λ (l : List ℕ). l ++ ys) (sym w) ∙ e) in
-    subst (λ (r : Reach). Within r n) (sym (reach2-four a b (omega arith) (omega arith, omega arith, λ f. absurd (omega arith), λ f. omega arith, λ f. omega arith))) (omega arith, omega arith)
+    subst (λ (r : Reach). Within r n)
+    (sym (reach2-four a b (omega arith) (omega arith, omega arith, λ f. absurd (omega arith), λ f. omega arith, λ f. omega arith)))
+    (omega arith, omega arith)
 
 in3 : (n a b c : ℕ) (ys zs : List ℕ) → n < 1114112 → encode_utf8 n ++ ys ≡ a ∷ b ∷ c ∷ zs → 224 ≤ a → Width n → Within (reach_third a b c) n
 in3 n a b c ys zs top e h (width1 k w) = let ea : n ≡ a = same_head n a ys (b ∷ c ∷ zs) (ap (λ (l : List ℕ). l ++ ys) (sym w) ∙ e) in absurd (omega arith)
@@ -190,7 +206,8 @@ pub reach-within : (p : Pending) (b n : ℕ) (ys zs : List ℕ) → is_begun p �
 reach-within pending.Nothing b n ys zs t h top e = in1 n b (encode_utf8 n) ys zs top refl e (h refl) (width_of n)
 reach-within (pending.One a) b n ys zs t h top e = in2 n a b ys zs top e (between-parts 194 244 a t).0 (width_of n)
 reach-within (pending.Two a b1) b n ys zs t h top e = in3 n a b1 b ys zs top e (between-parts 224 244 a (and_parts (is_between 224 244 a) _ t).0).0 (width_of n)
-reach-within (pending.Three a b1 b2) b n ys zs t h top e = in4 n a b1 b2 b ys zs e (between-parts 240 244 a (and_parts (is_between 240 244 a) _ t).0).0 (width_of n)
+reach-within (pending.Three a b1 b2) b n ys zs t h top e =
+    in4 n a b1 b2 b ys zs e (between-parts 240 244 a (and_parts (is_between 240 244 a) _ t).0).0 (width_of n)
 
 -- A character within the reach has bytes that begin so.
 
@@ -204,11 +221,19 @@ of1 a =
     (λ t n w. let p = between-parts 194 223 a t in let ea : 192 + n / 64 ≡ a = omega arith in
     ((128 + n % 64) ∷ [], encode2 n (omega arith) (omega arith) ∙ ap (λ (x : ℕ). x ∷ (128 + n % 64) ∷ []) ea, (_, _, refl)))
     (λ f1. cond_both (is_between 224 239 a) _ _ (Starts (a ∷ []))
-    (λ t n w. let p = between-parts 224 239 a t in let ea : 224 + n / 4096 ≡ a = omega arith in
-    ((128 + (n / 64) % 64) ∷ (128 + n % 64) ∷ [], encode3 n (omega arith) (omega arith) ∙ ap (λ (x : ℕ). x ∷ (128 + (n / 64) % 64) ∷ (128 + n % 64) ∷ []) ea, (_, _, refl)))
+    (λ t n w. let p = between-parts 224 239 a t in let ea : 224 + n / 4096 ≡ a = omega arith in (
+      (128 + (n / 64) % 64) ∷ (128 + n % 64) ∷ [],
+      encode3 n (omega arith) (omega arith)
+          ∙ ap (λ (x : ℕ). x ∷ (128 + (n / 64) % 64) ∷ (128 + n % 64) ∷ []) ea,
+      (_, _, refl),
+    ))
     (λ f2. cond_both (is_between 240 244 a) _ _ (Starts (a ∷ []))
-    (λ t n w. let p = between-parts 240 244 a t in let ea : 240 + n / 262144 ≡ a = omega arith in
-    ((128 + (n / 4096) % 64) ∷ (128 + (n / 64) % 64) ∷ (128 + n % 64) ∷ [], encode4 n (omega arith) ∙ ap (λ (x : ℕ). x ∷ (128 + (n / 4096) % 64) ∷ (128 + (n / 64) % 64) ∷ (128 + n % 64) ∷ []) ea, (_, _, refl)))
+    (λ t n w. let p = between-parts 240 244 a t in let ea : 240 + n / 262144 ≡ a = omega arith in (
+      (128 + (n / 4096) % 64) ∷ (128 + (n / 64) % 64) ∷ (128 + n % 64) ∷ [],
+      encode4 n (omega arith)
+          ∙ ap (λ (x : ℕ). x ∷ (128 + (n / 4096) % 64) ∷ (128 + (n / 64) % 64) ∷ (128 + n % 64) ∷ []) ea,
+      (_, _, refl),
+    ))
     (λ f3 n w. absurd w)))
 
 same-two : (x y a b : ℕ) (xs : List ℕ) → x ≡ a → y ≡ b → x ∷ y ∷ xs ≡ a ∷ b ∷ xs
@@ -236,9 +261,11 @@ of2 a b h =
     (λ t n w. let k = ltb-true a 224 t in let ea : 192 + n / 64 ≡ a = omega arith in let eb : 128 + n % 64 ≡ b = omega arith in
     ([], encode2 n (omega arith) (omega arith) ∙ same-two _ _ a b [] ea eb, refl))
     (λ f1. let k1 = ltb-false a 224 f1 in cond_both (nat_lt a 240) _ _ (Starts (a ∷ b ∷ []))
-    (λ t n w. let k = ltb-true a 240 t in let low = second-low3 a b n s (omega arith) w.0 in let ea : 224 + n / 4096 ≡ a = omega arith in let eb : 128 + (n / 64) % 64 ≡ b = omega arith in
+    (λ t n w. let k = ltb-true a 240 t in let low = second-low3 a b n s (omega arith) w.0 in let ea : 224 + n / 4096 ≡ a =
+    omega arith in let eb : 128 + (n / 64) % 64 ≡ b = omega arith in
     ((128 + n % 64) ∷ [], encode3 n low (omega arith) ∙ same-two _ _ a b _ ea eb, (_, _, refl)))
-    (λ f2 n w. let k2 = ltb-false a 240 f2 in let low = second-low4 a b n s (omega arith) w.0 in let ea : 240 + n / 262144 ≡ a = omega arith in let eb : 128 + (n / 4096) % 64 ≡ b = omega arith in
+    (λ f2 n w. let k2 = ltb-false a 240 f2 in let low = second-low4 a b n s (omega arith) w.0 in let ea : 240 + n / 262144 ≡ a =
+    omega arith in let eb : 128 + (n / 4096) % 64 ≡ b = omega arith in
     ((128 + (n / 64) % 64) ∷ (128 + n % 64) ∷ [], encode4 n low ∙ same-two _ _ a b _ ea eb, (_, _, refl)))))
 
 of3 : (a b c : ℕ) → is_begun (pending.Two a b) ≡ true → Starts (a ∷ b ∷ c ∷ []) (reach_third a b c)
@@ -251,9 +278,11 @@ of3 a b c h =
     (λ t n w. absurd w)
     (λ f. let j = between-parts 128 191 c (not-false _ f) in
     cond_both (nat_lt a 240) _ _ (Starts (a ∷ b ∷ c ∷ []))
-    (λ t n w. let k = ltb-true a 240 t in let low = second-low3 a b n s (omega arith) (omega arith) in let ea : 224 + n / 4096 ≡ a = omega arith in let eb : 128 + (n / 64) % 64 ≡ b = omega arith in let ec : 128 + n % 64 ≡ c = omega arith in
+    (λ t n w. let k = ltb-true a 240 t in let low = second-low3 a b n s (omega arith) (omega arith) in let ea : 224 + n / 4096 ≡ a =
+    omega arith in let eb : 128 + (n / 64) % 64 ≡ b = omega arith in let ec : 128 + n % 64 ≡ c = omega arith in
     ([], encode3 n low (omega arith) ∙ (same-two _ _ a b _ ea eb ∙ ap (λ (m : ℕ). a ∷ b ∷ m ∷ []) ec), refl))
-    (λ f2 n w. let k2 = ltb-false a 240 f2 in let low = second-low4 a b n s (omega arith) (omega arith) in let ea : 240 + n / 262144 ≡ a = omega arith in let eb : 128 + (n / 4096) % 64 ≡ b = omega arith in let ec : 128 + (n / 64) % 64 ≡ c = omega arith in
+    (λ f2 n w. let k2 = ltb-false a 240 f2 in let low = second-low4 a b n s (omega arith) (omega arith) in let ea : 240 + n / 262144 ≡ a =
+    omega arith in let eb : 128 + (n / 4096) % 64 ≡ b = omega arith in let ec : 128 + (n / 64) % 64 ≡ c = omega arith in
     ((128 + n % 64) ∷ [], encode4 n low ∙ (same-two _ _ a b _ ea eb ∙ ap (λ (m : ℕ). a ∷ b ∷ m ∷ (128 + n % 64) ∷ []) ec), (_, _, refl))))
 
 of4 : (a b c d : ℕ) → is_begun (pending.Three a b c) ≡ true → Starts (a ∷ b ∷ c ∷ d ∷ []) (reach_fourth a b c d)
@@ -265,11 +294,14 @@ of4 a b c d h =
     let s = second-parts a b ht.0 in
     let j = between-parts 128 191 c ht.1 in
     cond_both (is_continuation d) _ _ (Starts (a ∷ b ∷ c ∷ d ∷ []))
-    (λ t n w. let i = between-parts 128 191 d t in let low = second-low4 a b n s (omega arith) (omega arith) in let ea : 240 + n / 262144 ≡ a = omega arith in let eb : 128 + (n / 4096) % 64 ≡ b = omega arith in let ec : 128 + (n / 64) % 64 ≡ c = omega arith in let ed : 128 + n % 64 ≡ d = omega arith in
+    (λ t n w. let i = between-parts 128 191 d t in let low = second-low4 a b n s (omega arith) (omega arith) in let ea : 240 + n / 262144 ≡ a =
+    omega arith in let eb : 128 + (n / 4096) % 64 ≡ b = omega arith in let ec : 128 + (n / 64) % 64 ≡ c = omega arith in let ed : 128 + n % 64 ≡ d =
+    omega arith in
     ([], encode4 n low ∙ (same-two _ _ a b _ ea eb ∙ ap (λ (l : List ℕ). a ∷ b ∷ l) (same-two _ _ c d [] ec ed)), refl))
     (λ f n w. absurd w)
 
-pub reach-starts : (p : Pending) (b n : ℕ) → is_begun p ≡ true → Within (reach p b) n → (rest : List ℕ) × (encode_utf8 n ≡ (bytes_of p ++ b ∷ []) ++ rest) × IsRest (reach p b) rest
+pub reach-starts : (p : Pending) (b n : ℕ) → is_begun p ≡ true → Within (reach p b) n
+    → (rest : List ℕ) × (encode_utf8 n ≡ (bytes_of p ++ b ∷ []) ++ rest) × IsRest (reach p b) rest
 reach-starts pending.Nothing b n h w = of1 b n w
 reach-starts (pending.One a) b n h w = of2 a b h n w
 reach-starts (pending.Two a b1) b n h w = of3 a b1 b h n w

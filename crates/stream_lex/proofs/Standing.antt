@@ -41,11 +41,16 @@ HasLeft st = (more : List ℕ) × (ts : List Token) × Left st more (all_said ts
 
 plain-has : (s : Stage) (r : Bool) → is_live_stage s ≡ true → HasLeft (at s pending.Nothing r)
 plain-has s r live =
-    let (cs, ts, clean, m) = has-text s live in
-    (encode_utf8_all cs, ts, plain-left s r (encode_utf8_all cs) (all_said ts) (cs, clean-scalars cs clean, refl, subst (λ (l : List ℕ). IsText (rest_at s) l (all_said ts)) (sym (clean-lines r cs clean)) m))
+    let (cs, ts, clean, m) = has-text s live in (
+      encode_utf8_all cs,
+      ts,
+      plain-left s r (encode_utf8_all cs) (all_said ts)
+          (cs, clean-scalars cs clean, refl, subst (λ (l : List ℕ). IsText (rest_at s) l (all_said ts)) (sym (clean-lines r cs clean)) m),
+    )
 
 -- after the byte b of a character that may come
-met-has : (s : Stage) (p q : Pending) (r0 : Bool) (b : ℕ) (x : Reach) → reach p b ≡ x → is_live_stage s ≡ true → is_begun p ≡ true → bytes_of q ≡ bytes_of p ++ b ∷ []
+met-has : (s : Stage) (p q : Pending) (r0 : Bool) (b : ℕ) (x : Reach) → reach p b ≡ x → is_live_stage s ≡ true → is_begun p ≡ true
+    → bytes_of q ≡ bytes_of p ++ b ∷ []
     → is_met (class_of (allowed_at s)) x ≡ true → HasLeft (at s q r0)
 met-has s p q r0 b (Whole n) e live begun longer met = false-true met
 met-has s p q r0 b Broken e live begun longer met = false-true met
@@ -64,10 +69,16 @@ met-has s p q r0 b (Begun q1 low high) e live begun longer met =
       (
         n ∷ es,
         and_from _ _ (class-scalar (allowed_at s) n is) (clean-scalars es clean),
-        ap (λ (l : List ℕ). l ++ encode_utf8_all es) enc ∙ (append_assoc (bytes_of p ++ b ∷ []) rest (encode_utf8_all es) ∙ ap (λ (l : List ℕ). l ++ (rest ++ encode_utf8_all es)) (sym longer)),
-        subst (λ (l : List ℕ). IsText (rest_at s) l (all_said hs ++ all_said (us ++ ts))) (sym (high-line r0 n es (class-low (allowed_at s) n is) ∙ ap (λ (l : List ℕ). n ∷ l) (clean-lines false es clean)))
-            (wide-text s n es (all_said hs ++ all_said (us ++ ts)) live (class-low (allowed_at s) n is) is
-            (all_said ts, ap (λ (l : List Sign). all_said hs ++ l) (said-append us ts) ∙ (sym (said-two hs us (all_said ts)) ∙ ap (λ (l : List Token). all_said l ++ all_said ts) (sym told)), m)),
+        ap (λ (l : List ℕ). l ++ encode_utf8_all es) enc
+            ∙ (append_assoc (bytes_of p ++ b ∷ []) rest (encode_utf8_all es) ∙ ap (λ (l : List ℕ). l ++ (rest ++ encode_utf8_all es)) (sym longer)),
+        subst (λ (l : List ℕ). IsText (rest_at s) l (all_said hs ++ all_said (us ++ ts)))
+            (sym (high-line r0 n es (class-low (allowed_at s) n is) ∙ ap (λ (l : List ℕ). n ∷ l) (clean-lines false es clean)))
+            (wide-text s n es (all_said hs ++ all_said (us ++ ts)) live (class-low (allowed_at s) n is) is (
+              all_said ts,
+              ap (λ (l : List Sign). all_said hs ++ l) (said-append us ts)
+                  ∙ (sym (said-two hs us (all_said ts)) ∙ ap (λ (l : List Token). all_said l ++ all_said ts) (sym told)),
+              m,
+            )),
       ),
     )
 
@@ -75,7 +86,8 @@ has-at : (s : Stage) (p : Pending) (r : Bool) → is_live_stage s ≡ true → i
 has-at s pending.Nothing r live begun waits = plain-has s r live
 has-at s (pending.One a) r live begun waits = met-has s pending.Nothing (pending.One a) r a (reach_first a) refl live refl refl waits
 has-at s (pending.Two a b) r live begun waits = met-has s (pending.One a) (pending.Two a b) r b (reach_second a b) refl live (begun-symbol a b begun) refl waits
-has-at s (pending.Three a b c) r live begun waits = met-has s (pending.Two a b) (pending.Three a b c) r c (reach_third a b c) refl live (begun-two a b c begun) refl waits
+has-at s (pending.Three a b c) r live begun waits = met-has s (pending.Two a b) (pending.Three a b c) r c (reach_third a b c) refl live (begun-two a b c begun)
+    refl waits
 
 pub has-left : (st : State) → is_live st ≡ true → HasLeft st
 has-left st live = let p = live-parts st live in has-at st.stage st.pending st.returned p.0 p.1 p.2
@@ -101,7 +113,8 @@ whole-from bytes ts st live rest us t =
 pub leads-first_character : (st : State) → is_live st ≡ true → st ≡ at stage.Start pending.Nothing false → Leads [] [] st
 unfolding rest_at
 leads-first_character st live e =
-    let back : (more : List ℕ) (ns : List Sign) → Left st more ns → Tells more ns = λ more ns l. left-plain stage.Start false more ns (subst (λ (x : State). Left x more ns) e l) in
+    let back : (more : List ℕ) (ns : List Sign) → Left st more ns
+    → Tells more ns = λ more ns l. left-plain stage.Start false more ns (subst (λ (x : State). Left x more ns) e l) in
     let rest : (more : List ℕ) (ms : List Sign) → Tells more ms → (ns : List Sign) × (ms ≡ ns) × Left st more ns =
     λ more ms t. (ms, refl, subst (λ (x : State). Left x more ms) (sym e) (plain-left stage.Start false more ms t)) in record {
       begins = begins-from [] [] st live back;
@@ -112,7 +125,8 @@ leads-first_character st live e =
       utf8_text = λ more h. subst (λ (x : State). IsUtf8 (bytes_of x.pending ++ more)) e h;
     }
 
-pub leads-step : (bytes : List ℕ) (ts us : List Token) (st to : State) (b : ℕ) → is_live to ≡ true → Goes st b us to → Leads bytes ts st → Leads (bytes ++ b ∷ []) (ts ++ us) to
+pub leads-step : (bytes : List ℕ) (ts us : List Token) (st to : State) (b : ℕ) → is_live to ≡ true → Goes st b us to → Leads bytes ts st
+    → Leads (bytes ++ b ∷ []) (ts ++ us) to
 leads-step bytes ts us st to b live g k =
     let text : (more : List ℕ) (ns : List Sign) → Left to more ns → Tells ((bytes ++ b ∷ []) ++ more) (all_said (ts ++ us) ++ ns) =
     λ more ns l. subst (λ (x : List ℕ). Tells x (all_said (ts ++ us) ++ ns)) (sym (snoc bytes more b))
@@ -167,18 +181,23 @@ refused-utf8 : (bytes : List ℕ) (ts : List Token) (st : State) (b : ℕ) (f : 
 refused-utf8 bytes ts st b f k r = let (more, h) = r.utf8 in (more, subst IsUtf8 (sym (snoc bytes more b)) (k.utf8_text (b ∷ more) h))
 
 -- a text that begins so has its first refusal there
-begins-refused : (bytes : List ℕ) (ts : List Token) (st : State) (b : ℕ) (g : LexFault) (more : List ℕ) (ns : List Sign) → Leads bytes ts st → Left st (b ∷ more) (refuses g ∷ ns) → BeginsRefused (bytes ++ b ∷ []) g
+begins-refused : (bytes : List ℕ) (ts : List Token) (st : State) (b : ℕ) (g : LexFault) (more : List ℕ) (ns : List Sign) → Leads bytes ts st
+    → Left st (b ∷ more) (refuses g ∷ ns) → BeginsRefused (bytes ++ b ∷ []) g
 begins-refused bytes ts st b g more ns k l =
     (more, ts, ns, subst (λ (x : List ℕ). Tells x (all_said ts ++ (refuses g ∷ ns))) (sym (snoc bytes more b)) (k.text (b ∷ more) (refuses g ∷ ns) l))
 
-no-other : (bytes : List ℕ) (ts : List Token) (st : State) (b : ℕ) (g : LexFault) → Leads bytes ts st → Refuses st b NotWellFormed → BeginsRefused (bytes ++ b ∷ []) g → ⊥
+no-other : (bytes : List ℕ) (ts : List Token) (st : State) (b : ℕ) (g : LexFault) → Leads bytes ts st → Refuses st b NotWellFormed
+    → BeginsRefused (bytes ++ b ∷ []) g → ⊥
 no-other bytes ts st b g k r (more, us, ms, t) =
-    let (ns, e, l) = k.rest (b ∷ more) (all_said us ++ (refuses g ∷ ms)) (subst (λ (x : List ℕ). Tells x (all_said us ++ (refuses g ∷ ms))) (snoc bytes more b) t) in
+    let (ns, e, l) = k.rest (b ∷ more) (all_said us ++ (refuses g ∷ ms))
+    (subst (λ (x : List ℕ). Tells x (all_said us ++ (refuses g ∷ ms))) (snoc bytes more b) t) in
     r.refused more ns l
 
-restricted-alone : (bytes : List ℕ) (ts : List Token) (st : State) (b : ℕ) → Leads bytes ts st → Refuses st b Restricted → BeginsRefused (bytes ++ b ∷ []) BadEncoding → ⊥
+restricted-alone : (bytes : List ℕ) (ts : List Token) (st : State) (b : ℕ) → Leads bytes ts st → Refuses st b Restricted
+    → BeginsRefused (bytes ++ b ∷ []) BadEncoding → ⊥
 restricted-alone bytes ts st b k r (more, us, ms, t) =
-    let (ns, e, l) = k.rest (b ∷ more) (all_said us ++ (refuses BadEncoding ∷ ms)) (subst (λ (x : List ℕ). Tells x (all_said us ++ (refuses BadEncoding ∷ ms))) (snoc bytes more b) t) in
+    let (ns, e, l) = k.rest (b ∷ more) (all_said us ++ (refuses BadEncoding ∷ ms))
+    (subst (λ (x : List ℕ). Tells x (all_said us ++ (refuses BadEncoding ∷ ms))) (snoc bytes more b) t) in
     let (os, g) = r.refused more ns l in
     let same : BadEncoding ≡ Restricted = first_character-refused us ts BadEncoding Restricted ms os (e ∙ ap (λ (x : List Sign). all_said ts ++ x) g) in cc
 
@@ -196,13 +215,18 @@ kind-of-fault bytes ts st b f k (undecodable e never) =
 
 -- what begins a text has only beginnings of texts
 pub begins-fewer : (bytes : List ℕ) (j : ℕ) → BeginsReading bytes → BeginsReading (take j bytes)
-begins-fewer bytes j (more, ts, t) =
-    (drop j bytes ++ more, ts, subst (λ (x : List ℕ). Reads x ts) (ap (λ (x : List ℕ). x ++ more) (sym (take-append-drop j bytes)) ∙ append_assoc (take j bytes) (drop j bytes) more) t)
+begins-fewer bytes j (more, ts, t) = (
+  drop j bytes ++ more,
+  ts,
+  subst (λ (x : List ℕ). Reads x ts) (ap (λ (x : List ℕ). x ++ more) (sym (take-append-drop j bytes))
+      ∙ append_assoc (take j bytes) (drop j bytes) more) t,
+)
 
 length-snoc : (bytes : List ℕ) (b : ℕ) → length (bytes ++ b ∷ []) ≡ length bytes + 1
 length-snoc bytes b = length-append bytes (b ∷ [])
 
-fault-at : (bytes : List ℕ) (ts : List Token) (st : State) (b : ℕ) (f : LexFault) → Leads bytes ts st → Fails st b f → IsFault (bytes ++ b ∷ []) (length bytes + 1) f
+fault-at : (bytes : List ℕ) (ts : List Token) (st : State) (b : ℕ) (f : LexFault) → Leads bytes ts st → Fails st b f
+    → IsFault (bytes ++ b ∷ []) (length bytes + 1) f
 fault-at bytes ts st b f k r =
     let len = length-snoc bytes b in
     let all : take (length bytes + 1) (bytes ++ b ∷ []) ≡ bytes ++ b ∷ [] = take_all (length bytes + 1) (bytes ++ b ∷ []) (omega (arith, len)) in record {
@@ -241,7 +265,8 @@ stands-fails bytes ts st st1 b f l r k (e, t, h) =
       length bytes + 1,
       fault-at bytes ts st b f k r,
       subst (λ (x : State). Leads (take ((length bytes + 1) - 1) (bytes ++ b ∷ [])) (ts ++ tokens_of l) x) (sym e)
-          (subst (λ (x : List Token). Leads (take ((length bytes + 1) - 1) (bytes ++ b ∷ [])) x st) (sym tokens) (subst (λ (x : List ℕ). Leads x ts st) (sym before) k)),
+          (subst (λ (x : List Token). Leads (take ((length bytes + 1) - 1) (bytes ++ b ∷ [])) x st) (sym tokens)
+          (subst (λ (x : List ℕ). Leads x ts st) (sym before) k)),
     )
 
 stands-outcome : (bytes : List ℕ) (ts : List Token) (st st1 : State) (b : ℕ) (o : Outcome) (l : Lexed) → Does st b o → LeadsLive o → Leads bytes ts st

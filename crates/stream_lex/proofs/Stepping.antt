@@ -25,12 +25,14 @@ told-concat : (us : List Sign) (p : Expression) (cs : List ℕ) (ms : List Sign)
 unfolding IsText
 told-concat us p cs ms (ns, e, m) = ([], us, cs, ns, (refl, refl), m, refl, e)
 
-bracketed-told : (us : List Sign) (p q : Expression) (cs : List ℕ) (ms : List Sign) → IsText (union (concat (yields us) p) (concat (yields us) q)) cs ms → Told us (union p q) cs ms
+bracketed-told : (us : List Sign) (p q : Expression) (cs : List ℕ) (ms : List Sign) → IsText (union (concat (yields us) p) (concat (yields us) q)) cs ms
+    → Told us (union p q) cs ms
 unfolding IsText
 bracketed-told us p q cs ms (inl m) = let r = concat-told us p cs ms m in (r.0, r.1, inl r.2)
 bracketed-told us p q cs ms (inr m) = let r = concat-told us q cs ms m in (r.0, r.1, inr r.2)
 
-told-bracketed : (us : List Sign) (p q : Expression) (cs : List ℕ) (ms : List Sign) → Told us (union p q) cs ms → IsText (union (concat (yields us) p) (concat (yields us) q)) cs ms
+told-bracketed : (us : List Sign) (p q : Expression) (cs : List ℕ) (ms : List Sign) → Told us (union p q) cs ms
+    → IsText (union (concat (yields us) p) (concat (yields us) q)) cs ms
 unfolding IsText
 told-bracketed us p q cs ms (ns, e, inl m) = inl (told-concat us p cs ms (ns, e, m))
 told-bracketed us p q cs ms (ns, e, inr m) = inr (told-concat us q cs ms (ns, e, m))
@@ -68,7 +70,11 @@ leaves-shown s (stops f) cs ms m = told-concat (refuses f ∷ []) (beyond_refusa
 
 -- a text that begins with a character
 pub step-to : (s : Stage) (c : ℕ) (cs : List ℕ) (ms : List Sign) → is_live_stage s ≡ true → IsText (rest_at s) (c ∷ cs) ms → Leaves s (next s (kind c) c) cs ms
-step-to s c cs ms live m = shown-leaves s (next s (kind c) c) cs ms (subst (λ (p : Expression). IsText p cs ms) (keeps s (kind c) c live) (derivative-to (rest_at s) c cs ms m))
+step-to s c cs ms live m =
+    shown-leaves s (next s (kind c) c) cs ms (subst (λ (p : Expression). IsText p cs ms) (keeps s (kind c) c live) (derivative-to (rest_at s) c cs ms m))
 
-pub step-from : (s : Stage) (c : ℕ) (cs : List ℕ) (ms : List Sign) → is_live_stage s ≡ true → Leaves s (next s (kind c) c) cs ms → IsText (rest_at s) (c ∷ cs) ms
-step-from s c cs ms live m = derivative-from (rest_at s) c cs ms (subst (λ (p : Expression). IsText p cs ms) (sym (keeps s (kind c) c live)) (leaves-shown s (next s (kind c) c) cs ms m))
+pub step-from : (s : Stage) (c : ℕ) (cs : List ℕ) (ms : List Sign) → is_live_stage s ≡ true → Leaves s (next s (kind c) c) cs ms
+    → IsText (rest_at s) (c ∷ cs) ms
+step-from s c cs ms live m =
+    derivative-from (rest_at s) c cs ms
+    (subst (λ (p : Expression). IsText p cs ms) (sym (keeps s (kind c) c live)) (leaves-shown s (next s (kind c) c) cs ms m))

@@ -84,12 +84,14 @@ none-left zero_seen ms m = (empty_part-to char_data [] ms refl m).1
 none-left one_seen ms m = (empty_part-to (left_after one_seen) [] ms refl m).1
 none-left two_seen ms m = (empty_part-to (left_after two_seen) [] ms refl m).1
 
-cut-told : (us : List Sign) (p : Expression) (cs : List ℕ) (ms : List Sign) → IsText (concat (yields us) p) cs ms → (ns : List Sign) × (ms ≡ us ++ ns) × IsText p cs ns
+cut-told : (us : List Sign) (p : Expression) (cs : List ℕ) (ms : List Sign) → IsText (concat (yields us) p) cs ms
+    → (ns : List Sign) × (ms ≡ us ++ ns) × IsText p cs ns
 unfolding IsText
 cut-told us p cs ms (xs, ws, ys, vs, k, n, e, f) =
     (vs, f ∙ ap (λ (l : List Sign). l ++ vs) k.1, subst (λ (l : List ℕ). IsText p l vs) (sym (e ∙ ap (λ (l : List ℕ). l ++ ys) k.0)) n)
 
-cut-next : (n : Next) (us : List Sign) (cs : List ℕ) (ms : List Sign) → IsText (after_next n us) cs ms → MayFollow n (λ s. (ns : List Sign) × (ms ≡ us ++ ns) × IsText (left_after s) cs ns)
+cut-next : (n : Next) (us : List Sign) (cs : List ℕ) (ms : List Sign) → IsText (after_next n us) cs ms
+    → MayFollow n (λ s. (ns : List Sign) × (ms ≡ us ++ ns) × IsText (left_after s) cs ns)
 unfolding IsText
 cut-next stop us cs ms m = absurd m
 cut-next (go zero_seen) us cs ms m = cut-told us char_data cs ms m
@@ -116,7 +118,8 @@ text-follows : (cs : List ℕ) (s : Seen) (ms : List Sign) → IsText (left_afte
 text-follows [] s ms m = (tt, none-left s ms m)
 text-follows (c ∷ cs) s ms m =
     words-rest (next_seen s (kind c)) (word_of (kind c) c) cs ms (λ t ns k. text-follows cs t ns k)
-    (cut-next (next_seen s (kind c)) (word_of (kind c) c) cs ms (subst (λ (p : Expression). IsText p cs ms) (keeps-words s (kind c) c) (derivative-to (left_after s) c cs ms m)))
+    (cut-next (next_seen s (kind c)) (word_of (kind c) c) cs ms
+    (subst (λ (p : Expression). IsText p cs ms) (keeps-words s (kind c) c) (derivative-to (left_after s) c cs ms m)))
 
 empty-text : (s : Seen) → IsText (left_after s) [] []
 unfolding IsText
@@ -124,14 +127,16 @@ empty-text zero_seen = ([], [], [], [], (0, (refl, refl)), (0, (refl, refl)), re
 empty-text one_seen = inr (0, (refl, refl))
 empty-text two_seen = inr (0, (refl, refl))
 
-follows-next : (n : Next) (us : List Sign) (cs : List ℕ) → ((s : Seen) → Follows cs s → IsText (left_after s) cs (words_so cs)) → MayFollow n (Follows cs) → IsText (after_next n us) cs (us ++ words_so cs)
+follows-next : (n : Next) (us : List Sign) (cs : List ℕ) → ((s : Seen) → Follows cs s → IsText (left_after s) cs (words_so cs)) → MayFollow n (Follows cs)
+    → IsText (after_next n us) cs (us ++ words_so cs)
 follows-next stop us cs h m = absurd m
 follows-next (go s) us cs h m = join-next s us (words_so cs) cs (h s m)
 
 follows-text : (cs : List ℕ) (s : Seen) → Follows cs s → IsText (left_after s) cs (words_so cs)
 follows-text [] s h = empty-text s
 follows-text (c ∷ cs) s h =
-    derivative-from (left_after s) c cs (word_of (kind c) c ++ words_so cs) (subst (λ (p : Expression). IsText p cs (word_of (kind c) c ++ words_so cs)) (sym (keeps-words s (kind c) c))
+    derivative-from (left_after s) c cs (word_of (kind c) c ++ words_so cs)
+    (subst (λ (p : Expression). IsText p cs (word_of (kind c) c ++ words_so cs)) (sym (keeps-words s (kind c) c))
     (follows-next (next_seen s (kind c)) (word_of (kind c) c) cs (follows-text cs) h))
 
 -- The characters by their numbers.
@@ -146,19 +151,89 @@ hit j false l h no_more = absurd (no_more h)
 
 ascii-bracket : (c : ℕ) → is_kind kinds.RightBracket (ascii_kind c) ≡ true → (c == 93) ≡ true
 unfolding ascii_kind
-ascii-bracket c h = hit kinds.RightBracket (c == 93) _ (skip kinds.RightBracket (c == 91) kinds.LeftBracket _ refl (skip kinds.RightBracket (c == 63) kinds.Question _ refl (skip kinds.RightBracket (c == 62) kinds.Greater _ refl (skip kinds.RightBracket (c == 61) kinds.Equals _ refl (skip kinds.RightBracket (c == 60) kinds.Less _ refl (skip kinds.RightBracket (c == 59) kinds.Semicolon _ refl (skip kinds.RightBracket (c == 58) kinds.Colon _ refl (skip kinds.RightBracket (c == 47) kinds.Slash _ refl (skip kinds.RightBracket (c == 39) kinds.Apostrophe _ refl (skip kinds.RightBracket (c == 38) kinds.Ampersand _ refl (skip kinds.RightBracket (c == 35) kinds.Number _ refl (skip kinds.RightBracket (c == 34) kinds.Quotation _ refl (skip kinds.RightBracket (c == 33) kinds.Bang _ refl (skip kinds.RightBracket ((c == 32) || ((c == 9) || ((c == 10) || (c == 13)))) kinds.Space _ refl h)))))))))))))) (λ r. false-true (skip kinds.RightBracket (nat_le c 31) kinds.Control _ refl (skip kinds.RightBracket ((c == 45) || (c == 46)) kinds.Mark _ refl (skip kinds.RightBracket (nat_le 48 c && nat_le c 57) kinds.Digit _ refl (skip kinds.RightBracket ((nat_le 71 c && nat_le c 90) || ((nat_le 104 c && nat_le c 122) || (c == 95))) kinds.Letter _ refl (skip kinds.RightBracket ((nat_le 65 c && nat_le c 70) || (nat_le 98 c && nat_le c 102)) kinds.HexLetter _ refl (skip kinds.RightBracket (c == 121) kinds.SmallY _ refl (skip kinds.RightBracket (c == 120) kinds.SmallX _ refl (skip kinds.RightBracket (c == 118) kinds.SmallV _ refl (skip kinds.RightBracket (c == 117) kinds.SmallU _ refl (skip kinds.RightBracket (c == 116) kinds.SmallT _ refl (skip kinds.RightBracket (c == 115) kinds.SmallS _ refl (skip kinds.RightBracket (c == 113) kinds.SmallQ _ refl (skip kinds.RightBracket (c == 112) kinds.SmallP _ refl (skip kinds.RightBracket (c == 111) kinds.SmallO _ refl (skip kinds.RightBracket (c == 110) kinds.SmallN _ refl (skip kinds.RightBracket (c == 109) kinds.SmallM _ refl (skip kinds.RightBracket (c == 108) kinds.SmallL _ refl (skip kinds.RightBracket (c == 103) kinds.SmallG _ refl (skip kinds.RightBracket (c == 101) kinds.SmallE _ refl (skip kinds.RightBracket (c == 97) kinds.SmallA _ refl r)))))))))))))))))))))
+ascii-bracket c h = hit kinds.RightBracket (c == 93) _
+    (skip kinds.RightBracket (c == 91) kinds.LeftBracket _ refl
+    (skip kinds.RightBracket (c == 63) kinds.Question _ refl
+    (skip kinds.RightBracket (c == 62) kinds.Greater _ refl
+    (skip kinds.RightBracket (c == 61) kinds.Equals _ refl
+    (skip kinds.RightBracket (c == 60) kinds.Less _ refl
+    (skip kinds.RightBracket (c == 59) kinds.Semicolon _ refl
+    (skip kinds.RightBracket (c == 58) kinds.Colon _ refl
+    (skip kinds.RightBracket (c == 47) kinds.Slash _ refl
+    (skip kinds.RightBracket (c == 39) kinds.Apostrophe _ refl
+    (skip kinds.RightBracket (c == 38) kinds.Ampersand _ refl
+    (skip kinds.RightBracket (c == 35) kinds.Number _ refl
+    (skip kinds.RightBracket (c == 34) kinds.Quotation _ refl
+    (skip kinds.RightBracket (c == 33) kinds.Bang _ refl
+    (skip kinds.RightBracket ((c == 32) || ((c == 9) || ((c == 10) || (c == 13)))) kinds.Space _ refl h))))))))))))))
+    (λ r. false-true (skip kinds.RightBracket (nat_le c 31) kinds.Control _ refl
+    (skip kinds.RightBracket ((c == 45) || (c == 46)) kinds.Mark _ refl
+    (skip kinds.RightBracket (nat_le 48 c && nat_le c 57) kinds.Digit _ refl
+    (skip kinds.RightBracket ((nat_le 71 c && nat_le c 90) || ((nat_le 104 c && nat_le c 122) || (c == 95))) kinds.Letter _ refl
+    (skip kinds.RightBracket ((nat_le 65 c && nat_le c 70) || (nat_le 98 c && nat_le c 102)) kinds.HexLetter _ refl
+    (skip kinds.RightBracket (c == 121) kinds.SmallY _ refl
+    (skip kinds.RightBracket (c == 120) kinds.SmallX _ refl
+    (skip kinds.RightBracket (c == 118) kinds.SmallV _ refl
+    (skip kinds.RightBracket (c == 117) kinds.SmallU _ refl
+    (skip kinds.RightBracket (c == 116) kinds.SmallT _ refl
+    (skip kinds.RightBracket (c == 115) kinds.SmallS _ refl
+    (skip kinds.RightBracket (c == 113) kinds.SmallQ _ refl
+    (skip kinds.RightBracket (c == 112) kinds.SmallP _ refl
+    (skip kinds.RightBracket (c == 111) kinds.SmallO _ refl
+    (skip kinds.RightBracket (c == 110) kinds.SmallN _ refl
+    (skip kinds.RightBracket (c == 109) kinds.SmallM _ refl
+    (skip kinds.RightBracket (c == 108) kinds.SmallL _ refl
+    (skip kinds.RightBracket (c == 103) kinds.SmallG _ refl
+    (skip kinds.RightBracket (c == 101) kinds.SmallE _ refl (skip kinds.RightBracket (c == 97) kinds.SmallA _ refl r)))))))))))))))))))))
 
 ascii-greater : (c : ℕ) → is_kind kinds.Greater (ascii_kind c) ≡ true → (c == 62) ≡ true
 unfolding ascii_kind
-ascii-greater c h = hit kinds.Greater (c == 62) _ (skip kinds.Greater (c == 61) kinds.Equals _ refl (skip kinds.Greater (c == 60) kinds.Less _ refl (skip kinds.Greater (c == 59) kinds.Semicolon _ refl (skip kinds.Greater (c == 58) kinds.Colon _ refl (skip kinds.Greater (c == 47) kinds.Slash _ refl (skip kinds.Greater (c == 39) kinds.Apostrophe _ refl (skip kinds.Greater (c == 38) kinds.Ampersand _ refl (skip kinds.Greater (c == 35) kinds.Number _ refl (skip kinds.Greater (c == 34) kinds.Quotation _ refl (skip kinds.Greater (c == 33) kinds.Bang _ refl (skip kinds.Greater ((c == 32) || ((c == 9) || ((c == 10) || (c == 13)))) kinds.Space _ refl h))))))))))) (λ r. false-true (skip kinds.Greater (nat_le c 31) kinds.Control _ refl (skip kinds.Greater ((c == 45) || (c == 46)) kinds.Mark _ refl (skip kinds.Greater (nat_le 48 c && nat_le c 57) kinds.Digit _ refl (skip kinds.Greater ((nat_le 71 c && nat_le c 90) || ((nat_le 104 c && nat_le c 122) || (c == 95))) kinds.Letter _ refl (skip kinds.Greater ((nat_le 65 c && nat_le c 70) || (nat_le 98 c && nat_le c 102)) kinds.HexLetter _ refl (skip kinds.Greater (c == 121) kinds.SmallY _ refl (skip kinds.Greater (c == 120) kinds.SmallX _ refl (skip kinds.Greater (c == 118) kinds.SmallV _ refl (skip kinds.Greater (c == 117) kinds.SmallU _ refl (skip kinds.Greater (c == 116) kinds.SmallT _ refl (skip kinds.Greater (c == 115) kinds.SmallS _ refl (skip kinds.Greater (c == 113) kinds.SmallQ _ refl (skip kinds.Greater (c == 112) kinds.SmallP _ refl (skip kinds.Greater (c == 111) kinds.SmallO _ refl (skip kinds.Greater (c == 110) kinds.SmallN _ refl (skip kinds.Greater (c == 109) kinds.SmallM _ refl (skip kinds.Greater (c == 108) kinds.SmallL _ refl (skip kinds.Greater (c == 103) kinds.SmallG _ refl (skip kinds.Greater (c == 101) kinds.SmallE _ refl (skip kinds.Greater (c == 97) kinds.SmallA _ refl (skip kinds.Greater (c == 93) kinds.RightBracket _ refl (skip kinds.Greater (c == 91) kinds.LeftBracket _ refl (skip kinds.Greater (c == 63) kinds.Question _ refl r))))))))))))))))))))))))
+ascii-greater c h = hit kinds.Greater (c == 62) _
+    (skip kinds.Greater (c == 61) kinds.Equals _ refl
+    (skip kinds.Greater (c == 60) kinds.Less _ refl
+    (skip kinds.Greater (c == 59) kinds.Semicolon _ refl
+    (skip kinds.Greater (c == 58) kinds.Colon _ refl
+    (skip kinds.Greater (c == 47) kinds.Slash _ refl
+    (skip kinds.Greater (c == 39) kinds.Apostrophe _ refl
+    (skip kinds.Greater (c == 38) kinds.Ampersand _ refl
+    (skip kinds.Greater (c == 35) kinds.Number _ refl
+    (skip kinds.Greater (c == 34) kinds.Quotation _ refl
+    (skip kinds.Greater (c == 33) kinds.Bang _ refl (skip kinds.Greater ((c == 32) || ((c == 9) || ((c == 10) || (c == 13)))) kinds.Space _ refl h)))))))))))
+    (λ r. false-true (skip kinds.Greater (nat_le c 31) kinds.Control _ refl
+    (skip kinds.Greater ((c == 45) || (c == 46)) kinds.Mark _ refl
+    (skip kinds.Greater (nat_le 48 c && nat_le c 57) kinds.Digit _ refl
+    (skip kinds.Greater ((nat_le 71 c && nat_le c 90) || ((nat_le 104 c && nat_le c 122) || (c == 95))) kinds.Letter _ refl
+    (skip kinds.Greater ((nat_le 65 c && nat_le c 70) || (nat_le 98 c && nat_le c 102)) kinds.HexLetter _ refl
+    (skip kinds.Greater (c == 121) kinds.SmallY _ refl
+    (skip kinds.Greater (c == 120) kinds.SmallX _ refl
+    (skip kinds.Greater (c == 118) kinds.SmallV _ refl
+    (skip kinds.Greater (c == 117) kinds.SmallU _ refl
+    (skip kinds.Greater (c == 116) kinds.SmallT _ refl
+    (skip kinds.Greater (c == 115) kinds.SmallS _ refl
+    (skip kinds.Greater (c == 113) kinds.SmallQ _ refl
+    (skip kinds.Greater (c == 112) kinds.SmallP _ refl
+    (skip kinds.Greater (c == 111) kinds.SmallO _ refl
+    (skip kinds.Greater (c == 110) kinds.SmallN _ refl
+    (skip kinds.Greater (c == 109) kinds.SmallM _ refl
+    (skip kinds.Greater (c == 108) kinds.SmallL _ refl
+    (skip kinds.Greater (c == 103) kinds.SmallG _ refl
+    (skip kinds.Greater (c == 101) kinds.SmallE _ refl
+    (skip kinds.Greater (c == 97) kinds.SmallA _ refl
+    (skip kinds.Greater (c == 93) kinds.RightBracket _ refl
+    (skip kinds.Greater (c == 91) kinds.LeftBracket _ refl (skip kinds.Greater (c == 63) kinds.Question _ refl r))))))))))))))))))))))))
 
 wide-bracket : (c : ℕ) → is_kind kinds.RightBracket (wide_kind c) ≡ true → ⊥
 unfolding wide_kind
-wide-bracket c h = false-true (skip kinds.RightBracket (has_between characters c c) kinds.WideOther _ refl (skip kinds.RightBracket (has_between name_characters c c) kinds.WideName _ refl (skip kinds.RightBracket (has_between name_starts c c) kinds.WideStart _ refl h)))
+wide-bracket c h = false-true
+    (skip kinds.RightBracket (has_between characters c c) kinds.WideOther _ refl
+    (skip kinds.RightBracket (has_between name_characters c c) kinds.WideName _ refl
+    (skip kinds.RightBracket (has_between name_starts c c) kinds.WideStart _ refl h)))
 
 wide-greater : (c : ℕ) → is_kind kinds.Greater (wide_kind c) ≡ true → ⊥
 unfolding wide_kind
-wide-greater c h = false-true (skip kinds.Greater (has_between characters c c) kinds.WideOther _ refl (skip kinds.Greater (has_between name_characters c c) kinds.WideName _ refl (skip kinds.Greater (has_between name_starts c c) kinds.WideStart _ refl h)))
+wide-greater c h = false-true
+    (skip kinds.Greater (has_between characters c c) kinds.WideOther _ refl
+    (skip kinds.Greater (has_between name_characters c c) kinds.WideName _ refl (skip kinds.Greater (has_between name_starts c c) kinds.WideStart _ refl h)))
 
 kind-bracket : (c : ℕ) → is_kind kinds.RightBracket (kind c) ≡ true → c ≡ 93
 kind-bracket c h =
@@ -234,7 +309,8 @@ bracket-is c e = kind-bracket c (ap (λ (k : Kind). is_kind kinds.RightBracket k
 greater-is : (c : ℕ) → kind c ≡ kinds.Greater → c ≡ 62
 greater-is c e = kind-greater c (ap (λ (k : Kind). is_kind kinds.Greater k) e)
 
-goes-on : (s : Seen) (k : Kind) (c : ℕ) (cs : List ℕ) → kind c ≡ k → is_word k ≡ true → Free (lead s ++ (c ∷ cs)) → ((t : Seen) → Free (lead t ++ cs) → Follows cs t) → MayFollow (next_seen s k) (Follows cs)
+goes-on : (s : Seen) (k : Kind) (c : ℕ) (cs : List ℕ) → kind c ≡ k → is_word k ≡ true → Free (lead s ++ (c ∷ cs))
+    → ((t : Seen) → Free (lead t ++ cs) → Follows cs t) → MayFollow (next_seen s k) (Follows cs)
 goes-on zero_seen kinds.Less c cs e a free h = false-true a
 goes-on zero_seen kinds.Ampersand c cs e a free h = false-true a
 goes-on zero_seen kinds.Control c cs e a free h = false-true a
@@ -252,7 +328,8 @@ goes-on two_seen kinds.Less c cs e a free h = false-true a
 goes-on two_seen kinds.Ampersand c cs e a free h = false-true a
 goes-on two_seen kinds.Control c cs e a free h = false-true a
 goes-on two_seen kinds.WideRefused c cs e a free h = false-true a
-goes-on two_seen kinds.RightBracket c cs e a free h = h two_seen (λ x. free (subst (λ (n : ℕ). HasSectionEnd (93 ∷ 93 ∷ n ∷ cs)) (sym (bracket-is c e)) (later-end (93 ∷ []) (93 ∷ 93 ∷ cs) x)))
+goes-on two_seen kinds.RightBracket c cs e a free h =
+    h two_seen (λ x. free (subst (λ (n : ℕ). HasSectionEnd (93 ∷ 93 ∷ n ∷ cs)) (sym (bracket-is c e)) (later-end (93 ∷ []) (93 ∷ 93 ∷ cs) x)))
 goes-on two_seen k c cs e a free h = h zero_seen (λ x. free (later-end (93 ∷ 93 ∷ c ∷ []) cs x))
 
 follows-from : (cs : List ℕ) (s : Seen) → AreWords cs → Free (lead s ++ cs) → Follows cs s

@@ -129,16 +129,19 @@ saw-own : (a b : Address) → Apart a b → (s : Side) (is : Bool) (more : List 
 saw-own a b p s is more =
     ap (λ t. after a b (if t then record s { sees = is } else if is_of b a a b then record s { seen = is } else s) more) p.own
 
-saw-other : (a b : Address) → Apart a b → (s : Side) (is : Bool) (more : List Effect) → after a b s (sees b a is ∷ more) ≡ after a b (record s { seen = is }) more
+saw-other : (a b : Address) → Apart a b → (s : Side) (is : Bool) (more : List Effect)
+    → after a b s (sees b a is ∷ more) ≡ after a b (record s { seen = is }) more
 saw-other a b p s is more =
     ap (λ t. after a b (if t then record s { sees = is } else if is_of b a b a then record s { seen = is } else s) more) p.crossed
     ∙ ap (λ t. after a b (if t then record s { seen = is } else s) more) p.their_own
 
-asked-own : (a b : Address) → Apart a b → (s : Side) (is : Bool) (more : List Effect) → after a b s (asked a b is ∷ more) ≡ after a b (record s { asked = is }) more
+asked-own : (a b : Address) → Apart a b → (s : Side) (is : Bool) (more : List Effect)
+    → after a b s (asked a b is ∷ more) ≡ after a b (record s { asked = is }) more
 asked-own a b p s is more =
     ap (λ t. after a b (if t then record s { asked = is } else if is_of b a a b then record s { asked_by = is } else s) more) p.own
 
-asked-other : (a b : Address) → Apart a b → (s : Side) (is : Bool) (more : List Effect) → after a b s (asked b a is ∷ more) ≡ after a b (record s { asked_by = is }) more
+asked-other : (a b : Address) → Apart a b → (s : Side) (is : Bool) (more : List Effect)
+    → after a b s (asked b a is ∷ more) ≡ after a b (record s { asked_by = is }) more
 asked-other a b p s is more =
     ap (λ t. after a b (if t then record s { asked = is } else if is_of b a b a then record s { asked_by = is } else s) more) p.crossed
     ∙ ap (λ t. after a b (if t then record s { asked_by = is } else s) more) p.their_own
@@ -265,7 +268,8 @@ pub after-effects-mine : (a b : User) (mine theirs : Side) (form : PresenceForm)
 after-effects-mine a b m t Subscribe e =
     either (Mine a b m) m.sees (answered m t) (requested m t) (quiet-delivered a.bare b.bare Subscribed b.bare a.sessions m)
     (mine-requested a b (apart-from a.bare b.bare e) m t)
-after-effects-mine a b m t Subscribed e = either (Mine a b m) m.asked_by (approved m t) (unchanged m t) (mine-approved a b (apart-from a.bare b.bare e) m t) refl
+after-effects-mine a b m t Subscribed e = either (Mine a b m) m.asked_by (approved m t) (unchanged m t) (mine-approved a b (apart-from a.bare b.bare e) m t)
+    refl
 after-effects-mine a b m t Unsubscribe e =
     either (Mine a b m) (m.sees || m.asked) (withdrawn m t) (unchanged m t) (mine-withdrawn a b (apart-from a.bare b.bare e) m t) refl
 after-effects-mine a b m t Unsubscribed e =

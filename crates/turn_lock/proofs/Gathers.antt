@@ -89,7 +89,8 @@ module _ {T E R : Type 0} (line : E → ℕ) where
     pub drawn : drawn p ≤ length log
 
   -- a pass tells what its view does
-  told_of : (q : R) (log : List E) (p : Pass T E R) → Stands line q Idle [] p → StartsWith log (seen p) → Each (λ c. places line c.number 0 log ≡ c.places) (view_of p).claims → (refused p ≡ true → 2 ^ 63 ≤ length log) → drawn p ≤ length log → Told log p
+  told_of : (q : R) (log : List E) (p : Pass T E R) → Stands line q Idle [] p → StartsWith log (seen p)
+      → Each (λ c. places line c.number 0 log ≡ c.places) (view_of p).claims → (refused p ≡ true → 2 ^ 63 ≤ length log) → drawn p ≤ length log → Told log p
   told_of q log p idle sight claims marks known = record {
     seen = sight;
     mine = (subst (Each (λ c. places line c.number 0 log ≡ c.places)) (ap (λ m. m.0.claims) idle) claims).0;
@@ -104,14 +105,16 @@ module _ {T E R : Type 0} (line : E → ℕ) where
       (λ marked. s.refused (ap (either_of v.refused) marked))
       (let a = s.drawn in omega arith)
 
-  all_told : (q : R) (log : List E) (v : View E R) (ps : List (Pass T E R)) → Each (Stands line q Idle []) ps → Sound line log (gathered v ps) → Sound line log v × Each (Told log) ps
+  all_told : (q : R) (log : List E) (v : View E R) (ps : List (Pass T E R)) → Each (Stands line q Idle []) ps → Sound line log (gathered v ps)
+      → Sound line log v × Each (Told log) ps
   all_told q log v [] idle s = (s, tt)
   all_told q log v (p ∷ ps) idle s =
       let later = all_told q log (taken_in v (view_of p)) ps idle.1 s in
       (sound_left line log v (view_of p) later.0, (told_right q log v p idle.0 later.0, later.1))
 
   -- the claims of all are their numbers
-  numbers-gathered : (q : R) (v : View E R) (ps : List (Pass T E R)) → Each (Stands line q Idle []) ps → map (λ c. c.number) (gathered v ps).claims ≡ map (λ c. c.number) v.claims ++ map number_of ps
+  numbers-gathered : (q : R) (v : View E R) (ps : List (Pass T E R)) → Each (Stands line q Idle []) ps
+      → map (λ c. c.number) (gathered v ps).claims ≡ map (λ c. c.number) v.claims ++ map number_of ps
   numbers-gathered q v [] idle = sym (append-nil (map (λ c. c.number) v.claims))
   numbers-gathered q v (p ∷ ps) idle =
       let own : map (λ c. c.number) (view_of p).claims ≡ number_of p ∷ [] = ap (λ m. map (λ c. c.number) m.0.claims) idle.0 in
@@ -121,30 +124,37 @@ module _ {T E R : Type 0} (line : E → ℕ) where
       ∙ (ap (λ (l : List ℕ). (before ++ l) ++ map number_of ps) own ∙ append_assoc before (number_of p ∷ []) (map number_of ps)))
 
   -- the view of the first, with those of the others, has a claim for each of all passes
-  numbers_of_all : (q : R) (p : Pass T E R) (ps items : List (Pass T E R)) → items ≡ p ∷ ps → All (Stands line q Idle []) items → map (λ c. c.number) (gathered (view_of p) ps).claims ≡ map number_of items
+  numbers_of_all : (q : R) (p : Pass T E R) (ps items : List (Pass T E R)) → items ≡ p ∷ ps → All (Stands line q Idle []) items
+      → map (λ c. c.number) (gathered (view_of p) ps).claims ≡ map number_of items
   numbers_of_all q p ps items all idle =
       let idle' = subst (Each (Stands line q Idle [])) all (each_of (Stands line q Idle []) items idle) in
       numbers-gathered q (view_of p) ps idle'.1
       ∙ (ap (λ m. map (λ c. c.number) m.0.claims ++ map number_of ps) idle'.0 ∙ ap (map number_of) (sym all))
 
-  length-claims : (q : R) (p : Pass T E R) (ps items : List (Pass T E R)) → items ≡ p ∷ ps → All (Stands line q Idle []) items → length (gathered (view_of p) ps).claims ≡ length items
+  length-claims : (q : R) (p : Pass T E R) (ps items : List (Pass T E R)) → items ≡ p ∷ ps → All (Stands line q Idle []) items
+      → length (gathered (view_of p) ps).claims ≡ length items
   length-claims q p ps items all idle =
       let claims = (gathered (view_of p) ps).claims in
       sym (length-map claims (λ c. c.number)) ∙ (ap length (numbers_of_all q p ps items all idle) ∙ length-map items number_of)
 
   -- what that view tells, each pass tells
-  told_of_all : (q : R) (log : List E) (p : Pass T E R) (ps items : List (Pass T E R)) → items ≡ p ∷ ps → All (Stands line q Idle []) items → Sound line log (gathered (view_of p) ps) → All (Told log) items
+  told_of_all : (q : R) (log : List E) (p : Pass T E R) (ps items : List (Pass T E R)) → items ≡ p ∷ ps → All (Stands line q Idle []) items
+      → Sound line log (gathered (view_of p) ps) → All (Told log) items
   told_of_all q log p ps items all idle sound =
       let idle' = subst (Each (Stands line q Idle [])) all (each_of (Stands line q Idle []) items idle) in
       let told = all_told q log (view_of p) ps idle'.1 sound in
       let first : Told log p = told_of q log p idle'.0 told.0.seen told.0.claims told.0.refused told.0.drawn in
       subst (All (Told log)) (sym all) (all_of (Told log) (p ∷ ps) (first, told.1))
 
-  lines_of_all : (q : R) (log : List E) (p : Pass T E R) (ps items : List (Pass T E R)) → items ≡ p ∷ ps → All (Stands line q Idle []) items → Each (λ e. times (line e) (gathered (view_of p) ps).claims ≡ 1) log → All (λ e. Contains (map number_of items) (line e)) log
+  lines_of_all : (q : R) (log : List E) (p : Pass T E R) (ps items : List (Pass T E R)) → items ≡ p ∷ ps → All (Stands line q Idle []) items
+      → Each (λ e. times (line e) (gathered (view_of p) ps).claims ≡ 1) log → All (λ e. Contains (map number_of items) (line e)) log
   lines_of_all q log p ps items all idle once =
       let claims = (gathered (view_of p) ps).claims in
-      let number : (e : E) → times (line e) claims ≡ 1 → Contains (map number_of items) (line e) = λ e one. subst (λ (l : List ℕ). Contains l (line e)) (numbers_of_all q p ps items all idle) (contains_number (line e) claims one) in
-      all_of (λ e. Contains (map number_of items) (line e)) log (each_map (λ e. times (line e) claims ≡ 1) (λ e. Contains (map number_of items) (line e)) number log once)
+      let number : (e : E) → times (line e) claims ≡ 1
+      → Contains (map number_of items) (line e) =
+      λ e one. subst (λ (l : List ℕ). Contains l (line e)) (numbers_of_all q p ps items all idle) (contains_number (line e) claims one) in
+      all_of (λ e. Contains (map number_of items) (line e)) log
+      (each_map (λ e. times (line e) claims ≡ 1) (λ e. Contains (map number_of items) (line e)) number log once)
 
   -- the same after the loop of close: the seat m took in all of `items`, of which `rest` is what was left
   module _ (root : T → R) (lock : Turnstile T E R) (p : Pass T E R) (ps rest items : List (Pass T E R)) (n : ℕ) (m : Me (Option T) (View E R)) where
@@ -152,13 +162,19 @@ module _ {T E R : Type 0} (line : E → ℕ) where
     Over = (items ≡ p ∷ (ps ++ rest)) × (length rest ≡ n) × (n ≡ 0) × All (IsIdle line root lock) items × (m ≡ (gathered (view_of p) ps, []))
 
     all_items : Over → items ≡ p ∷ ps
-    all_items over = over.0 ∙ (ap (λ (l : List (Pass T E R)). p ∷ (ps ++ l)) (nothing_left rest n over.1 over.2) ∙ ap (λ (l : List (Pass T E R)). p ∷ l) (append-nil ps))
+    all_items over = over.0 ∙ (ap (λ (l : List (Pass T E R)). p ∷ (ps ++ l)) (nothing_left rest n over.1 over.2)
+        ∙ ap (λ (l : List (Pass T E R)). p ∷ l) (append-nil ps))
 
     pub claims_at_end : Over → length m.0.claims ≡ length items
-    claims_at_end over = ap (λ (z : Me (Option T) (View E R)). length z.0.claims) over.4 ∙ length-claims (root_of root lock) p ps items (all_items over) (λ k d h. (over.3 k d h).1)
+    claims_at_end over = ap (λ (z : Me (Option T) (View E R)). length z.0.claims) over.4
+        ∙ length-claims (root_of root lock) p ps items (all_items over) (λ k d h. (over.3 k d h).1)
 
     pub told_at_end : Over → (log : List E) → Sound line log m.0 → All (Told log) items
-    told_at_end over log sound = told_of_all (root_of root lock) log p ps items (all_items over) (λ k d h. (over.3 k d h).1) (subst (λ (z : Me (Option T) (View E R)). Sound line log z.0) over.4 sound)
+    told_at_end over log sound =
+        told_of_all (root_of root lock) log p ps items (all_items over) (λ k d h. (over.3 k d h).1)
+        (subst (λ (z : Me (Option T) (View E R)). Sound line log z.0) over.4 sound)
 
     pub lines_at_end : Over → (log : List E) → Each (λ e. times (line e) m.0.claims ≡ 1) log → All (λ e. Contains (map number_of items) (line e)) log
-    lines_at_end over log once = lines_of_all (root_of root lock) log p ps items (all_items over) (λ k d h. (over.3 k d h).1) (subst (λ (z : Me (Option T) (View E R)). Each (λ e. times (line e) z.0.claims ≡ 1) log) over.4 once)
+    lines_at_end over log once =
+        lines_of_all (root_of root lock) log p ps items (all_items over) (λ k d h. (over.3 k d h).1)
+        (subst (λ (z : Me (Option T) (View E R)). Each (λ e. times (line e) z.0.claims ≡ 1) log) over.4 once)

@@ -66,7 +66,8 @@ module _ {T E R : Type 0} (story : T → List E) (line : E → ℕ) (root : T �
   Right log c = places line c.number 0 log ≡ c.places
 
   abbrev Placed : List E → List ℕ → List (Home (Option T)) → List V → Type 0
-  Placed log ws hs vs = IsHome story line root r log record { words = ws; homes = hs; views = vs } ⊎ IsOut story line root record { words = ws; homes = hs; views = vs }
+  Placed log ws hs vs = IsHome story line root r log record { words = ws; homes = hs; views = vs }
+      ⊎ IsOut story line root record { words = ws; homes = hs; views = vs }
 
   named : (log : List E) (drawer : ℕ → ℕ) (next j : ℕ) (v : V) (q : R) → Kn log drawer next j v → v.root ≡ Some q → v.root ≡ Some r
   named log drawer next j v q k is = ⊎_elim (λ yes. yes) (λ gone. let clash : None ≡ Some q = sym (ap (λ (z : V). z.root) gone) ∙ is in cc) k.rooted
@@ -88,7 +89,8 @@ module _ {T E R : Type 0} (story : T → List E) (line : E → ℕ) (root : T �
     still : has_value v.stage ≡ true → log ≡ log'
     right : Each (Right log') v.claims
 
-  unaffected : (log log' : List E) (drawer drawer' : ℕ → ℕ) (next next' j : ℕ) (v : V) → Kn log drawer next j v → Beside log log' drawer drawer' next next' v → Kn log' drawer' next' j v
+  unaffected : (log log' : List E) (drawer drawer' : ℕ → ℕ) (next next' j : ℕ) (v : V) → Kn log drawer next j v → Beside log log' drawer drawer' next next' v
+      → Kn log' drawer' next' j v
   unaffected log log' drawer drawer' next next' j v k b =
       let up = b.up in record {
         rooted = k.rooted;
@@ -102,7 +104,8 @@ module _ {T E R : Type 0} (story : T → List E) (line : E → ℕ) (root : T �
         able = k.able;
       }
 
-  same_history : (log : List E) (drawer drawer' : ℕ → ℕ) (next next' j : ℕ) (v : V) → Kn log drawer next j v → next ≤ next' → ((t : ℕ) → t < next → drawer' t ≡ drawer t) → Beside log log drawer drawer' next next' v
+  same_history : (log : List E) (drawer drawer' : ℕ → ℕ) (next next' j : ℕ) (v : V) → Kn log drawer next j v → next ≤ next'
+      → ((t : ℕ) → t < next → drawer' t ≡ drawer t) → Beside log log drawer drawer' next next' v
   same_history log drawer drawer' next next' j v k up same = record {
     grows = λ s h. h;
     up = up;
@@ -132,7 +135,8 @@ module _ {T E R : Type 0} (story : T → List E) (line : E → ℕ) (root : T �
 
   moved : (s : St) (k : K s) (id : ℕ) (v w : V) (s' : St) → get_elem? s.views id ≡ some v → Move s k id v w s' → K s'
   moved s k id v w s' at m =
-      let sums : (f : V → ℕ) → total f s'.views + f v ≡ total f s.views + f w = λ f. ap (λ (l : List V). total f l + f v) m.views ∙ total-set f s.views id v w at in record {
+      let sums : (f : V → ℕ) → total f s'.views + f v ≡ total f s.views + f w = λ f. ap (λ (l : List V). total f l + f v) m.views
+      ∙ total-set f s.views id v w at in record {
         log = m.log;
         drawer = m.drawer;
         words = m.words;
@@ -148,15 +152,24 @@ module _ {T E R : Type 0} (story : T → List E) (line : E → ℕ) (root : T �
         lines = m.lines;
         each = λ j u at'. ⊎_elim
             (λ here. subst (λ (z : ℕ × V). Kn m.log m.drawer (get_or s'.words 0 0) z.0 z.1) (λ i. (sym here.0 i, here.1 i)) m.own)
-            (λ there. unaffected k.log m.log k.drawer m.drawer (get_or s.words 0 0) (get_or s'.words 0 0) j u (k.each j u there.1) (m.others j u there.1 there.0))
+            (λ there. unaffected k.log m.log k.drawer m.drawer (get_or s.words 0 0) (get_or s'.words 0 0) j u (k.each j u there.1)
+            (m.others j u there.1 there.0))
             (at_set s.views id j w u (sym (ap (λ (l : List V). get_elem? l j) m.views) ∙ at'));
         value = m.value;
       }
 
   -- the value stays where it is, where the seat that steps hasn't it
-  stays : (s : St) (k : K s) (id : ℕ) (v w : V) (ws : List ℕ) → get_elem? s.views id ≡ some v → has_value v.stage ≡ false → has_value w.stage ≡ false → Placed k.log ws s.homes (set s.views id w)
+  stays : (s : St) (k : K s) (id : ℕ) (v w : V) (ws : List ℕ) → get_elem? s.views id ≡ some v → has_value v.stage ≡ false → has_value w.stage ≡ false
+      → Placed k.log ws s.homes (set s.views id w)
   stays s k id v w ws at free free' = ⊎_elim
-      (λ home. inl (home.0, home.1, home.2, home.3, λ j u at'. ⊎_elim (λ here. sym (ap (λ (z : V). has_value z.stage) here.1) ∙ free') (λ there. home.4 j u there.1) (at_set s.views id j w u at')))
+      (λ home. inl (
+        home.0,
+        home.1,
+        home.2,
+        home.3,
+        λ j u at'.
+            ⊎_elim (λ here. sym (ap (λ (z : V). has_value z.stage) here.1) ∙ free') (λ there. home.4 j u there.1) (at_set s.views id j w u at'),
+      ))
       (λ out.
       let apart : out.0 ≢ id = λ same.
       let is : some out.1 ≡ some v = sym out.2 ∙ (ap (get_elem? s.views) same ∙ at) in
@@ -194,7 +207,8 @@ module _ {T E R : Type 0} (story : T → List E) (line : E → ℕ) (root : T �
         told = k.told;
         lines = k.lines;
         own = l.own;
-        others = λ j u at' apart. same_history k.log k.drawer k.drawer (get_or s.words 0 0) (get_or s.words 0 0) j u (k.each j u at') (omega arith) (λ t h. refl);
+        others = λ j u at' apart. same_history k.log k.drawer k.drawer (get_or s.words 0 0) (get_or s.words 0 0) j u (k.each j u at') (omega arith)
+            (λ t h. refl);
         value = l.value;
       })
 
@@ -280,7 +294,8 @@ module _ {T E R : Type 0} (story : T → List E) (line : E → ℕ) (root : T �
       ))
       (at_least (2 ^ 63) n)
 
-  pub draws : (slots id : ℕ) (me : M) (q : R) → me.0.root ≡ Some q → me.0.stage ≡ MayDraw → Allows K slots id me 0 (λ n. (n + 1) % 2 ^ 64) (drew (step slots 0 1 0 none) me)
+  pub draws : (slots id : ℕ) (me : M) (q : R) → me.0.root ≡ Some q → me.0.stage ≡ MayDraw
+      → Allows K slots id me 0 (λ n. (n + 1) % 2 ^ 64) (drew (step slots 0 1 0 none) me)
   draws slots id me q is may s k _ at _ =
       let n : ℕ = get_or s.words 0 0 in
       let m : ℕ = (n + 1) % 2 ^ 64 in
@@ -324,13 +339,15 @@ module _ {T E R : Type 0} (story : T → List E) (line : E → ℕ) (root : T �
             claims = own.claims;
             able = omega arith;
           };
-          others = λ j u at' apart. same_history k.log k.drawer (drawer_after k.drawer n id) n (get_or (set s.words 0 m) 0 0) j u (k.each j u at') (omega arith) (λ t h. drawn_before k.drawer n id t (λ same. absurd (omega arith)));
+          others = λ j u at' apart. same_history k.log k.drawer (drawer_after k.drawer n id) n (get_or (set s.words 0 m) 0 0) j u (k.each j u at') (omega arith)
+              (λ t h. drawn_before k.drawer n id t (λ same. absurd (omega arith)));
           value = stays s k id v w (set s.words 0 m) at (ap has_value may) refl;
         },
         refl,
       )
 
-  pub looks : (slots id : ℕ) (me : M) (q : R) → me.0.root ≡ Some q → has_value me.0.stage ≡ false → Allows K slots id me 1 (λ n. n) (looked story line root (step slots 1 0 0 none) me)
+  pub looks : (slots id : ℕ) (me : M) (q : R) → me.0.root ≡ Some q → has_value me.0.stage ≡ false
+      → Allows K slots id me 1 (λ n. n) (looked story line root (step slots 1 0 0 none) me)
   looks slots id me q is free s k _ at _ =
       let n : ℕ = get_or s.words 1 0 in
       let v : V = me.0 in
@@ -422,7 +439,8 @@ module _ {T E R : Type 0} (story : T → List E) (line : E → ℕ) (root : T �
             ⊎_elim (λ high. let none_has = had.1 high in omega arith) (λ low. let one_has = had.0 low in omega arith) (at_least passes i),
       )
 
-  pub passes_on : (slots id t : ℕ) (me : M) (x : T) (e : E) (c : Claim) (q : R) → me.0.stage ≡ Works t → me.1 ≡ (0, Some x) ∷ [] → me.0.claims ≡ c ∷ [] → story x ≡ me.0.seen ++ e ∷ [] → line e ≡ c.number → me.0.root ≡ Some q → root x ≡ q
+  pub passes_on : (slots id t : ℕ) (me : M) (x : T) (e : E) (c : Claim) (q : R) → me.0.stage ≡ Works t → me.1 ≡ (0, Some x) ∷ [] → me.0.claims ≡ c ∷ []
+      → story x ≡ me.0.seen ++ e ∷ [] → line e ≡ c.number → me.0.root ≡ Some q → root x ≡ q
       → Allows K slots id me 1 (λ n. (n + 1) % 2 ^ 64) (passed_on story line (step slots 1 1 0 none) me)
   passes_on slots id t me x e c q works carried claims adds its_line rooted same_root s k _ at _ =
       let v : V = me.0 in
@@ -450,15 +468,18 @@ module _ {T E R : Type 0} (story : T → List E) (line : E → ℕ) (root : T �
       let homes : List (Home (Option T)) = put_back s.homes me.1 in
       let put : homes ≡ set s.homes 0 (some (Some x)) = ap (put_back s.homes) carried in
       let room = k.slots in
-      let at_home : get_elem? homes 0 ≡ some (some (Some x)) = ap (λ (l : List (Home (Option T))). get_elem? l 0) put ∙ set_here s.homes 0 (some (Some x)) (omega arith) in
+      let at_home : get_elem? homes 0 ≡ some (some (Some x)) = ap (λ (l : List (Home (Option T))). get_elem? l 0) put
+      ∙ set_here s.homes 0 (some (Some x)) (omega arith) in
       let slots_kept : length homes ≡ 1 = ap length put ∙ (length-set s.homes 0 (some (Some x)) ∙ k.slots) in
       let size_v : length v.claims ≡ 1 = ap length claims in
       let has : times i v.claims ≡ 1 = let a : times i v.claims ≡ times i (c ∷ []) = ap (times i) claims in let b = bit_same i i refl in omega arith in
       let number = alone_with s k id v i at has in
       let before : places line i 0 k.log ≡ c.places = (subst (Each (Right k.log)) claims own.claims).0 in
       let right : places line i 0 (story x) ≡ own_places =
-      ap (places line i 0) log ∙ (places_of_own line i k.log e its_line ∙ (ap (λ (l : List ℕ). l ++ length k.log ∷ []) before ∙ ap (λ (l : List E). c.places ++ length l ∷ []) (sym turn.1))) in
-      let longer : (l : List E) → StartsWith k.log l → StartsWith (story x) l = λ l h. subst (λ (z : List E). StartsWith z l) (sym log) (starts_longer k.log (e ∷ []) l h) in
+      ap (places line i 0) log ∙ (places_of_own line i k.log e its_line
+      ∙ (ap (λ (l : List ℕ). l ++ length k.log ∷ []) before ∙ ap (λ (l : List E). c.places ++ length l ∷ []) (sym turn.1))) in
+      let longer : (l : List E) → StartsWith k.log l
+      → StartsWith (story x) l = λ l h. subst (λ (z : List E). StartsWith z l) (sym log) (starts_longer k.log (e ∷ []) l h) in
       let not_served : (j : ℕ) (u : V) → get_elem? s.views j ≡ some u → j ≢ id → ticket_of u.stage ≢ Some (length k.log) =
       λ j u at' apart same. apart (sym ((k.each j u at').ticket (length k.log) same).2 ∙ had.2) in (
         w,
@@ -479,7 +500,8 @@ module _ {T E R : Type 0} (story : T → List E) (line : E → ℕ) (root : T �
               (λ old. k.told l old)
               (λ all. (x, log ∙ all, its_root))
               (starts_before k.log e l (subst (λ (z : List E). StartsWith z l) log h));
-          lines = subst (Each (λ y. line y < passes)) (sym log) (each_append (λ y. line y < passes) k.log (e ∷ []) k.lines (let a = number.0 in omega arith, tt));
+          lines = subst (Each (λ y. line y < passes)) (sym log)
+              (each_append (λ y. line y < passes) k.log (e ∷ []) k.lines (let a = number.0 in omega arith, tt));
           own = subst (λ (z : ℕ). Kn (story x) k.drawer z id w) (sym first) record {
             rooted = inl (named k.log k.drawer (get_or s.words 0 0) id v q own rooted);
             seen = starts_itself (story x);
@@ -495,9 +517,11 @@ module _ {T E R : Type 0} (story : T → List E) (line : E → ℕ) (root : T �
             grows = longer;
             up = omega arith;
             same = λ z h. refl;
-            late = λ z is. let a = its.ticket z is in let later : z ≢ length k.log = λ same. not_served j u at' apart (is ∙ ap (λ (y : ℕ). Some y) same) in omega arith;
+            late = λ z is. let a = its.ticket z is in let later : z ≢ length k.log =
+                λ same. not_served j u at' apart (is ∙ ap (λ (y : ℕ). Some y) same) in omega arith;
             still = λ is. absurd (not_served j u at' apart (its.turn is).0);
-            right = subst (λ (l : List E). Each (Right l) u.claims) (sym log) (claims_of_others line k.log e u.claims (ap (λ (y : ℕ). times y u.claims) its_line ∙ number.1 j u at' apart) its.claims);
+            right = subst (λ (l : List E). Each (Right l) u.claims) (sym log)
+                (claims_of_others line k.log e u.claims (ap (λ (y : ℕ). times y u.claims) its_line ∙ number.1 j u at' apart) its.claims);
           };
           value = inl (
             x,
@@ -506,7 +530,8 @@ module _ {T E R : Type 0} (story : T → List E) (line : E → ℕ) (root : T �
             its_root,
             λ j u at'. ⊎_elim
                 (λ here. sym (ap (λ (z : V). has_value z.stage) here.1))
-                (λ there. ⊎_elim (λ yes. absurd (not_served j u there.1 there.0 ((k.each j u there.1).turn yes).0)) (λ no. no) (true_or_false (has_value u.stage)))
+                (λ there. ⊎_elim (λ yes. absurd (not_served j u there.1 there.0 ((k.each j u there.1).turn yes).0)) (λ no. no)
+                (true_or_false (has_value u.stage)))
                 (at_set s.views id j w u at'),
           );
         },
@@ -517,13 +542,17 @@ module _ {T E R : Type 0} (story : T → List E) (line : E → ℕ) (root : T �
             let same_value : x ≡ y = cc in
             let same_claim : c ≡ d = ap claim_of (sym claims ∙ is') in
             let empty : rest me.1 ≡ [] = ap rest carried in
-            subst (λ (z : T × Claim). (◌≡◌ {A = M} (w, rest me.1) (record v { stage = Idle; seen = story z.0; claims = claim z.1.number (z.1.places ++ length v.seen ∷ []) ∷ [] }, [])) × (places line z.1.number 0 (story z.0) ≡ z.1.places ++ length v.seen ∷ []))
+            subst (λ (z : T × Claim).
+            (◌≡◌ {A = M} (w, rest me.1)
+            (record v { stage = Idle; seen = story z.0; claims = claim z.1.number (z.1.places ++ length v.seen ∷ []) ∷ [] }, []))
+            × (places line z.1.number 0 (story z.0) ≡ z.1.places ++ length v.seen ∷ []))
             (λ j. (same_value j, same_claim j))
             ((λ j. (w, empty j)), right),
       )
 
   -- a split: the new view has the claims b, which the first one gives up
-  pub splits : (id : ℕ) (v : V) (a b : List Claim) (q : R) → v.root ≡ Some q → v.claims ≡ b ++ a → v.stage ≡ Idle → Splits K id v (record v { claims = a }) (resting v.root false v.drawn b v.seen)
+  pub splits : (id : ℕ) (v : V) (a b : List Claim) (q : R) → v.root ≡ Some q → v.claims ≡ b ++ a → v.stage ≡ Idle
+      → Splits K id v (record v { claims = a }) (resting v.root false v.drawn b v.seen)
   splits id v a b q is parts idle s k at =
       let l : V = record v { claims = a } in
       let n : V = resting v.root false v.drawn b v.seen in
@@ -545,7 +574,8 @@ module _ {T E R : Type 0} (story : T → List E) (line : E → ℕ) (root : T �
         next = let x = sums (λ u. tickets u.stage) in let y = k.next in omega arith;
         low = λ high. let x = sums (λ u. leaves u.stage) in let y = k.low high in omega arith;
         spread = let x = sums (λ u. length u.claims) in let y = k.spread in omega arith;
-        once = λ i. let x = sums (λ u. times i u.claims) in let had = k.once i in let p : times i v.claims ≡ times i b + times i a = ap (times i) parts ∙ total-append (λ c. bit (eqb c.number i)) b a in
+        once = λ i. let x = sums (λ u. times i u.claims) in let had = k.once i in let p : times i v.claims ≡ times i b + times i a = ap (times i) parts
+            ∙ total-append (λ c. bit (eqb c.number i)) b a in
             ((λ h. let y = had.0 h in omega arith), (λ h. let y = had.1 h in omega arith));
         told = k.told;
         lines = k.lines;
@@ -678,9 +708,11 @@ module _ {T E R : Type 0} (story : T → List E) (line : E → ℕ) (root : T �
       let bare : (j : ℕ) (u : V) → get_elem? s.views j ≡ some u → j ≢ id → length u.claims ≡ 0 =
       λ j u at' apart. let both = two_within (λ (z : V). length z.claims) s.views id j v u at at' apart in omega arith in
       let no_tickets : total (λ u. tickets u.stage) s.views ≡ 0 =
-      total-alone (λ (u : V). tickets u.stage) s.views id v at (λ j u at' apart. let a = bare j u at' apart in let b = (k.each j u at').able in omega arith) ∙ ap tickets idle in
+      total-alone (λ (u : V). tickets u.stage) s.views id v at (λ j u at' apart. let a = bare j u at' apart in let b = (k.each j u at').able in omega arith)
+      ∙ ap tickets idle in
       let count : (i : ℕ) → i < passes → times i v.claims ≡ 1 =
-      λ i h. sym (total-alone (λ (u : V). times i u.claims) s.views id v at (λ j u at' apart. times_of_none i u.claims (bare j u at' apart))) ∙ (k.once i).0 h in
+      λ i h. sym (total-alone (λ (u : V). times i u.claims) s.views id v at (λ j u at' apart. times_of_none i u.claims (bare j u at' apart)))
+      ∙ (k.once i).0 h in
       ⊎_elim
       (λ home.
       let sound : Sound line k.log v = record {
@@ -690,7 +722,8 @@ module _ {T E R : Type 0} (story : T → List E) (line : E → ℕ) (root : T �
         refused = λ yes. let a = own.refused yes in omega arith;
         drawn = let a = own.drawn in omega arith;
       } in
-      let lines : Each (λ e. times (line e) v.claims ≡ 1) k.log = each_map (λ e. line e < passes) (λ e. times (line e) v.claims ≡ 1) (λ e h. count (line e) h) k.log k.lines in
+      let lines : Each (λ e. times (line e) v.claims ≡ 1) k.log =
+      each_map (λ e. line e < passes) (λ e. times (line e) v.claims ≡ 1) (λ e h. count (line e) h) k.log k.lines in
       let told = subst (λ (l : List E). Sound line l v × Each (λ e. times (line e) v.claims ≡ 1) l) (sym home.2) (sound, lines) in
       (home.0, home.1, home.3, told.0, told.1))
       (λ out.
@@ -721,7 +754,10 @@ module _ {T E R : Type 0} (story : T → List E) (line : E → ℕ) (root : T �
         next = refl;
         low = λ h. absurd (omega arith);
         spread = omega arith;
-        once = λ i. ((λ h. let a = fresh_with i 0 passes (omega arith) (omega arith) in omega arith), (λ h. let a = fresh_without i 0 passes (inr (omega arith)) in omega arith));
+        once = λ i. (
+          (λ h. let a = fresh_with i 0 passes (omega arith) (omega arith) in omega arith),
+          (λ h. let a = fresh_without i 0 passes (inr (omega arith)) in omega arith),
+        );
         told = λ l h. (x, empty ∙ starts_nothing l h, refl);
         lines = tt;
         each = λ j u at. subst (λ (z : View E R). Knows story line root (root x) [] (λ t. 0) 0 j z) (only j u at) record {

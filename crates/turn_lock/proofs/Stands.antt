@@ -16,17 +16,21 @@ module _ (T : Type 0) {E R : Type 0} (line : E → ℕ) (q : R) (n : ℕ) where
   abbrev standing : Stage → List (ℕ × Option T) → Bool → ℕ → List ℕ → List E → M
   standing stage slots refused drawn ps seen = (pass_view q stage refused drawn n ps seen, slots)
 
-  pub stands_from : (m : M) (stage : Stage) (slots : List (ℕ × Option T)) (refused : Bool) (drawn : ℕ) (ps : List ℕ) (seen : List E) → m ≡ standing stage slots refused drawn ps seen → places line n 0 seen ≡ ps
+  pub stands_from : (m : M) (stage : Stage) (slots : List (ℕ × Option T)) (refused : Bool) (drawn : ℕ) (ps : List ℕ) (seen : List E)
+      → m ≡ standing stage slots refused drawn ps seen → places line n 0 seen ≡ ps
       → m ≡ standing stage slots m.0.refused m.0.drawn (places line n 0 m.0.seen) m.0.seen
   stands_from m stage slots refused drawn ps seen is right =
       let own : ps ≡ places line n 0 m.0.seen = sym right ∙ ap (λ (z : M). places line n 0 z.0.seen) (sym is) in
       is ∙ (λ i. standing stage slots (sym is i).0.refused (sym is i).0.drawn (own i) (sym is i).0.seen)
 
   -- a pass that put its value back and passed the turn on
-  pub passed : (story : T → List E) (m m' m'' : M) (x : T) (t : ℕ) → m ≡ standing (Works t) ((0, None) ∷ []) m.0.refused m.0.drawn (places line n 0 m.0.seen) m.0.seen → m' ≡ (m.0, (0, Some x) ∷ rest m.1)
+  pub passed : (story : T → List E) (m m' m'' : M) (x : T) (t : ℕ)
+      → m ≡ standing (Works t) ((0, None) ∷ []) m.0.refused m.0.drawn (places line n 0 m.0.seen) m.0.seen → m' ≡ (m.0, (0, Some x) ∷ rest m.1)
       → ((y : T) (c : Claim) → m'.1 ≡ (0, Some y) ∷ [] → m'.0.claims ≡ c ∷ []
-      → (m'' ≡ (record m'.0 { stage = Idle; seen = story y; claims = claim c.number (c.places ++ length m'.0.seen ∷ []) ∷ [] }, [])) × (places line c.number 0 (story y) ≡ c.places ++ length m'.0.seen ∷ []))
-      → (m'' ≡ standing Idle [] m.0.refused m.0.drawn (places line n 0 m.0.seen ++ length m.0.seen ∷ []) (story x)) × (places line n 0 (story x) ≡ places line n 0 m.0.seen ++ length m.0.seen ∷ [])
+      → (m'' ≡ (record m'.0 { stage = Idle; seen = story y; claims = claim c.number (c.places ++ length m'.0.seen ∷ []) ∷ [] }, []))
+      × (places line c.number 0 (story y) ≡ c.places ++ length m'.0.seen ∷ []))
+      → (m'' ≡ standing Idle [] m.0.refused m.0.drawn (places line n 0 m.0.seen ++ length m.0.seen ∷ []) (story x))
+      × (places line n 0 (story x) ≡ places line n 0 m.0.seen ++ length m.0.seen ∷ [])
   passed story m m' m'' x t works put told =
       let before : List ℕ = places line n 0 m.0.seen in
       let carried : m'.1 ≡ (0, Some x) ∷ [] = ap (λ (z : M). z.1) put ∙ ap (λ (z : M). (0, Some x) ∷ rest z.1) works in

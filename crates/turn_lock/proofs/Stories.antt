@@ -82,7 +82,8 @@ module _ {E : Type 0} (line : E → ℕ) where
       ∙ ap (λ (z : ℕ). places line n 0 log ++ z ∷ []) zero_more)
 
   -- an entry of no number among the claims leaves them right
-  pub claims_of_others : (log : List E) (e : E) (cs : List Claim) → times (line e) cs ≡ 0 → Each (λ c. places line c.number 0 log ≡ c.places) cs → Each (λ c. places line c.number 0 (log ++ e ∷ []) ≡ c.places) cs
+  pub claims_of_others : (log : List E) (e : E) (cs : List Claim) → times (line e) cs ≡ 0 → Each (λ c. places line c.number 0 log ≡ c.places) cs
+      → Each (λ c. places line c.number 0 (log ++ e ∷ []) ≡ c.places) cs
   claims_of_others log e [] none all = tt
   claims_of_others log e (c ∷ cs) none all =
       let apart : line e ≢ c.number = λ same. let here = bit_same c.number (line e) (sym same) in absurd (omega arith) in

@@ -10,7 +10,8 @@ split_at-requires c =
 
 pub returns-in-Some-clause-lines : goal.returns-in-Some-clause-lines
 returns-in-Some-clause-lines c =
-    first-split c.args.bytes.now c.cut_at.result.0.now c.split_at.result.0.now c.split_at.result.1.now (search rules) c.cut_at.ensures.before c.split_at.ensures.front
+    first-split c.args.bytes.now c.cut_at.result.0.now c.split_at.result.0.now c.split_at.result.1.now (search rules) c.cut_at.ensures.before
+    c.split_at.ensures.front
     c.split_at.ensures.back
 
 pub returns-in-None-clause-lines : goal.returns-in-None-clause-lines

@@ -13,7 +13,8 @@ pub returns-clause-text : goal.returns-clause-text
 returns-clause-text c =
     let one = salted_password sha1 c.args.password.now c.args.salt.now 4096 in
     let two = salted_password sha256 c.args.password.now c.args.salt.now 4096 in
-    line-made c.args.name.now (decimal 4096) (base64_of c.args.salt.now) (base64_of (stored_key sha1 one)) (base64_of (server_key sha1 one)) (base64_of (stored_key sha256 two))
+    line-made c.args.name.now (decimal 4096) (base64_of c.args.salt.now) (base64_of (stored_key sha1 one)) (base64_of (server_key sha1 one))
+    (base64_of (stored_key sha256 two))
     (base64_of (server_key sha256 two)) c.in_ok-line.line.items c.push_rounds.new.line.items c.push_base64.new.line.items c.push_keys_sha1.new.line.items
     c.push_keys_sha256.new.line.items c.push.new.self.items (search rules) (search rules) (search rules) (search rules) (search rules) (search rules)
 

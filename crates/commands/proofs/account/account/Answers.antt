@@ -4,7 +4,8 @@ use Rattle.commands.proofs.account.account.Goals as goal
 
 pub returns-clause-accounted : goal.returns-clause-accounted
 returns-clause-accounted g c =
-    ends_unwritten g.K.Sink.took c.args.name.now c.args.salt.now (g.S.Source.left c.args.source.now) (g.S.Source.left c.read_password.new.source) c.args.sink.now c.write_all.new.sink
+    ends_unwritten g.K.Sink.took c.args.name.now c.args.salt.now (g.S.Source.left c.args.source.now) (g.S.Source.left c.read_password.new.source)
+    c.args.sink.now c.write_all.new.sink
     c.in-Err-write_all.status (search rules)
     (record {
       password = c.in-Ok.password.items;

@@ -8,7 +8,8 @@ use Rattle.commands.proofs.run.run.Goals as goal
 
 pub returns-in-Err-clause-replayed : goal.returns-in-Err-clause-replayed
 returns-in-Err-clause-replayed g c = λ is.
-    replay_unread c.args.words.now (g.S.Source.left c.args.source.now) (g.S.Source.left c.args.source.now) (g.K.Sink.took c.args.sink.now) c.in-Err.status (search rules) is
+    replay_unread c.args.words.now (g.S.Source.left c.args.source.now) (g.S.Source.left c.args.source.now) (g.K.Sink.took c.args.sink.now) c.in-Err.status
+    (search rules) is
 
 pub returns-in-Err-clause-served : goal.returns-in-Err-clause-served
 returns-in-Err-clause-served g c = λ w is. serve_unread (task_of c.args.words.now) w _ _ _ _ _ c.in-Err.status (search rules) is
@@ -18,4 +19,5 @@ returns-in-Ok-Serve-clause-served g c = λ w asked.
     as_asked (task_of c.args.words.now) (wanted_of c.in-Ok-Serve.serving) w _ _
     (tally (g.P.Ports.tapes c.args.ports.now) (g.P.Ports.links c.args.ports.now) (g.P.Ports.dice_faults c.args.ports.now))
     (tally (g.P.Ports.tapes c.serve.new.ports) (g.P.Ports.links c.serve.new.ports) (g.P.Ports.dice_faults c.serve.new.ports)) _ _ c.serve.result (search rules)
-    c.serve.ensures.served c.serve.ensures.cut (λ other fault. ap g.K.Sink.took (c.serve.ensures.silent other fault)) c.serve.ensures.given c.serve.ensures.accounts c.serve.ensures.usage.0 c.serve.ensures.usage.1 asked
+    c.serve.ensures.served c.serve.ensures.cut (λ other fault. ap g.K.Sink.took (c.serve.ensures.silent other fault)) c.serve.ensures.given
+    c.serve.ensures.accounts c.serve.ensures.usage.0 c.serve.ensures.usage.1 asked

@@ -8,12 +8,15 @@ pub returns-in-Err : goal.returns-in-Err
 returns-in-Err c = search (rules, pair_refused ArgMatches (map (λ word. word.now) c.args.words.now) c.in-Err.status c.requires (search rules))
 
 pub value-name-requires : goal.value-name-requires
-value-name-requires c = search (rules, name_there (map (λ word. word.now) c.args.words.now) (rows_of (found_of c.in-Ok.matches)) c.requires (search rules) (search rules))
+value-name-requires c = search
+    (rules, name_there (map (λ word. word.now) c.args.words.now) (rows_of (found_of c.in-Ok.matches)) c.requires (search rules) (search rules))
 
 pub value-salt-requires : goal.value-salt-requires
-value-salt-requires c = search (rules, salt_there (map (λ word. word.now) c.args.words.now) (rows_of (found_of c.in-Ok.matches)) c.requires (search rules) (search rules))
+value-salt-requires c = search
+    (rules, salt_there (map (λ word. word.now) c.args.words.now) (rows_of (found_of c.in-Ok.matches)) c.requires (search rules) (search rules))
 
 pub returns : goal.returns
 returns c =
-    pair_read (map (λ word. word.now) c.args.words.now) (rows_of (found_of c.in-Ok.matches)) c.value-name.result.now c.value-salt.result.now c.requires (search rules) (search rules)
+    pair_read (map (λ word. word.now) c.args.words.now) (rows_of (found_of c.in-Ok.matches)) c.value-name.result.now c.value-salt.result.now c.requires
+    (search rules) (search rules)
     (search rules) (search rules)

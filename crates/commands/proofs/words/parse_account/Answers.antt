@@ -8,9 +8,11 @@ use Rattle.commands.proofs.words.parse_account.Goals as goal
 pub returns-clause-matches : goal.returns-clause-matches
 returns-clause-matches c =
     let is = c.in_ok-account_grammar.ensures in
-    IfOk-weaker c.parse.result _ _ (λ m has. (has (ap is_simple is ∙ account_simple)).0 ∙ ap (λ (a : App). matches_of a (map (λ word. word.now) c.args.words.now)) is) c.parse.ensures.matches
+    IfOk-weaker c.parse.result _ _ (λ m has. (has (ap is_simple is ∙ account_simple)).0
+    ∙ ap (λ (a : App). matches_of a (map (λ word. word.now) c.args.words.now)) is) c.parse.ensures.matches
 
 pub returns-clause-fault : goal.returns-clause-fault
 returns-clause-fault c =
     let is = c.in_ok-account_grammar.ensures in
-    subst (λ (a : App). Parses (fault_of a (map (λ word. word.now) c.args.words.now)) c.parse.result) is (c.parse.ensures.fault (ap is_simple_and_free is ∙ account_free))
+    subst (λ (a : App). Parses (fault_of a (map (λ word. word.now) c.args.words.now)) c.parse.result) is
+    (c.parse.ensures.fault (ap is_simple_and_free is ∙ account_free))

@@ -7,4 +7,5 @@ use Rattle.commands.proofs.words.parse_replay.Goals as goal
 pub returns : goal.returns
 returns c =
     let is = c.bare.ensures in
-    subst (λ (a : App). Parses (fault_of a (map (λ word. word.now) c.args.words.now)) c.parse.result) is (c.parse.ensures.fault (ap is_simple_and_free is ∙ replay_free))
+    subst (λ (a : App). Parses (fault_of a (map (λ word. word.now) c.args.words.now)) c.parse.result) is
+    (c.parse.ensures.fault (ap is_simple_and_free is ∙ replay_free))

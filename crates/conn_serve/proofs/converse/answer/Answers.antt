@@ -8,13 +8,15 @@ use Rattle.conn_serve.proofs.converse.answer.Goals as goal
 pub submit-requires-clause-line : goal.submit-requires-clause-line
 submit-requires-clause-line g c =
     let w = rw c.in-Ok-Submit.field-0-is at c.in-Ok-Submit.ensures.wants in
-    let h = handled c.requires.stands.site c.requires.stands.place _ _ _ (Submit c.in-Ok-Submit.event) _ c.requires.stands.at c.requires.stands.accounts_are w in
+    let h = handled c.requires.stands.site c.requires.stands.place _ _ _ (Submit c.in-Ok-Submit.event) _ c.requires.stands.at c.requires.stands.accounts_are w
+    in
     (fits c.requires.stands.site h.to c.in-Ok-Submit.event h.served h.wishes).1 ∙ c.requires.stands.line_is
 
 pub submit-requires-clause-meets : goal.submit-requires-clause-meets
 submit-requires-clause-meets g c =
     let w = rw c.in-Ok-Submit.field-0-is at c.in-Ok-Submit.ensures.wants in
-    let h = handled c.requires.stands.site c.requires.stands.place _ _ _ (Submit c.in-Ok-Submit.event) _ c.requires.stands.at c.requires.stands.accounts_are w in
+    let h = handled c.requires.stands.site c.requires.stands.place _ _ _ (Submit c.in-Ok-Submit.event) _ c.requires.stands.at c.requires.stands.accounts_are w
+    in
     (fits c.requires.stands.site h.to c.in-Ok-Submit.event h.served h.wishes).0
 
 pub returns-in-Ok-Say-clause-turned : goal.returns-in-Ok-Say-clause-turned

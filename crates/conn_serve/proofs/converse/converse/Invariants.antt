@@ -18,7 +18,8 @@ invariant-loop g l = record {
   room : 524288 ≤ vec_capacity l.frame;
   stands : IsStanding (g.D.Desk.line l.pass) l.accounts l.flow l.ears;
   came : (o : Site) (p : Place) → o.line ≡ g.D.Desk.line l.fn.pass → o.accounts ≡ l.accounts → IsAt o p l.fn.flow l.fn.ears
-      → Came o (tale (g.L.Link.tape l.fn.link) (turns_of (g.D.Desk.line l.fn.pass) (g.D.Desk.seen l.fn.pass)) (g.C.Clock.told l.fn.clock) (g.I.Dice.drawn l.fn.dice)
+      → Came o (tale (g.L.Link.tape l.fn.link) (turns_of (g.D.Desk.line l.fn.pass) (g.D.Desk.seen l.fn.pass)) (g.C.Clock.told l.fn.clock)
+      (g.I.Dice.drawn l.fn.dice)
       (g.L.Link.faults l.fn.link) (g.L.Link.ends l.fn.link) (g.I.Dice.faults l.fn.dice)) (duty o p)
       (tale (g.L.Link.tape l.link) (turns_of (g.D.Desk.line l.fn.pass) (g.D.Desk.seen l.pass)) (g.C.Clock.told l.clock) (g.I.Dice.drawn l.dice)
       (g.L.Link.faults l.link) (g.L.Link.ends l.link) (g.I.Dice.faults l.dice)) l.flow l.ears;

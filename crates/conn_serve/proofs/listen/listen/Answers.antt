@@ -9,7 +9,8 @@ returns-then-not-is_empty-clause-turned g c = λ o p turns drawn dice at.
 pub returns-in-Bytes-clause-turned : goal.returns-in-Bytes-clause-turned
 returns-in-Bytes-clause-turned g c = λ o p turns drawn dice at.
     hears_bytes o p _ _ _ _ _ _ _ _ _ turns _ _ drawn _ _ _ _ dice at c.requires (c.if-not-is_empty.ensures.none refl)
-    c.in-Bytes.ensures.told.0 c.hear-in-Bytes.ensures.heard c.in-Bytes.ensures.told.1 c.moment-moment.ensures.told c.in-Bytes.ensures.kept c.in-Bytes.ensures.ends_kept
+    c.in-Bytes.ensures.told.0 c.hear-in-Bytes.ensures.heard c.in-Bytes.ensures.told.1 c.moment-moment.ensures.told c.in-Bytes.ensures.kept
+    c.in-Bytes.ensures.ends_kept
 
 pub returns-in-Quiet-clause-turned : goal.returns-in-Quiet-clause-turned
 returns-in-Quiet-clause-turned g c = λ o p turns drawn dice at.

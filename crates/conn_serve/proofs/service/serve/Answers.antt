@@ -17,7 +17,8 @@ returns-in-Ok-clause-went g c =
     (opened (g.D.Desk.line c.args.pass.now) (g.D.Desk.opening c.args.desk.now).head.domain.domain c.args.accounts.now c.moment-opened.result c.in-Ok.field-0
     _ _ _ _ _ (g.I.Dice.drawn c.args.dice.now) _ _ _ _ (g.I.Dice.faults c.args.dice.now) c.in-Ok.ensures.served.3
     c.ring_stirred.ensures.tape c.ring_stirred.ensures.faults c.ring_stirred.ensures.ends)
-    (left _ _ _ (record (opening o c.moment-opened.result) { due = Id ∷ [] }) _ _ _ (began o (record (opening o c.moment-opened.result) { due = Id ∷ [] }) refl refl))))
+    (left _ _ _ (record (opening o c.moment-opened.result) { due = Id ∷ [] }) _ _ _
+    (began o (record (opening o c.moment-opened.result) { due = Id ∷ [] }) refl refl))))
 
 pub returns-in-Ok-clause-cause : goal.returns-in-Ok-clause-cause
 returns-in-Ok-clause-cause g c =
@@ -29,7 +30,8 @@ returns-in-Ok-clause-cause g c =
     (opened (g.D.Desk.line c.args.pass.now) (g.D.Desk.opening c.args.desk.now).head.domain.domain c.args.accounts.now c.moment-opened.result c.in-Ok.field-0
     _ _ _ _ _ (g.I.Dice.drawn c.args.dice.now) _ _ _ _ (g.I.Dice.faults c.args.dice.now) c.in-Ok.ensures.served.3
     c.ring_stirred.ensures.tape c.ring_stirred.ensures.faults c.ring_stirred.ensures.ends)
-    (left _ _ _ (record (opening o c.moment-opened.result) { due = Id ∷ [] }) _ _ _ (began o (record (opening o c.moment-opened.result) { due = Id ∷ [] }) refl refl)))
+    (left _ _ _ (record (opening o c.moment-opened.result) { due = Id ∷ [] }) _ _ _
+    (began o (record (opening o c.moment-opened.result) { due = Id ∷ [] }) refl refl)))
 
 pub returns-in-Ok-clause-safe : goal.returns-in-Ok-clause-safe
 returns-in-Ok-clause-safe g c =

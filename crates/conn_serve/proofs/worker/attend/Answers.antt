@@ -8,4 +8,5 @@ returns-in-Link-clause-attended g c =
     c.done.ensures.tapes c.in-Link.ensures.comes.1 c.done.ensures.links c.serve.ensures.mark c.serve.ensures.cause
 
 pub returns-in-Link-clause-within : goal.returns-in-Link-clause-within
-returns-in-Link-clause-within g c = λ w. within_more _ _ _ _ (c.done.ensures.quota ∙ c.in-Link.ensures.quota) (c.done.ensures.links ∙ c.in-Link.ensures.comes.1) c.in-Link.ensures.comes.0
+returns-in-Link-clause-within g c = λ w. within_more _ _ _ _ (c.done.ensures.quota ∙ c.in-Link.ensures.quota) (c.done.ensures.links
+    ∙ c.in-Link.ensures.comes.1) c.in-Link.ensures.comes.0

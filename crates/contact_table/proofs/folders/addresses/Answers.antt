@@ -19,6 +19,7 @@ loop-name-preserved c =
       made = λ domain own.
           let found = found_by c.as_slice.result.now name c.args.folders.now.entries c.in-Some.folder.now c.as_slice.ensures.value c.in-Some.ensures.value in
           let mine = subst (IsOwn domain name) found (own name) in
-          next_address (bare_of domain) names i c.name-item.result c.in_ok-copy-in-Some.field-0 c.loop-name.found.items c.push.new.self.items (map (bare_of domain) c.args.order.now.users)
+          next_address (bare_of domain) names i c.name-item.result c.in_ok-copy-in-Some.field-0 c.loop-name.found.items c.push.new.self.items
+          (map (bare_of domain) c.args.order.now.users)
           next c.in_ok-push-in-Some.ensures.items (c.in_ok-copy-in-Some.ensures ∙ mine.0) (c.loop-name.invariant.made domain own);
     }

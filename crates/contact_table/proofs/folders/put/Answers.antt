@@ -3,7 +3,8 @@ use Rattle.contact_table.proofs.EntryLemmas.{edited_here, room_here}
 use Rattle.contact_table.proofs.folders.put.Goals as goal
 
 pub put-requires : goal.put-requires
-put-requires c = room_here c.bytes.result.now c.args.user.now c.args.folders.now.entries c.in-Some.folder.now c.bytes.ensures.bytes c.in-Some.ensures.value c.requires
+put-requires c = room_here c.bytes.result.now c.args.user.now c.args.folders.now.entries c.in-Some.folder.now c.bytes.ensures.bytes c.in-Some.ensures.value
+    c.requires
 
 pub returns-in-Some : goal.returns-in-Some
 returns-in-Some c =

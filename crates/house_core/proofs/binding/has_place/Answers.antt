@@ -20,14 +20,16 @@ overflow_add-of_user c =
     let other : same_address x.address a ≡ false = sym (c.if-is_same.ensures.test ∙ ap (λ (b : Address). same_address b a) c.address.ensures) in
     let users : same_bare x.address a ≡ true = sym (c.if-is_same_bare.ensures.test ∙ ap (λ (b : Address). same_bare b a) c.address-in-loop-number.ensures) in
     let both : is_users_other a x ≡ true = (λ i. users i && not (other i)) in
-    let below = counted_below c.loop-number.of_user (is_users_other a) c.args.world.now.table (c.in-Some._number.now, x) c.loop-number._number-iterator c.next.new.self
+    let below = counted_below c.loop-number.of_user (is_users_other a) c.args.world.now.table (c.in-Some._number.now, x) c.loop-number._number-iterator
+    c.next.new.self
     c.session.ensures.rises c.loop-number.invariant.users c.in-Some.ensures.steps both in
     omega (arith, below, c.requires.small.made)
 
 pub returns-then-all-lt-MOST_SESSIONS-clause-place : goal.returns-then-all-lt-MOST_SESSIONS-clause-place
 returns-then-all-lt-MOST_SESSIONS-clause-place c = λ k world.
     sym (
-    place_counted k c.args.address.now c.args.world.now.table c.args.world.now.answers.items c.args.world.now.book.book c.loop-number.all c.loop-number.of_user c.loop-number._number-iterator
+    place_counted k c.args.address.now c.args.world.now.table c.args.world.now.answers.items c.args.world.now.book.book c.loop-number.all c.loop-number.of_user
+    c.loop-number._number-iterator
     c.requires.tied c.session.ensures.rises world c.in-None.ensures.steps.0 c.loop-number.invariant.all c.loop-number.invariant.users
     ∙ ap (λ (b : Bool). b && nat_lt c.loop-number.of_user 16) (lt-ltb c.loop-number.all 512 c.if-all-lt-MOST_SESSIONS.true)
     )
@@ -36,7 +38,8 @@ pub returns-else-all-lt-MOST_SESSIONS-clause-place : goal.returns-else-all-lt-MO
 returns-else-all-lt-MOST_SESSIONS-clause-place c = λ k world.
     le-ltb c.loop-number.all 512 c.if-all-lt-MOST_SESSIONS.false
     ∙ sym (
-    place_counted k c.args.address.now c.args.world.now.table c.args.world.now.answers.items c.args.world.now.book.book c.loop-number.all c.loop-number.of_user c.loop-number._number-iterator
+    place_counted k c.args.address.now c.args.world.now.table c.args.world.now.answers.items c.args.world.now.book.book c.loop-number.all c.loop-number.of_user
+    c.loop-number._number-iterator
     c.requires.tied c.session.ensures.rises world c.in-None.ensures.steps.0 c.loop-number.invariant.all c.loop-number.invariant.users
     ∙ ap (λ (b : Bool). b && nat_lt c.loop-number.of_user 16) (le-ltb c.loop-number.all 512 c.if-all-lt-MOST_SESSIONS.false)
     )

@@ -10,4 +10,5 @@ returns-in-Stop c = λ k world now.
 pub returns-in-Holds : goal.returns-in-Holds
 returns-in-Holds c = λ k world now.
     let passes = c.in-Holds.ensures.passes k world now in
-    ask_ends k (gate k (Ask c.args.w)) c.args.w c.in-Holds.conn c.in-Holds.session c.args.world.now c.check.new.world c.tell.new.world world passes.0 passes.1 c.tell.ensures
+    ask_ends k (gate k (Ask c.args.w)) c.args.w c.in-Holds.conn c.in-Holds.session c.args.world.now c.check.new.world c.tell.new.world world passes.0 passes.1
+    c.tell.ensures

@@ -15,7 +15,8 @@ pub returns-in-Holds : goal.returns-in-Holds
 returns-in-Holds c = λ k world now.
     let e = Enable c.args.w c.args.resume c.args.dice in
     let passes = c.in-Holds.ensures.passes k world now in
-    enable_ends k (gate k e) c.args.w c.in-Holds.conn c.in-Holds.session c.args.resume c.args.dice c.args.world.now c.check.new.world c.start.new.world world passes.0 passes.1 c.start.ensures
+    enable_ends k (gate k e) c.args.w c.in-Holds.conn c.in-Holds.session c.args.resume c.args.dice c.args.world.now c.check.new.world c.start.new.world world
+    passes.0 passes.1 c.start.ensures
 
 pub returns-in-Knows : goal.returns-in-Knows
 returns-in-Knows c = λ k world now.

@@ -13,4 +13,5 @@ pub returns-in-Waits : goal.returns-in-Waits
 returns-in-Waits c = λ k world now users.
     let e = Login c.args.w c.args.user.now in
     let passes = c.in-Waits.ensures.passes k world now in
-    waits_enters k c.args.w c.args.users.now c.args.user.now (gate k e) c.log_among.result c.args.world.now c.check.new.world c.log_among.new.world users passes.0 passes.1 c.log_among.ensures
+    waits_enters k c.args.w c.args.users.now c.args.user.now (gate k e) c.log_among.result c.args.world.now c.check.new.world c.log_among.new.world users
+    passes.0 passes.1 c.log_among.ensures

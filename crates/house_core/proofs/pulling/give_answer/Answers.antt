@@ -11,5 +11,6 @@ returns-clause-given c =
     let a = c.args.world.now in
     let xs = c.index_mut.result.now in
     let at = c.index_mut.ensures.value ∙ read_there a.answers.items c.args.w xs [] c.requires.line in
-    subst (λ (ys : List Answer). GaveAt c.args.w ys a (record a { answers = with_item a.answers c.args.w c.give.new.self }) c.give.result c.args.out.now.items c.give.new.out.items) at
+    subst (λ (ys : List Answer). GaveAt c.args.w ys a (record a { answers = with_item a.answers c.args.w c.give.new.self }) c.give.result c.args.out.now.items
+    c.give.new.out.items) at
     (gave_at c.args.w a xs c.give.new.self c.give.result c.args.out.now.items c.give.new.out.items c.requires.tied c.requires.line at c.give.ensures.given)

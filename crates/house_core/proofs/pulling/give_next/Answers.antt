@@ -6,7 +6,8 @@ use Rattle.house_core.proofs.pulling.give_next.Goals as goal
 pub push_request-requires : goal.push_request-requires
 push_request-requires c =
     let x = held_there c.args.s c.args.world.now.table c.requires.held in
-    let none = none_framed (slice_get x.0.queue.waiting x.0.queue.given) c.args.out.now.items c.push_next.new.out.items (c.if-push_next.ensures.frame x.0 x.1) in
+    let none = none_framed (slice_get x.0.queue.waiting x.0.queue.given) c.args.out.now.items c.push_next.new.out.items (c.if-push_next.ensures.frame x.0 x.1)
+    in
     let same = ap length none.1 in
     omega (arith, same, c.push_next.new.out.ok.0, c.args.out.now.ok.0, c.requires.room, c.if-push_next.ensures.capacity)
 

@@ -14,21 +14,24 @@ pub returns-in-Holds-clause-gives : goal.returns-in-Holds-clause-gives
 returns-in-Holds-clause-gives c = λ k t world now.
     let e = Pull c.args.w t in
     let passes = c.in-Holds.ensures.passes k world now in
-    holds_gives k c.args.w t (gate k e) c.give.result c.args.world.now c.check.new.world c.give.new.world c.args.out.now.items c.give.new.out.items world passes.1
+    holds_gives k c.args.w t (gate k e) c.give.result c.args.world.now c.check.new.world c.give.new.world c.args.out.now.items c.give.new.out.items world
+    passes.1
     c.in-Holds.conn c.in-Holds.session passes.0 (c.give.ensures.gives k (world ∙ ap seen (sym passes.1)) now)
 
 pub returns-in-Knows-clause-gives : goal.returns-in-Knows-clause-gives
 returns-in-Knows-clause-gives c = λ k t world now.
     let e = Pull c.args.w t in
     let passes = c.in-Knows.ensures.passes k world now in
-    knows_gives k c.args.w t (gate k e) c.give-in-Knows.result c.args.world.now c.check.new.world c.give-in-Knows.new.world c.args.out.now.items c.give-in-Knows.new.out.items world passes.1
+    knows_gives k c.args.w t (gate k e) c.give-in-Knows.result c.args.world.now c.check.new.world c.give-in-Knows.new.world c.args.out.now.items
+    c.give-in-Knows.new.out.items world passes.1
     c.in-Knows.conn c.in-Knows.user passes.0 (c.give-in-Knows.ensures.gives k (world ∙ ap seen (sym passes.1)) now)
 
 pub returns-in-Waits-clause-gives : goal.returns-in-Waits-clause-gives
 returns-in-Waits-clause-gives c = λ k t world now.
     let e = Pull c.args.w t in
     let passes = c.in-Waits.ensures.passes k world now in
-    waits_gives k c.args.w t (gate k e) c.give-in-Waits.result c.args.world.now c.check.new.world c.give-in-Waits.new.world c.args.out.now.items c.give-in-Waits.new.out.items world passes.1
+    waits_gives k c.args.w t (gate k e) c.give-in-Waits.result c.args.world.now c.check.new.world c.give-in-Waits.new.world c.args.out.now.items
+    c.give-in-Waits.new.out.items world passes.1
     passes.0 (c.give-in-Waits.ensures.gives k (world ∙ ap seen (sym passes.1)) now)
 
 pub give-requires-clause-small : goal.give-requires-clause-small

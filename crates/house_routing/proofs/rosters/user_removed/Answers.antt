@@ -12,5 +12,6 @@ returns c = λ users.
     subst (λ (a : Option Address). IfOk c.user_at.result (λ user. user ≡ option_and_then (local_user domain) a))
     (c.as_ref.ensures.value
     ∙ (c.in_ok-address.ensures
-    ∙ ap (λ (d : List ℕ). removed_by (bare_of domain c.args.own.now) (contacts_of d c.args.world.now.book.book c.args.own.now) c.args.stanza.now) c.requires.domain))
+    ∙ ap (λ (d : List ℕ). removed_by (bare_of domain c.args.own.now) (contacts_of d c.args.world.now.book.book c.args.own.now) c.args.stanza.now)
+    c.requires.domain))
     c.user_at.ensures

@@ -18,5 +18,6 @@ returns-clause-fits c =
     search (
       rules,
       subst (λ (e : Element). StanzaFits (Message (Some c.in_ok-to.to) Headline e)) (sym same)
-          (notice_fits c.args.address.now c.args.words.now c.in_ok-to.to token xml some c.in_ok-to.ensures.ok (subst (λ (e : Element). length (text e) ≤ 196608) same small)),
+          (notice_fits c.args.address.now c.args.words.now c.in_ok-to.to token xml some c.in_ok-to.ensures.ok
+          (subst (λ (e : Element). length (text e) ≤ 196608) same small)),
     )

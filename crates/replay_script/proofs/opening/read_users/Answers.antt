@@ -5,7 +5,8 @@ use Rattle.replay_script.proofs.opening.read_users.Goals as goal
 
 pub returns-in-None-clause-read : goal.returns-in-None-clause-read
 returns-in-None-clause-read c =
-    users_end c.args.field.now c.loop-count.rest.now c.loop-count.users.items c.in_ok-user.user c.loop-count.invariant.parts (search rules) c.loop-count.invariant.users
+    users_end c.args.field.now c.loop-count.rest.now c.loop-count.users.items c.in_ok-user.user c.loop-count.invariant.parts (search rules)
+    c.loop-count.invariant.users
     c.loop-count.invariant.differ (search rules) (search rules)
     ∙ ap Some (search rules)
 
@@ -16,7 +17,8 @@ returns-in-None-clause-differ c =
 
 pub loop-count-preserved : goal.loop-count-preserved
 loop-count-preserved c =
-    let step = users_step c.args.field.now c.loop-count.rest.now c.in-Some.more.now c.loop-count.users.items c.in_ok-user.user c.loop-count.invariant.parts c.loop-count.invariant.users
+    let step = users_step c.args.field.now c.loop-count.rest.now c.in-Some.more.now c.loop-count.users.items c.in_ok-user.user c.loop-count.invariant.parts
+    c.loop-count.invariant.users
     c.loop-count.invariant.differ (search rules) (search rules) in
     record {
       parts = search (rules, step.0);

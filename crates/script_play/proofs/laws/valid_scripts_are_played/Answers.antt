@@ -6,4 +6,5 @@ use Rattle.script_play.proofs.laws.valid_scripts_are_played.Goals as goal
 
 pub returns-clause-ends : goal.returns-clause-ends
 returns-clause-ends c =
-    ends_played c.args.source.now (Some c.replay.new.source) None None c.replay.result c.requires.valid c.replay.ensures.replayed (λ is. never (c.replay.ensures.read is)) (λ is. never (c.replay.ensures.written is))
+    ends_played c.args.source.now (Some c.replay.new.source) None None c.replay.result c.requires.valid c.replay.ensures.replayed
+    (λ is. never (c.replay.ensures.read is)) (λ is. never (c.replay.ensures.written is))

@@ -10,26 +10,33 @@ returns-in_err-take-clause-opens g c = λ took.
     search (
       rules,
       first-taking (g.S.Source.left c.args.source.now) (g.S.Source.left c.take.new.source) took c.in_err-take.field-0.0
-          (fresh-stopping (g.S.Source.left c.args.source.now) c.args.reader.now.held c.args.reader.now.given c.in_err-take.field-0.0 c.requires.held c.requires.given (search rules)),
+          (fresh-stopping (g.S.Source.left c.args.source.now) c.args.reader.now.held c.args.reader.now.given c.in_err-take.field-0.0 c.requires.held
+          c.requires.given (search rules)),
     )
 
 pub returns-then-not-branch-clause-opens : goal.returns-then-not-branch-clause-opens
 returns-then-not-branch-clause-opens g c = λ took.
     first-done (g.S.Source.left c.args.source.now) (g.S.Source.left c.take.new.source) took c.take.new.reader.held
-    (fresh-ends (g.S.Source.left c.args.source.now) (unread c.take.new.reader.held (g.S.Source.left c.take.new.source)) c.args.reader.now.held c.requires.held (search rules))
+    (fresh-ends (g.S.Source.left c.args.source.now) (unread c.take.new.reader.held (g.S.Source.left c.take.new.source)) c.args.reader.now.held c.requires.held
+    (search rules))
 
 pub returns-in-Ok-clause-opens : goal.returns-in-Ok-clause-opens
 returns-in-Ok-clause-opens g c = λ took.
-    let line = fresh-line (g.S.Source.left c.args.source.now) (unread c.take.new.reader.held (g.S.Source.left c.take.new.source)) c.args.reader.now.held c.args.reader.now.given
+    let line = fresh-line (g.S.Source.left c.args.source.now) (unread c.take.new.reader.held (g.S.Source.left c.take.new.source)) c.args.reader.now.held
+    c.args.reader.now.given
     c.take.new.reader.given c.take.new.line.items c.requires.held c.requires.given (search rules) in
-    first-going (g.S.Source.left c.args.source.now) (unread c.take.new.reader.held (g.S.Source.left c.take.new.source)) took c.take.new.reader.given c.take.new.line.items (held c.in-Ok.house)
-    c.in-Ok.ensures.opens.0 line (subst (λ text. Makes text c.in-Ok.ensures.opens.0) c.as_slice.ensures.value c.in-Ok.ensures.opens.1.0) c.in-Ok.ensures.opens.1.1
+    first-going (g.S.Source.left c.args.source.now) (unread c.take.new.reader.held (g.S.Source.left c.take.new.source)) took c.take.new.reader.given
+    c.take.new.line.items (held c.in-Ok.house)
+    c.in-Ok.ensures.opens.0 line (subst (λ text. Makes text c.in-Ok.ensures.opens.0) c.as_slice.ensures.value c.in-Ok.ensures.opens.1.0)
+    c.in-Ok.ensures.opens.1.1
 
 pub returns-in-Err-Bad-clause-opens : goal.returns-in-Err-Bad-clause-opens
 returns-in-Err-Bad-clause-opens g c = λ took.
-    let line = fresh-line (g.S.Source.left c.args.source.now) (unread c.take.new.reader.held (g.S.Source.left c.take.new.source)) c.args.reader.now.held c.args.reader.now.given
+    let line = fresh-line (g.S.Source.left c.args.source.now) (unread c.take.new.reader.held (g.S.Source.left c.take.new.source)) c.args.reader.now.held
+    c.args.reader.now.given
     c.take.new.reader.given c.take.new.line.items c.requires.held c.requires.given (search rules) in
-    first-bad (g.S.Source.left c.args.source.now) (unread c.take.new.reader.held (g.S.Source.left c.take.new.source)) (g.S.Source.left c.take.new.source) took c.take.new.reader.given
+    first-bad (g.S.Source.left c.args.source.now) (unread c.take.new.reader.held (g.S.Source.left c.take.new.source)) (g.S.Source.left c.take.new.source) took
+    c.take.new.reader.given
     c.take.new.line.items line
     (λ o makes. c.in-Err-Bad.ensures.bad (search rules) o (subst (λ text. Makes text o) (sym c.as_slice.ensures.value) makes))
 

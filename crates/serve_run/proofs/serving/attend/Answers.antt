@@ -10,15 +10,18 @@ pub returns-in-Ok-clause-served : goal.returns-in-Ok-clause-served
 returns-in-Ok-clause-served g c =
     when_shut c.in-Ok.house c.in-Ok.worked c.unless_failed.result
     (λ w h. (o : State) → StandsFor o [] (held c.args.house) → Staffed o c.args.accounts.now
-    (map (λ p. telling (g.G.Door.tapes p.door) (g.C.Clock.told p.clock) (g.I.Dice.drawn p.dice) (g.G.Door.links p.door) (g.G.Door.faults p.door) (g.G.Door.quota p.door) (g.I.Dice.faults p.dice)) c.args.posts.items)
-    (map (λ p. telling (g.G.Door.tapes p.door) (g.C.Clock.told p.clock) (g.I.Dice.drawn p.dice) (g.G.Door.links p.door) (g.G.Door.faults p.door) (g.G.Door.quota p.door) (g.I.Dice.faults p.dice)) c.serve_posts-back.result.0.items)
+    (map (λ p. telling (g.G.Door.tapes p.door) (g.C.Clock.told p.clock) (g.I.Dice.drawn p.dice) (g.G.Door.links p.door) (g.G.Door.faults p.door)
+    (g.G.Door.quota p.door) (g.I.Dice.faults p.dice)) c.args.posts.items)
+    (map (λ p. telling (g.G.Door.tapes p.door) (g.C.Clock.told p.clock) (g.I.Dice.drawn p.dice) (g.G.Door.links p.door) (g.G.Door.faults p.door)
+    (g.G.Door.quota p.door) (g.I.Dice.faults p.dice)) c.serve_posts-back.result.0.items)
     w (held h))
     c.unless_failed.ensures.shut (rw c.in-Ok.is at c.serve_posts-back.ensures.staffed)
 
 pub returns-in-Ok-clause-many : goal.returns-in-Ok-clause-many
 returns-in-Ok-clause-many g c =
     let staffed = rw c.in-Ok.is at c.serve_posts-back.ensures.staffed in
-    many_back _ (λ p. telling (g.G.Door.tapes p.door) (g.C.Clock.told p.clock) (g.I.Dice.drawn p.dice) (g.G.Door.links p.door) (g.G.Door.faults p.door) (g.G.Door.quota p.door) (g.I.Dice.faults p.dice))
+    many_back _ (λ p. telling (g.G.Door.tapes p.door) (g.C.Clock.told p.clock) (g.I.Dice.drawn p.dice) (g.G.Door.links p.door) (g.G.Door.faults p.door)
+    (g.G.Door.quota p.door) (g.I.Dice.faults p.dice))
     c.requires.new.0 c.args.accounts.now c.args.posts.items c.serve_posts-back.result.0.items c.in-Ok.worked _ (staffed c.requires.new.0 c.requires.new.1)
 
 pub returns-in-Ok-clause-refused : goal.returns-in-Ok-clause-refused

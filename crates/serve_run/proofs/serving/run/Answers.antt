@@ -9,10 +9,12 @@ returns-clause-served g c =
     let served = rw c.as_slice.ensures.value at c.in_ok-house.ensures.served in
     printed c.print_report.result _ _ c.args.serving.now.domain c.args.serving.now.workers c.args.serving.now.connections c.in_ok-list.list.items
     (tally (g.P.Ports.tapes c.args.ports.now) (g.P.Ports.links c.args.ports.now) (g.P.Ports.dice_faults c.args.ports.now))
-    (tally (g.P.Ports.tapes c.serve_ports.new.ports) (g.P.Ports.links c.serve_ports.new.ports) (g.P.Ports.dice_faults c.serve_ports.new.ports)) _ _ _ c.in_ok-list.ensures.read
+    (tally (g.P.Ports.tapes c.serve_ports.new.ports) (g.P.Ports.links c.serve_ports.new.ports) (g.P.Ports.dice_faults c.serve_ports.new.ports)) _ _ _
+    c.in_ok-list.ensures.read
     (run_served c.args.serving.now.domain c.args.serving.now.workers c.args.serving.now.connections c.requires.some c.in_ok-list.list.items
     (tally (g.P.Ports.tapes c.args.ports.now) (g.P.Ports.links c.args.ports.now) (g.P.Ports.dice_faults c.args.ports.now))
-    (tally (g.P.Ports.tapes c.serve_ports.new.ports) (g.P.Ports.links c.serve_ports.new.ports) (g.P.Ports.dice_faults c.serve_ports.new.ports)) c.in_ok-house.house served c.print_report.ensures.numbers)
+    (tally (g.P.Ports.tapes c.serve_ports.new.ports) (g.P.Ports.links c.serve_ports.new.ports) (g.P.Ports.dice_faults c.serve_ports.new.ports))
+    c.in_ok-house.house served c.print_report.ensures.numbers)
     c.print_report.ensures.written
 
 pub returns-clause-cut : goal.returns-clause-cut
@@ -20,10 +22,12 @@ returns-clause-cut g c =
     let served = rw c.as_slice.ensures.value at c.in_ok-house.ensures.served in
     printed_front c.print_report.result _ _ c.args.serving.now.domain c.args.serving.now.workers c.args.serving.now.connections c.in_ok-list.list.items
     (tally (g.P.Ports.tapes c.args.ports.now) (g.P.Ports.links c.args.ports.now) (g.P.Ports.dice_faults c.args.ports.now))
-    (tally (g.P.Ports.tapes c.serve_ports.new.ports) (g.P.Ports.links c.serve_ports.new.ports) (g.P.Ports.dice_faults c.serve_ports.new.ports)) _ _ _ c.in_ok-list.ensures.read
+    (tally (g.P.Ports.tapes c.serve_ports.new.ports) (g.P.Ports.links c.serve_ports.new.ports) (g.P.Ports.dice_faults c.serve_ports.new.ports)) _ _ _
+    c.in_ok-list.ensures.read
     (run_served c.args.serving.now.domain c.args.serving.now.workers c.args.serving.now.connections c.requires.some c.in_ok-list.list.items
     (tally (g.P.Ports.tapes c.args.ports.now) (g.P.Ports.links c.args.ports.now) (g.P.Ports.dice_faults c.args.ports.now))
-    (tally (g.P.Ports.tapes c.serve_ports.new.ports) (g.P.Ports.links c.serve_ports.new.ports) (g.P.Ports.dice_faults c.serve_ports.new.ports)) c.in_ok-house.house served c.print_report.ensures.numbers)
+    (tally (g.P.Ports.tapes c.serve_ports.new.ports) (g.P.Ports.links c.serve_ports.new.ports) (g.P.Ports.dice_faults c.serve_ports.new.ports))
+    c.in_ok-house.house served c.print_report.ensures.numbers)
     c.print_report.ensures.cut
 
 pub returns-clause-silent : goal.returns-clause-silent
@@ -34,7 +38,8 @@ returns-clause-given g c =
     let served = rw c.as_slice.ensures.value at c.in_ok-house.ensures.served in
     given_printed c.print_report.result c.args.serving.now.domain c.args.serving.now.workers c.args.serving.now.connections c.in_ok-list.list.items
     (tally (g.P.Ports.tapes c.args.ports.now) (g.P.Ports.links c.args.ports.now) (g.P.Ports.dice_faults c.args.ports.now))
-    (tally (g.P.Ports.tapes c.serve_ports.new.ports) (g.P.Ports.links c.serve_ports.new.ports) (g.P.Ports.dice_faults c.serve_ports.new.ports)) c.in_ok-house.house served
+    (tally (g.P.Ports.tapes c.serve_ports.new.ports) (g.P.Ports.links c.serve_ports.new.ports) (g.P.Ports.dice_faults c.serve_ports.new.ports))
+    c.in_ok-house.house served
 
 pub returns-clause-accounts : goal.returns-clause-accounts
 returns-clause-accounts g c =

@@ -7,7 +7,8 @@ use Rattle.stanza_tree.proofs.frame.append_value.Goals as goal
 pub loop-i-preserved-then-is_plain_in_value : goal.loop-i-preserved-then-is_plain_in_value
 loop-i-preserved-then-is_plain_in_value c =
     let plain = c.is_plain_in_value.ensures.0 c.if-is_plain_in_value.true in
-    let next = ap length (spelt_next escaped_in_value c.args.bytes.now c.loop-i.i c.loop-i-test.true ∙ ap (λ s. s ++ value_text (drop (c.loop-i.i + 1) c.args.bytes.now)) plain) in
+    let next = ap length (spelt_next escaped_in_value c.args.bytes.now c.loop-i.i c.loop-i-test.true
+    ∙ ap (λ s. s ++ value_text (drop (c.loop-i.i + 1) c.args.bytes.now)) plain) in
     record {
       within = omega arith;
       room = omega (arith, next, c.loop-i.invariant.room, c.loop-i.invariant.within);

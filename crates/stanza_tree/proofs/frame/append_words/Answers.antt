@@ -7,7 +7,8 @@ use Rattle.stanza_tree.proofs.frame.append_words.Goals as goal
 pub loop-i-preserved-then-is_plain_in_words : goal.loop-i-preserved-then-is_plain_in_words
 loop-i-preserved-then-is_plain_in_words c =
     let plain = c.is_plain_in_words.ensures.0 c.if-is_plain_in_words.true in
-    let next = ap length (spelt_next escaped_in_words c.args.bytes.now c.loop-i.i c.loop-i-test.true ∙ ap (λ s. s ++ words_text (drop (c.loop-i.i + 1) c.args.bytes.now)) plain) in
+    let next = ap length (spelt_next escaped_in_words c.args.bytes.now c.loop-i.i c.loop-i-test.true
+    ∙ ap (λ s. s ++ words_text (drop (c.loop-i.i + 1) c.args.bytes.now)) plain) in
     record {
       within = omega arith;
       room = omega (arith, next, c.loop-i.invariant.room, c.loop-i.invariant.within);

@@ -25,15 +25,30 @@ loop-node-preserved t c =
     elim c.match-node.branch [
       | in-Child w ↦
           let first = text_under space w.in-Child.child in
-          let parts = ap (λ is. length (texts_under space is)) here ∙ ap length (texts-child space c.node-item.result ns w.in-Child.child (ap out-Node w.in-Child.is ∙ outs-Child w.in-Child.child)) ∙ length-append first (texts_under space ns) in
+          let parts = ap (λ is. length (texts_under space is)) here
+          ∙ ap length (texts-child space c.node-item.result ns w.in-Child.child (ap out-Node w.in-Child.is ∙ outs-Child w.in-Child.child))
+          ∙ length-append first (texts_under space ns) in
           let more = w.element_length-more.ensures ∙ ap (λ b. min (length (text_under b w.in-Child.child)) c.args.most) w.bytes.ensures.bytes in
-          let sum = counted-more c.loop-node.content w.element_length-more.result (length first) rest whole c.args.most c.ranges.most.fits more (omega (arith, parts, c.loop-node.invariant.whole)) in
-          record { same = c.loop-node.invariant.same; fits = c.saturating_add-content.type_inv; whole = omega (arith, sum, c.saturating_add-content.ensures, w.more-is) }
+          let sum = counted-more c.loop-node.content w.element_length-more.result (length first) rest whole c.args.most c.ranges.most.fits more
+          (omega (arith, parts, c.loop-node.invariant.whole)) in
+          record {
+            same = c.loop-node.invariant.same;
+            fits = c.saturating_add-content.type_inv;
+            whole =
+                omega (arith, sum, c.saturating_add-content.ensures, w.more-is);
+          }
       | in-Words w ↦
           let first = words_text w.in-Words.words in
-          let parts = ap (λ is. length (texts_under space is)) here ∙ ap length (texts-words space c.node-item.result ns w.in-Words.words (ap out-Node w.in-Words.is ∙ outs-Words w.in-Words.words)) ∙ length-append first (texts_under space ns) in
+          let parts = ap (λ is. length (texts_under space is)) here
+          ∙ ap length (texts-words space c.node-item.result ns w.in-Words.words (ap out-Node w.in-Words.is ∙ outs-Words w.in-Words.words))
+          ∙ length-append first (texts_under space ns) in
           let more = w.words_length-more.ensures ∙ ap (λ b. min (length (words_text b)) (2 ^ 64 - 1)) w.bytes-in-Words.ensures.bytes in
-          record { same = c.loop-node.invariant.same; fits = c.saturating_add-content.type_inv; whole = omega (arith, parts, more, c.loop-node.invariant.whole, c.saturating_add-content.ensures, w.more-is) }
+          record {
+            same = c.loop-node.invariant.same;
+            fits = c.saturating_add-content.type_inv;
+            whole =
+                omega (arith, parts, more, c.loop-node.invariant.whole, c.saturating_add-content.ensures, w.more-is);
+          }
     ]
 
 pub returns : goal.returns

@@ -6,5 +6,6 @@ abbrev pub invariant-loop-node : goal.invariant-loop-node
 invariant-loop-node l = record {
   same : l.node-items ≡ l.element.children;
   fits : l.content < 2 ^ 64;
-  whole : min (l.content + length (texts_under l.element.name.space (drop l.node-index l.node-items))) l.most ≡ min (length (texts_under l.element.name.space l.node-items)) l.most;
+  whole : min (l.content + length (texts_under l.element.name.space (drop l.node-index l.node-items))) l.most
+      ≡ min (length (texts_under l.element.name.space l.node-items)) l.most;
 }

@@ -22,7 +22,9 @@ loop-node-preserved t c =
           let parts = ap (texts_under space) here ∙ texts-child space c.node-item.result ns w.in-Child.child child in
           record {
             kept = grind (arith, common_steps);
-            utf8 = λ u. c.loop-node.invariant.utf8 (subst (λ is. IsUtf8 (texts_under space is)) (sym here) (child-utf8 space c.node-item.result ns w.in-Child.child child w.in_ok-push_element-in-Child.ensures.utf8 u));
+            utf8 = λ u. c.loop-node.invariant.utf8
+                (subst (λ is. IsUtf8 (texts_under space is)) (sym here)
+                (child-utf8 space c.node-item.result ns w.in-Child.child child w.in_ok-push_element-in-Child.ensures.utf8 u));
             joined = grind (arith, common_steps, parts);
           }
       | in-Words+in_ok-push_words-in-Words w ↦
@@ -30,7 +32,8 @@ loop-node-preserved t c =
           let parts = ap (texts_under space) here ∙ texts-words space c.node-item.result ns w.in-Words.words words in
           record {
             kept = grind (arith, common_steps);
-            utf8 = λ u. c.loop-node.invariant.utf8 (subst (λ is. IsUtf8 (texts_under space is)) (sym here) (words-utf8 space c.node-item.result ns w.in-Words.words words w.bytes.ensures.utf8 u));
+            utf8 = λ u. c.loop-node.invariant.utf8
+                (subst (λ is. IsUtf8 (texts_under space is)) (sym here) (words-utf8 space c.node-item.result ns w.in-Words.words words w.bytes.ensures.utf8 u));
             joined = grind (arith, common_steps, parts);
           }
     ]
@@ -41,23 +44,28 @@ returns-clause-ok t c =
     let content = texts_under c.bytes-space.result.now c.slice-children.result.now in
     let same : texts_under e.name.space e.children ≡ content = grind (arith, common_steps) in
     let some : nat_lt 0 (length content) ≡ true = grind (arith, common_steps, c.has_content.ensures c.bytes-space.result.now) in
-    let opens : c.extend_from_slice-2.new.self.items ≡ c.args.out.now.items ++ opened c.args.parent.now e.name e.attrs ++ codes ">" = grind (arith, common_steps) in
+    let opens : c.extend_from_slice-2.new.self.items ≡ c.args.out.now.items ++ opened c.args.parent.now e.name e.attrs ++ codes ">" =
+    grind (arith, common_steps) in
     let holds : c.loop-node.out.items ≡ c.extend_from_slice-2.new.self.items ++ content = grind (arith, common_steps) in
     let local : c.bytes-2.result.now ≡ e.name.local = grind (arith, common_steps) in
-    on_ok c.push_end_tag.result (element-whole c.args.parent.now e c.args.out.now.items c.push_end_tag.new.out.items _ _ content _ same some local opens holds) c.push_end_tag.ensures.ok
+    on_ok c.push_end_tag.result (element-whole c.args.parent.now e c.args.out.now.items c.push_end_tag.new.out.items _ _ content _ same some local opens holds)
+    c.push_end_tag.ensures.ok
 
 pub returns-then-not-has_content-clause-utf8 : goal.returns-then-not-has_content-clause-utf8
 returns-then-not-has_content-clause-utf8 t c =
     let e = c.args.element.now in
     let none : length (texts_under e.name.space e.children) ≡ 0 = grind (arith, common_steps, c.has_content.ensures e.name.space) in
     on_always c.extend_from_slice.result
-    (element-utf8 c.args.parent.now e (subst (λ (l : List Attr). length l < 2 ^ 64) c.slice.ensures c.know_utf8.ensures.few) c.know_utf8.ensures.name (subst AttrsAreUtf8 c.slice.ensures c.know_utf8.ensures.attrs) (none-utf8 _ none))
+    (element-utf8 c.args.parent.now e (subst (λ (l : List Attr). length l < 2 ^ 64) c.slice.ensures c.know_utf8.ensures.few) c.know_utf8.ensures.name
+    (subst AttrsAreUtf8 c.slice.ensures c.know_utf8.ensures.attrs) (none-utf8 _ none))
 
 pub returns-clause-utf8 : goal.returns-clause-utf8
 returns-clause-utf8 t c =
     let e = c.args.element.now in
     let content = texts_under c.bytes-space.result.now c.slice-children.result.now in
     let same : content ≡ texts_under e.name.space e.children = grind (arith, common_steps) in
-    let held : IsUtf8 content = c.loop-node.invariant.utf8 (end-utf8 c.bytes-space.result.now c.slice-children.result.now c.loop-node.node-index c.loop-node-test.false) in
+    let held : IsUtf8 content =
+    c.loop-node.invariant.utf8 (end-utf8 c.bytes-space.result.now c.slice-children.result.now c.loop-node.node-index c.loop-node-test.false) in
     on_always c.push_end_tag.result
-    (element-utf8 c.args.parent.now e (subst (λ (l : List Attr). length l < 2 ^ 64) c.slice.ensures c.know_utf8.ensures.few) c.know_utf8.ensures.name (subst AttrsAreUtf8 c.slice.ensures c.know_utf8.ensures.attrs) (subst IsUtf8 same held))
+    (element-utf8 c.args.parent.now e (subst (λ (l : List Attr). length l < 2 ^ 64) c.slice.ensures c.know_utf8.ensures.few) c.know_utf8.ensures.name
+    (subst AttrsAreUtf8 c.slice.ensures c.know_utf8.ensures.attrs) (subst IsUtf8 same held))

@@ -8,6 +8,7 @@ pub loop-byte-preserved : goal.loop-byte-preserved
 loop-byte-preserved c =
     let same : c.is_plain_in_words.result ≡ true → c.max-escapes.result ≡ c.loop-byte.escapes = λ h. grind (arith, common_steps) in
     let more : c.is_plain_in_words.result ≡ false → c.max-escapes.result ≡ max c.loop-byte.escapes 1 = λ h. grind (arith, common_steps) in
-    let next = tested_next escaped_in_words c.args.bytes.now c.loop-byte.byte-index c.loop-byte.escapes c.max-escapes.result c.is_plain_in_words.result c.loop-byte-test.true words-long
+    let next = tested_next escaped_in_words c.args.bytes.now c.loop-byte.byte-index c.loop-byte.escapes c.max-escapes.result c.is_plain_in_words.result
+    c.loop-byte-test.true words-long
     c.is_plain_in_words.ensures.0 c.is_plain_in_words.ensures.1 same more c.loop-byte.invariant.plain c.loop-byte.invariant.longer in
     record { plain = next.0; longer = next.1 }

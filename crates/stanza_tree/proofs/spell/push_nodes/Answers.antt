@@ -19,7 +19,9 @@ loop-node-preserved c =
           let parts = ap (texts_under space) here ∙ texts-child space c.node-item.result ns w.in-Child.child child in
           record {
             kept = grind (arith, common_steps);
-            utf8 = λ u. c.loop-node.invariant.utf8 (subst (λ is. IsUtf8 (texts_under space is)) (sym here) (child-utf8 space c.node-item.result ns w.in-Child.child child w.in_ok-push_element-in-Child.ensures.utf8 u));
+            utf8 = λ u. c.loop-node.invariant.utf8
+                (subst (λ is. IsUtf8 (texts_under space is)) (sym here)
+                (child-utf8 space c.node-item.result ns w.in-Child.child child w.in_ok-push_element-in-Child.ensures.utf8 u));
             joined = grind (arith, common_steps, parts);
           }
       | in-Words+in_ok-push_words-in-Words w ↦
@@ -27,7 +29,8 @@ loop-node-preserved c =
           let parts = ap (texts_under space) here ∙ texts-words space c.node-item.result ns w.in-Words.words words in
           record {
             kept = grind (arith, common_steps);
-            utf8 = λ u. c.loop-node.invariant.utf8 (subst (λ is. IsUtf8 (texts_under space is)) (sym here) (words-utf8 space c.node-item.result ns w.in-Words.words words w.bytes.ensures.utf8 u));
+            utf8 = λ u. c.loop-node.invariant.utf8
+                (subst (λ is. IsUtf8 (texts_under space is)) (sym here) (words-utf8 space c.node-item.result ns w.in-Words.words words w.bytes.ensures.utf8 u));
             joined = grind (arith, common_steps, parts);
           }
     ]

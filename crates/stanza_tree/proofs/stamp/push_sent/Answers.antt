@@ -19,5 +19,6 @@ returns-clause-utf8 c =
     let few = subst (λ (l : List Attr). length l < 2 ^ 64) c.slice.ensures c.know_utf8.ensures.few in
     let attrs = subst AttrsAreUtf8 c.slice.ensures c.know_utf8.ensures.attrs in
     let whole : IsUtf8 (texts_under e.name.space c.slice-4.result.now) → IsUtf8 (text (sent_by c.args.from.now e)) =
-    λ u. sent-utf8 c.args.from.now e few c.requires c.know_utf8.ensures.name attrs (subst (λ (ns : List Node). IsUtf8 (texts_under e.name.space ns)) c.slice-4.ensures u) in
+    λ u. sent-utf8 c.args.from.now e few c.requires c.know_utf8.ensures.name attrs
+    (subst (λ (ns : List Node). IsUtf8 (texts_under e.name.space ns)) c.slice-4.ensures u) in
     on_ok c.push_content.result whole c.push_content.ensures.utf8

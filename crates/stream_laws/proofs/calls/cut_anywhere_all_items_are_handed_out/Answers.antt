@@ -21,7 +21,8 @@ returns-clause-joined c = λ l calls items t bytes rest fed by. fed-bytes calls 
 
 pub returns-clause-whole : goal.returns-clause-whole
 returns-clause-whole c = λ l calls items t bytes fed by.
-    subst (λ (x : List _). AreItems l x (to_fault (items ++ option_to_list (waiting t)))) (sym (fed-bytes calls l first_reading t items bytes [] fed by ∙ append-nil (bytes_taken calls))) (all_handed l calls items t fed)
+    subst (λ (x : List _). AreItems l x (to_fault (items ++ option_to_list (waiting t))))
+    (sym (fed-bytes calls l first_reading t items bytes [] fed by ∙ append-nil (bytes_taken calls))) (all_handed l calls items t fed)
 
 pub returns-clause-stands : goal.returns-clause-stands
 returns-clause-stands c = λ l calls items t fed. stands_there l calls items t fed

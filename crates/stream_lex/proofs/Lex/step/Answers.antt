@@ -9,7 +9,8 @@ returns-in-Some-clause-reads c = λ bytes ts k.
 
 pub returns-in-None-clause-reads : goal.returns-in-None-clause-reads
 returns-in-None-clause-reads c = λ bytes ts k.
-    stands-turn bytes ts c.args.self.now.state c.advance.result.0 c.args.self.now.fault c.args.byte c.advance.result.1 (omega (arith, c.ranges.byte)) c.args.self.now.live c.in-None.is c.advance.ensures.turns k
+    stands-turn bytes ts c.args.self.now.state c.advance.result.0 c.args.self.now.fault c.args.byte c.advance.result.1 (omega (arith, c.ranges.byte))
+    c.args.self.now.live c.in-None.is c.advance.ensures.turns k
 
 pub returns-in-Some-clause-told : goal.returns-in-Some-clause-told
 returns-in-Some-clause-told c = λ bytes ts k. stands-told _ _ _ _
@@ -17,4 +18,5 @@ returns-in-Some-clause-told c = λ bytes ts k. stands-told _ _ _ _
 
 pub returns-in-None-clause-told : goal.returns-in-None-clause-told
 returns-in-None-clause-told c = λ bytes ts k. stands-told _ _ _ _
-    (stands-turn bytes ts c.args.self.now.state c.advance.result.0 c.args.self.now.fault c.args.byte c.advance.result.1 (omega (arith, c.ranges.byte)) c.args.self.now.live c.in-None.is c.advance.ensures.turns k)
+    (stands-turn bytes ts c.args.self.now.state c.advance.result.0 c.args.self.now.fault c.args.byte c.advance.result.1 (omega (arith, c.ranges.byte))
+    c.args.self.now.live c.in-None.is c.advance.ensures.turns k)

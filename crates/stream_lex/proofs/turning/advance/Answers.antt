@@ -19,5 +19,7 @@ returns-in-Nothing-clause-live c =
 pub returns-in_default-clause-live : goal.returns-in_default-clause-live
 returns-in_default-clause-live c =
     let p = live-parts c.args.state c.requires in
-    turned-live c.args.state c.turn_on_wide.result.0 c.args.byte (turn_wide c.args.state c.args.byte (reach c.args.state.pending c.args.byte)) c.turn_on_wide.result.1 c.requires
-    (live-turn_wide c.args.state c.args.byte (reach c.args.state.pending c.args.byte) p.0 (reach-awaited c.args.state.pending c.args.byte p.1)) c.turn_on_wide.ensures
+    turned-live c.args.state c.turn_on_wide.result.0 c.args.byte (turn_wide c.args.state c.args.byte (reach c.args.state.pending c.args.byte))
+    c.turn_on_wide.result.1 c.requires
+    (live-turn_wide c.args.state c.args.byte (reach c.args.state.pending c.args.byte) p.0 (reach-awaited c.args.state.pending c.args.byte p.1))
+    c.turn_on_wide.ensures

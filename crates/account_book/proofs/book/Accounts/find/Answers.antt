@@ -11,7 +11,8 @@ returns-in_err-place-clause-named c =
 
 pub returns-clause-named : goal.returns-clause-named
 returns-clause-named c =
-    got (λ x. x.now) c.get.result c.deref.result.now c.in_ok-place.place c.get.ensures.lookup.0 c.get.ensures.lookup.1 ∙ ap (λ xs. slice_get xs c.in_ok-place.place) c.deref.ensures.value
+    got (λ x. x.now) c.get.result c.deref.result.now c.in_ok-place.place c.get.ensures.lookup.0 c.get.ensures.lookup.1
+    ∙ ap (λ xs. slice_get xs c.in_ok-place.place) c.deref.ensures.value
     ∙ name-found (λ k. k.items) c.args.name.now c.self.inside.names.keys c.self.inside.accounts.items c.in_ok-place.place c.self.invariant.0 (search rules)
     ∙ ap (λ book. named c.args.name.now book.accounts) c.self.view_is
 

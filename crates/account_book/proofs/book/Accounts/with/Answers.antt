@@ -11,7 +11,8 @@ use Rattle.account_book.proofs.book.Accounts.with.Goals as goal
 pub invariant_of-book : goal.invariant_of-book
 invariant_of-book c =
     let fresh = ap (λ book. has_name (map entry_of book.accounts) c.args.account.name) c.book.view_is ∙ c.requires.new in
-    let keys = name-added (λ k. k.items) c.in_ok-name.name c.book.inside.names.keys c.insert.new.self.keys c.args.account.name c.book.inside.accounts.items c.book.invariant.0 (search rules)
+    let keys = name-added (λ k. k.items) c.in_ok-name.name c.book.inside.names.keys c.insert.new.self.keys c.args.account.name c.book.inside.accounts.items
+    c.book.invariant.0 (search rules)
     fresh (search rules) in
     let pushed : c.push.new.self.items ≡ c.book.inside.accounts.items ++ c.args.account ∷ [] = search rules in (
       ap (λ ks. map (λ k. k.items) ks) keys

@@ -11,7 +11,8 @@ pub addresses-requires : goal.addresses-requires
 addresses-requires c = record {
   there =
       let es = c.self.inside.folders.entries in
-      let told = told_by c.self.inside.domain c.bytes.result.now c.args.user.now (book_after c.self.inside.log.entries) c.self.inside.folders.entries (Some c.in-Some.folder.now)
+      let told = told_by c.self.inside.domain c.bytes.result.now c.args.user.now (book_after c.self.inside.log.entries) c.self.inside.folders.entries
+      (Some c.in-Some.folder.now)
       c.bytes.ensures.bytes c.in-Some.ensures.value c.self.invariant in
       ap (λ s. list_all (λ u. is_some (folder_at u es)) s.who_asked) told
       ∙ askers_there c.self.inside.domain c.args.user.now (book_after c.self.inside.log.entries) es c.self.invariant;
@@ -21,7 +22,8 @@ pub returns-in-Some : goal.returns-in-Some
 returns-in-Some c =
     let domain = c.self.inside.domain in
     let user = c.args.user.now in
-    let told = told_by c.self.inside.domain c.bytes.result.now c.args.user.now (book_after c.self.inside.log.entries) c.self.inside.folders.entries (Some c.in-Some.folder.now)
+    let told = told_by c.self.inside.domain c.bytes.result.now c.args.user.now (book_after c.self.inside.log.entries) c.self.inside.folders.entries
+    (Some c.in-Some.folder.now)
     c.bytes.ensures.bytes c.in-Some.ensures.value c.self.invariant in
     ok_carried c.addresses.result (λ v. v.items) (map (bare_of domain) c.in-Some.folder.now.who_asked.users)
     (map (bare_of c.args.self.now.domain) (who_asked c.args.self.now.book user)) (c.addresses.ensures domain c.self.invariant.own)

@@ -7,7 +7,8 @@ use Rattle.contact_table.proofs.book.Book.roster.Goals as goal
 pub returns-in-Some-clause-contacts : goal.returns-in-Some-clause-contacts
 returns-in-Some-clause-contacts c =
     ap (λ s. s.contacts)
-    (told_by c.self.inside.domain c.bytes.result.now c.args.user.now (book_after c.self.inside.log.entries) c.self.inside.folders.entries (Some c.in-Some.folder.now)
+    (told_by c.self.inside.domain c.bytes.result.now c.args.user.now (book_after c.self.inside.log.entries) c.self.inside.folders.entries
+    (Some c.in-Some.folder.now)
     c.bytes.ensures.bytes c.in-Some.ensures.value c.self.invariant)
     ∙ ap (λ b. contacts_of b.domain b.book c.args.user.now) c.self.view_is
 

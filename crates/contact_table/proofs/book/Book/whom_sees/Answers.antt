@@ -7,7 +7,8 @@ use Rattle.contact_table.proofs.book.Book.whom_sees.Goals as goal
 pub returns-in-Some : goal.returns-in-Some
 returns-in-Some c =
     ap (λ s. s.whom_sees)
-    (told_by c.self.inside.domain c.bytes.result.now c.args.user.now (book_after c.self.inside.log.entries) c.self.inside.folders.entries (Some c.in-Some.folder.now)
+    (told_by c.self.inside.domain c.bytes.result.now c.args.user.now (book_after c.self.inside.log.entries) c.self.inside.folders.entries
+    (Some c.in-Some.folder.now)
     c.bytes.ensures.bytes c.in-Some.ensures.value c.self.invariant)
     ∙ ap (λ b. whom_sees b.book c.args.user.now) c.self.view_is
 

@@ -103,5 +103,6 @@ pub with_spec : {M : Type 1} → stated.statement M
 unfolding tables_of
 with_spec 𝓤 𝓛 𝓜 𝓡 wired A J LA LJ G D met =
     let 𝓣 : Tables 𝓤 𝓛.H = tables_of 𝓤 𝓛.H 𝓜 (tables 𝓤 𝓛.H 𝓜 𝓡 𝓡.env) in
-    entered 𝓤 𝓛.H (triple_of 𝓛 (ended A J G D).signature (closing 𝓛 (ended A J G D) (held A J G D 𝓛 𝓜.mem 𝓡.returns))) 𝓣.C 𝓣.Λ (#self (args A J G D)) (function A J G D)
+    entered 𝓤 𝓛.H (triple_of 𝓛 (ended A J G D).signature (closing 𝓛 (ended A J G D) (held A J G D 𝓛 𝓜.mem 𝓡.returns))) 𝓣.C 𝓣.Λ (#self (args A J G D))
+    (function A J G D)
     (code.unfolded 𝓤 𝓛.H 𝓜 𝓡 wired (A, (J, tt)) D) (meets A J G D 𝓛 𝓜.mem 𝓡.returns 𝓣)

@@ -17,11 +17,14 @@ pub returns-clause-state : goal.returns-clause-state
 returns-clause-state c =
     let h = c.self.inside in
     let k = turn (Ack c.args.w c.args.h) (held (house h.domain h.users.items h.turns h.moment h.world)) in
-    subst (λ (x : HouseRecord). held (house h.domain h.users.items (h.turns + 1) h.moment c.acknowledge.new.world) ≡ (kept_step (held x) (Ack c.args.w c.args.h)).state) c.self.view_is
-    (state_ends h.domain h.users.items h.turns h.moment h.moment 0 h.world c.acknowledge.new.world (Ack c.args.w c.args.h) c.acknowledge.result refl (c.acknowledge.ensures k refl refl))
+    subst (λ (x : HouseRecord). held (house h.domain h.users.items (h.turns + 1) h.moment c.acknowledge.new.world)
+    ≡ (kept_step (held x) (Ack c.args.w c.args.h)).state) c.self.view_is
+    (state_ends h.domain h.users.items h.turns h.moment h.moment 0 h.world c.acknowledge.new.world (Ack c.args.w c.args.h) c.acknowledge.result refl
+    (c.acknowledge.ensures k refl refl))
 
 pub returns-clause-reply : goal.returns-clause-reply
 returns-clause-reply c =
     let h = c.self.inside in
     let k = turn (Ack c.args.w c.args.h) (held (house h.domain h.users.items h.turns h.moment h.world)) in
-    subst (λ (x : HouseRecord). c.acknowledge.result ≡ (kept_step (held x) (Ack c.args.w c.args.h)).reply) c.self.view_is (c.acknowledge.ensures k refl refl).answer
+    subst (λ (x : HouseRecord). c.acknowledge.result ≡ (kept_step (held x) (Ack c.args.w c.args.h)).reply) c.self.view_is
+    (c.acknowledge.ensures k refl refl).answer

@@ -17,7 +17,8 @@ pub returns-clause-state : goal.returns-clause-state
 returns-clause-state c =
     let h = c.self.inside in
     let k = turn (Ask c.args.w) (held (house h.domain h.users.items h.turns h.moment h.world)) in
-    subst (λ (x : HouseRecord). held (house h.domain h.users.items (h.turns + 1) h.moment c.ask.new.world) ≡ (kept_step (held x) (Ask c.args.w)).state) c.self.view_is
+    subst (λ (x : HouseRecord). held (house h.domain h.users.items (h.turns + 1) h.moment c.ask.new.world) ≡ (kept_step (held x) (Ask c.args.w)).state)
+    c.self.view_is
     (state_ends h.domain h.users.items h.turns h.moment h.moment 0 h.world c.ask.new.world (Ask c.args.w) c.ask.result refl (c.ask.ensures k refl refl))
 
 pub returns-clause-reply : goal.returns-clause-reply

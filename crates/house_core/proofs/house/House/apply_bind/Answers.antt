@@ -19,23 +19,28 @@ use Rattle.house_core.proofs.house.House.apply_bind.Goals as goal
 pub index-requires : goal.index-requires
 index-requires c =
     let h = c.self.inside in
-    let k = turn (Bind c.args.w c.args.id.now (option_copied c.args.resource) c.args.t c.args.dice) (held (house h.domain h.users.items h.turns h.moment h.world)) in
+    let k = turn (Bind c.args.w c.args.id.now (option_copied c.args.resource) c.args.t c.args.dice)
+    (held (house h.domain h.users.items h.turns h.moment h.world)) in
     let same = (c.in-Knows.ensures.passes k refl (sym c.later-moment.ensures)).1 in
-    let low = c.self.invariant.known c.args.w c.in-Knows.conn c.in-Knows.user (ap (λ (x : code.World). line_of c.args.w x.table) (sym same) ∙ c.in-Knows.ensures.found.0) in
+    let low = c.self.invariant.known c.args.w c.in-Knows.conn c.in-Knows.user (ap (λ (x : code.World). line_of c.args.w x.table) (sym same)
+    ∙ c.in-Knows.ensures.found.0) in
     search (rules, low)
 
 pub make_address-requires : goal.make_address-requires
 make_address-requires c =
     let h = c.self.inside in
-    let k = turn (Bind c.args.w c.args.id.now (option_copied c.args.resource) c.args.t c.args.dice) (held (house h.domain h.users.items h.turns h.moment h.world)) in
+    let k = turn (Bind c.args.w c.args.id.now (option_copied c.args.resource) c.args.t c.args.dice)
+    (held (house h.domain h.users.items h.turns h.moment h.world)) in
     let same = (c.in-Knows.ensures.passes k refl (sym c.later-moment.ensures)).1 in
-    let low = c.self.invariant.known c.args.w c.in-Knows.conn c.in-Knows.user (ap (λ (x : code.World). line_of c.args.w x.table) (sym same) ∙ c.in-Knows.ensures.found.0) in
+    let low = c.self.invariant.known c.args.w c.in-Knows.conn c.in-Knows.user (ap (λ (x : code.World). line_of c.args.w x.table) (sym same)
+    ∙ c.in-Knows.ensures.found.0) in
     ap is_local c.index.ensures ∙ all_at is_local h.users.items c.in-Knows.user c.index.result.now low c.self.invariant.prepared
 
 pub invariant_of-self-in_err-address-in-Knows : goal.invariant_of-self-in_err-address-in-Knows
 invariant_of-self-in_err-address-in-Knows c =
     let h = c.self.inside in
-    let k = turn (Bind c.args.w c.args.id.now (option_copied c.args.resource) c.args.t c.args.dice) (held (house h.domain h.users.items h.turns h.moment h.world)) in
+    let k = turn (Bind c.args.w c.args.id.now (option_copied c.args.resource) c.args.t c.args.dice)
+    (held (house h.domain h.users.items h.turns h.moment h.world)) in
     let same = (c.in-Knows.ensures.passes k refl (sym c.later-moment.ensures)).1 in
     whole_is h.users.items h.turns h.moment h.moment h.world c.check.new.world [] 0 c.self.invariant c.self.invariant.passed (omega arith) (λ world. refl)
     (same_did h.world c.check.new.world c.check.ensures.tied same)
@@ -43,7 +48,8 @@ invariant_of-self-in_err-address-in-Knows c =
 pub returns-in_err-address-in-Knows-clause-refused : goal.returns-in_err-address-in-Knows-clause-refused
 returns-in_err-address-in-Knows-clause-refused c =
     let h = c.self.inside in
-    let k = turn (Bind c.args.w c.args.id.now (option_copied c.args.resource) c.args.t c.args.dice) (held (house h.domain h.users.items h.turns h.moment h.world)) in
+    let k = turn (Bind c.args.w c.args.id.now (option_copied c.args.resource) c.args.t c.args.dice)
+    (held (house h.domain h.users.items h.turns h.moment h.world)) in
     let same = (c.in-Knows.ensures.passes k refl (sym c.later-moment.ensures)).1 in
     on_err c.from_residual.result
     (subst (λ (x : HouseRecord). held (house h.domain h.users.items (h.turns + 1) h.moment c.check.new.world) ≡ passed (held x)) c.self.view_is
@@ -53,7 +59,8 @@ pub bind-requires-clause-small : goal.bind-requires-clause-small
 bind-requires-clause-small c =
     let h = c.self.inside in
     let turns : h.turns ≡ c.args.self.now.turns = ap (λ (x : HouseRecord). x.turns) c.self.view_is in
-    few_later h.turns 18446744073709546615 c.check.new.world.table (c.check.ensures.few h.turns c.self.invariant.counted) (omega (arith, turns, c.requires.turns))
+    few_later h.turns 18446744073709546615 c.check.new.world.table (c.check.ensures.few h.turns c.self.invariant.counted)
+    (omega (arith, turns, c.requires.turns))
 
 pub invariant_of-self-in_default : goal.invariant_of-self-in_default
 invariant_of-self-in_default c =
@@ -145,7 +152,8 @@ invariant_of-self-in-Knows c =
     let now = c.later-moment.result in
     let k = turn e (held (house h.domain h.users.items h.turns h.moment h.world)) in
     let passes = c.in-Knows.ensures.passes k refl (sym c.later-moment.ensures) in
-    let low = c.self.invariant.known c.args.w c.in-Knows.conn c.in-Knows.user (ap (λ (x : code.World). line_of c.args.w x.table) (sym passes.1) ∙ c.in-Knows.ensures.found.0) in
+    let low = c.self.invariant.known c.args.w c.in-Knows.conn c.in-Knows.user (ap (λ (x : code.World). line_of c.args.w x.table) (sym passes.1)
+    ∙ c.in-Knows.ensures.found.0) in
     let place = bound_is k c.in-Knows.user c.index.result.now (resource_or c.args.dice (option_copied c.args.resource)) low c.index.ensures in
     let ends = bind_ends k c.args.w c.args.t c.in-Knows.conn c.in-Knows.user c.args.id.now (option_copied c.args.resource) c.args.dice (gate k e) reply address
     h.world b d passes.0 passes.1 c.in-Knows.ensures.found.0 (c.in_ok-address-in-Knows.ensures ∙ place)
@@ -164,7 +172,8 @@ returns-in_ok-reply-in-Knows-clause-state c =
     let now = c.later-moment.result in
     let k = turn e (held (house h.domain h.users.items h.turns h.moment h.world)) in
     let passes = c.in-Knows.ensures.passes k refl (sym c.later-moment.ensures) in
-    let low = c.self.invariant.known c.args.w c.in-Knows.conn c.in-Knows.user (ap (λ (x : code.World). line_of c.args.w x.table) (sym passes.1) ∙ c.in-Knows.ensures.found.0) in
+    let low = c.self.invariant.known c.args.w c.in-Knows.conn c.in-Knows.user (ap (λ (x : code.World). line_of c.args.w x.table) (sym passes.1)
+    ∙ c.in-Knows.ensures.found.0) in
     let place = bound_is k c.in-Knows.user c.index.result.now (resource_or c.args.dice (option_copied c.args.resource)) low c.index.ensures in
     let ends = bind_ends k c.args.w c.args.t c.in-Knows.conn c.in-Knows.user c.args.id.now (option_copied c.args.resource) c.args.dice (gate k e) reply address
     h.world b d passes.0 passes.1 c.in-Knows.ensures.found.0 (c.in_ok-address-in-Knows.ensures ∙ place)
@@ -182,7 +191,8 @@ returns-in_ok-reply-in-Knows-clause-reply c =
     let e = Bind c.args.w c.args.id.now (option_copied c.args.resource) c.args.t c.args.dice in
     let k = turn e (held (house h.domain h.users.items h.turns h.moment h.world)) in
     let passes = c.in-Knows.ensures.passes k refl (sym c.later-moment.ensures) in
-    let low = c.self.invariant.known c.args.w c.in-Knows.conn c.in-Knows.user (ap (λ (x : code.World). line_of c.args.w x.table) (sym passes.1) ∙ c.in-Knows.ensures.found.0) in
+    let low = c.self.invariant.known c.args.w c.in-Knows.conn c.in-Knows.user (ap (λ (x : code.World). line_of c.args.w x.table) (sym passes.1)
+    ∙ c.in-Knows.ensures.found.0) in
     let place = bound_is k c.in-Knows.user c.index.result.now (resource_or c.args.dice (option_copied c.args.resource)) low c.index.ensures in
     let ends = bind_ends k c.args.w c.args.t c.in-Knows.conn c.in-Knows.user c.args.id.now (option_copied c.args.resource) c.args.dice (gate k e) reply address
     h.world b d passes.0 passes.1 c.in-Knows.ensures.found.0 (c.in_ok-address-in-Knows.ensures ∙ place)

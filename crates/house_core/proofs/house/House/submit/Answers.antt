@@ -20,7 +20,8 @@ returns-in-OpenLine c = record {
     [],
     (
       sym (append-nil c.args.out.now.items),
-      of-event (λ e. made e c.open_line.result []) c.args.event.now _ (held c.args.self.now) (held c.open_line.new.self) c.in-OpenLine.is c.open_line.ensures.history,
+      of-event (λ e. made e c.open_line.result []) c.args.event.now _ (held c.args.self.now) (held c.open_line.new.self) c.in-OpenLine.is
+          c.open_line.ensures.history,
     ),
   );
 }
@@ -44,7 +45,8 @@ returns-in-Bind c =
         [],
         (
           sym (append-nil c.args.out.now.items),
-          of-event (λ e. ended e c.bind.result) c.args.event.now (Bind c.in-Bind.w c.in-Bind.id (option_copied c.as_ref.result) c.in-Bind.t c.in-Bind.dice) (held c.args.self.now) (held c.bind.new.self)
+          of-event (λ e. ended e c.bind.result) c.args.event.now (Bind c.in-Bind.w c.in-Bind.id (option_copied c.as_ref.result) c.in-Bind.t c.in-Bind.dice)
+              (held c.args.self.now) (held c.bind.new.self)
               (c.in-Bind.is ∙ ap (λ x. Bind c.in-Bind.w c.in-Bind.id x c.in-Bind.t c.in-Bind.dice) (sym same)) c.bind.ensures.history,
         ),
       );
@@ -69,7 +71,8 @@ returns-in-Resume c =
         [],
         (
           sym (append-nil c.args.out.now.items),
-          of-event (λ e. made e c.resume.result []) c.args.event.now (Resume c.in-Resume.w (option_copied c.as_ref-in-Resume.result) c.in-Resume.h c.in-Resume.t) (held c.args.self.now) (held c.resume.new.self)
+          of-event (λ e. made e c.resume.result []) c.args.event.now
+              (Resume c.in-Resume.w (option_copied c.as_ref-in-Resume.result) c.in-Resume.h c.in-Resume.t) (held c.args.self.now) (held c.resume.new.self)
               (c.in-Resume.is ∙ ap (λ x. Resume c.in-Resume.w x c.in-Resume.h c.in-Resume.t) (sym same)) c.resume.ensures.history,
         ),
       );
@@ -114,7 +117,8 @@ returns-in-DropLine c = record {
     [],
     (
       sym (append-nil c.args.out.now.items),
-      of-event (λ e. made e c.drop_line.result []) c.args.event.now _ (held c.args.self.now) (held c.drop_line.new.self) c.in-DropLine.is c.drop_line.ensures.history,
+      of-event (λ e. made e c.drop_line.result []) c.args.event.now _ (held c.args.self.now) (held c.drop_line.new.self) c.in-DropLine.is
+          c.drop_line.ensures.history,
     ),
   );
 }
@@ -125,7 +129,8 @@ returns-in-CloseLine c = record {
     [],
     (
       sym (append-nil c.args.out.now.items),
-      of-event (λ e. made e c.close_line.result []) c.args.event.now _ (held c.args.self.now) (held c.close_line.new.self) c.in-CloseLine.is c.close_line.ensures.history,
+      of-event (λ e. made e c.close_line.result []) c.args.event.now _ (held c.args.self.now) (held c.close_line.new.self) c.in-CloseLine.is
+          c.close_line.ensures.history,
     ),
   );
 }

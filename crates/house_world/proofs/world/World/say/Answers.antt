@@ -8,4 +8,5 @@ pub returns : goal.returns
 returns c =
     let answers = c.args.self.now.answers.items in
     said_did c.args.w c.args.answer c.args.self.now c.say.new.self c.requires.tied c.requires.line
-    (c.say.ensures ∙ ap (λ (xs : List Answer). xs ++ c.args.answer ∷ []) (c.index_mut.ensures.value ∙ read_there answers c.args.w c.index_mut.result.now [] c.requires.line))
+    (c.say.ensures ∙ ap (λ (xs : List Answer). xs ++ c.args.answer ∷ []) (c.index_mut.ensures.value
+    ∙ read_there answers c.args.w c.index_mut.result.now [] c.requires.line))

@@ -9,7 +9,8 @@ pub returns-in-Some-clause-did : goal.returns-in-Some-clause-did
 returns-in-Some-clause-did c =
     let there = sym c.session_mut.ensures.there ∙ ap option_copied_mut c.in-Some.is in
     let x = c.in-Some.session.now in
-    set_did c.args.self.now c.args.s x c.requires.tied there c.mark.new.session c.args.change c.requires.named c.requires.short c.know_change.ensures c.mark.ensures
+    set_did c.args.self.now c.args.s x c.requires.tied there c.mark.new.session c.args.change c.requires.named c.requires.short c.know_change.ensures
+    c.mark.ensures
 
 pub returns-in-Some-clause-room : goal.returns-in-Some-clause-room
 returns-in-Some-clause-room c = λ n r has.

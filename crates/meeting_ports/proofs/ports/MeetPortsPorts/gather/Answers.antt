@@ -5,11 +5,13 @@ use Rattle.meeting_ports.proofs.PostLemmas.{gathered_faults, gathered_links, no_
 use Rattle.meeting_ports.proofs.ports.MeetPortsPorts.gather.Goals as goal
 
 pub returns-clause-faults : goal.returns-clause-faults
-returns-clause-faults c = ap (λ (v : PortsCounts). v.faults) c.keep.ensures ∙ ap (λ (v : PortsCounts). v.faults) c.count_posts.ensures.state ∙ gathered_faults c.args.self.now c.as_slice.result.now
+returns-clause-faults c = ap (λ (v : PortsCounts). v.faults) c.keep.ensures ∙ ap (λ (v : PortsCounts). v.faults) c.count_posts.ensures.state
+    ∙ gathered_faults c.args.self.now c.as_slice.result.now
     ∙ ap (λ (l : List MeetPost). added c.args.self.now.faults (map (λ p. p.door.faults) l)) c.as_slice.ensures.value
 
 pub returns-clause-links : goal.returns-clause-links
-returns-clause-links c = ap (λ (v : PortsCounts). v.links) c.keep.ensures ∙ ap (λ (v : PortsCounts). v.links) c.count_posts.ensures.state ∙ gathered_links c.args.self.now c.as_slice.result.now
+returns-clause-links c = ap (λ (v : PortsCounts). v.links) c.keep.ensures ∙ ap (λ (v : PortsCounts). v.links) c.count_posts.ensures.state
+    ∙ gathered_links c.args.self.now c.as_slice.result.now
     ∙ ap (λ (l : List MeetPost). added c.args.self.now.links (map (λ p. p.door.links) l)) c.as_slice.ensures.value
 
 pub returns-clause-dice : goal.returns-clause-dice

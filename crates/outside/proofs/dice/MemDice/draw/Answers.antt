@@ -29,7 +29,8 @@ returns-clause-state c =
     let front : copied ≡ take n (drop at bytes) = grind (arith, common_steps, c.copy_from_slice.ensures) in
     let len : length copied ≡ n = search (rules, c.copy_from_slice.ensures) in
     let left : drop (at + n) bytes ≡ drop (length copied) (drop at bytes) = sym (drop-drop n at bytes) ∙ ap (λ k. drop k (drop at bytes)) (sym len) in
-    let told : told_where (List ℕ) tells (pieces c.push_reserved.new.self.items (take (at + n) bytes)) ≡ and_last (List ℕ) (told_where (List ℕ) tells (pieces draws (take at bytes))) copied =
+    let told : told_where (List ℕ) tells (pieces c.push_reserved.new.self.items (take (at + n) bytes))
+    ≡ and_last (List ℕ) (told_where (List ℕ) tells (pieces draws (take at bytes))) copied =
     ap (λ ds. told_where (List ℕ) tells (pieces ds (take (at + n) bytes))) c.push_reserved.ensures.items
     ∙ drawn_more tells draws bytes at n c.self.invariant.0 c.self.invariant.1 part
     ∙ ap (λ x. and_last (List ℕ) (told_where (List ℕ) tells (pieces draws (take at bytes))) x) (sym front) in

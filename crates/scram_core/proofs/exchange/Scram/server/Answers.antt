@@ -7,5 +7,12 @@ use Rattle.scram_core.proofs.exchange.Scram.server.Goals as goal
 pub returns-clause-form : goal.returns-clause-form
 returns-clause-form c =
     subst (λ (e : Exchange). IsServerFirst e.first (challenge_of e)) c.self.view_is
-    (made (record { first = c.self.inside.hello; own = c.self.inside.own.items; salt = c.self.inside.salt.items; rounds = c.self.inside.rounds; account = c.self.inside.verifier })
+    (made (record {
+      first = c.self.inside.hello;
+      own = c.self.inside.own.items;
+      salt = c.self.inside.salt.items;
+      rounds = c.self.inside.rounds;
+      account =
+          c.self.inside.verifier;
+    })
     c.self.invariant.0)

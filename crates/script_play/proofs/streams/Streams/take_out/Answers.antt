@@ -9,7 +9,8 @@ use Rattle.script_play.proofs.streams.Streams.take_out.Goals as goal
 pub returns-in-Some-clause-reading : goal.returns-in-Some-clause-reading
 returns-in-Some-clause-reading c =
     let held : slice_index_or c.reach.new.self.places.items c.args.w c.index_mut.result.now ≡ Some c.in-Some.place = search rules in
-    let there : slice_index_or c.reach.new.self.places.items c.args.w None ≡ Some c.in-Some.place = any_default c.reach.new.self.places.items c.args.w None c.index_mut.result.now c.in_ok-reach.ensures.there ∙ held in
+    let there : slice_index_or c.reach.new.self.places.items c.args.w None ≡ Some c.in-Some.place =
+    any_default c.reach.new.self.places.items c.args.w None c.index_mut.result.now c.in_ok-reach.ensures.there ∙ held in
     sym (ap reading_at there) ∙ ap (λ (fs : Framers). fs c.args.w) c.reach.ensures.kept
 
 pub returns-in-Some-clause-rest : goal.returns-in-Some-clause-rest
@@ -19,4 +20,5 @@ returns-in-Some-clause-rest c = λ s.
 pub returns-in-None-clause-reading : goal.returns-in-None-clause-reading
 returns-in-None-clause-reading c =
     let there : slice_index_or c.reach.new.self.places.items c.args.w None ≡ None = search rules in
-    subst (λ (s : Reading). IfOk c.new.result (λ p. p.framer.reading ≡ s)) (sym (ap reading_at there) ∙ ap (λ (fs : Framers). fs c.args.w) c.reach.ensures.kept) c.new.ensures
+    subst (λ (s : Reading). IfOk c.new.result (λ p. p.framer.reading ≡ s)) (sym (ap reading_at there) ∙ ap (λ (fs : Framers). fs c.args.w) c.reach.ensures.kept)
+    c.new.ensures

@@ -13,4 +13,5 @@ returns-in-Ok-clause-ok c =
     let longer : after ≡ ns ++ c.in-Some.before ∷ [] = c.in-Ok.ensures.items in
     ap (λ (n : OpenName). raw n ∷ stacked_on [] after) c.replace-in-Ok.ensures.value
     ∙ (pushed-some c.in-Some.before c.args.name.now ns after longer
-    ∙ ap (λ (st : List RawName). raw c.args.name.now ∷ st) (ap (λ (o : Option OpenName). stacked o ns) (sym c.in-Some.is ∙ c.take.ensures.value) ∙ c.self.view_is))
+    ∙ ap (λ (st : List RawName). raw c.args.name.now ∷ st) (ap (λ (o : Option OpenName). stacked o ns) (sym c.in-Some.is ∙ c.take.ensures.value)
+    ∙ c.self.view_is))

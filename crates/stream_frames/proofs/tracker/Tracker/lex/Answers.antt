@@ -10,4 +10,6 @@ use Rattle.stream_frames.proofs.tracker.Tracker.lex.Goals as goal
 pub returns-in-Open-clause-few : goal.returns-in-Open-clause-few
 returns-in-Open-clause-few c =
     turned_few c.at-lex.result.state c.step-lexed.new.self.state c.args.byte c.step-lexed.result
-    (subst (λ (o : Option LexFault). IfNone o (IsTurned c.at-lex.result.state (turn c.at-lex.result.state c.args.byte) c.step-lexed.new.self.state c.step-lexed.result)) c.at-lex.ensures.fault c.step-lexed.ensures.moves)
+    (subst (λ (o : Option LexFault). IfNone o
+    (IsTurned c.at-lex.result.state (turn c.at-lex.result.state c.args.byte) c.step-lexed.new.self.state c.step-lexed.result)) c.at-lex.ensures.fault
+    c.step-lexed.ensures.moves)

@@ -26,8 +26,14 @@ join_seat-requires g c =
     let first = each_middle (IsIdle g.T.Storied.line g.T.Storied.root c.args.self) [] inv.0 _ (subst (Each _) items idle) in
     let own = each_middle (IsIdle g.T.Storied.line g.T.Storied.root c.args.self) (inv.0 ∷ inv.1) next _ (subst (Each _) items idle) in
     let stage = ap (λ m. m.0.stage) inv.5 ∙ (stage-gathered inv.0.seat.me.0 inv.1 ∙ ap (λ m. m.0.stage) first.1) in
-    let rooted = ap (λ m. m.0.root) inv.5 ∙ (root-gathered inv.0.seat.me.0 inv.1 ∙ ap (λ m. m.0.root) first.1) in
-    (inv.4, own.0, ap (λ m. m.1) own.1, search rules, joins g.T.Storied.story g.T.Storied.line g.T.Storied.root _ _ _ _ _ _ _ rooted stage (ap (λ m. m.0.stage) own.1))
+    let rooted = ap (λ m. m.0.root) inv.5 ∙ (root-gathered inv.0.seat.me.0 inv.1 ∙ ap (λ m. m.0.root) first.1) in (
+      inv.4,
+      own.0,
+      ap (λ m. m.1) own.1,
+      search rules,
+      joins g.T.Storied.story g.T.Storied.line g.T.Storied.root _ _ _ _ _ _ _ rooted stage
+          (ap (λ m. m.0.stage) own.1),
+    )
 
 pub loop-other-preserved : goal.loop-other-preserved
 loop-other-preserved g c =
@@ -67,28 +73,32 @@ pub returns-clause-history : goal.returns-clause-history
 returns-clause-history g c =
     let inv = c.loop-other.invariant in
     let done : into_iter_len c.loop-other.other-iterator ≡ 0 = search rules in
-    let told = told_at_end g.T.Storied.line g.T.Storied.root c.args.self inv.0 inv.1 _ _ _ _ (inv.2, inv.3, done, c.requires.idle, inv.5) _ c.last_value.ensures.sound in
+    let told = told_at_end g.T.Storied.line g.T.Storied.root c.args.self inv.0 inv.1 _ _ _ _ (inv.2, inv.3, done, c.requires.idle, inv.5) _
+    c.last_value.ensures.sound in
     λ k d h. (told k d h).seen
 
 pub returns-clause-mine : goal.returns-clause-mine
 returns-clause-mine g c =
     let inv = c.loop-other.invariant in
     let done : into_iter_len c.loop-other.other-iterator ≡ 0 = search rules in
-    let told = told_at_end g.T.Storied.line g.T.Storied.root c.args.self inv.0 inv.1 _ _ _ _ (inv.2, inv.3, done, c.requires.idle, inv.5) _ c.last_value.ensures.sound in
+    let told = told_at_end g.T.Storied.line g.T.Storied.root c.args.self inv.0 inv.1 _ _ _ _ (inv.2, inv.3, done, c.requires.idle, inv.5) _
+    c.last_value.ensures.sound in
     λ k d h. sym (told k d h).mine
 
 pub returns-clause-refused : goal.returns-clause-refused
 returns-clause-refused g c =
     let inv = c.loop-other.invariant in
     let done : into_iter_len c.loop-other.other-iterator ≡ 0 = search rules in
-    let told = told_at_end g.T.Storied.line g.T.Storied.root c.args.self inv.0 inv.1 _ _ _ _ (inv.2, inv.3, done, c.requires.idle, inv.5) _ c.last_value.ensures.sound in
+    let told = told_at_end g.T.Storied.line g.T.Storied.root c.args.self inv.0 inv.1 _ _ _ _ (inv.2, inv.3, done, c.requires.idle, inv.5) _
+    c.last_value.ensures.sound in
     λ k d h. (told k d h).refused
 
 pub returns-clause-drawn : goal.returns-clause-drawn
 returns-clause-drawn g c =
     let inv = c.loop-other.invariant in
     let done : into_iter_len c.loop-other.other-iterator ≡ 0 = search rules in
-    let told = told_at_end g.T.Storied.line g.T.Storied.root c.args.self inv.0 inv.1 _ _ _ _ (inv.2, inv.3, done, c.requires.idle, inv.5) _ c.last_value.ensures.sound in
+    let told = told_at_end g.T.Storied.line g.T.Storied.root c.args.self inv.0 inv.1 _ _ _ _ (inv.2, inv.3, done, c.requires.idle, inv.5) _
+    c.last_value.ensures.sound in
     λ k d h. (told k d h).drawn
 
 pub returns-clause-lines : goal.returns-clause-lines

@@ -12,13 +12,15 @@ take-value-requires g c =
 pub unreachable-requires : goal.unreachable-requires
 unreachable-requires g c =
     let state = c.close_with-closed.ensures.values.2 in
-    let last = closes g.T.Storied.story g.T.Storied.line g.T.Storied.root _ _ state.0 state.1.0 _ _ state.1.1 c.requires.idle (c.requires.all ∙ sym c.args.self.agreed) in
+    let last = closes g.T.Storied.story g.T.Storied.line g.T.Storied.root _ _ state.0 state.1.0 _ _ state.1.1 c.requires.idle (c.requires.all
+    ∙ sym c.args.self.agreed) in
     c.in_default.not-Some last.0 (some-injective _ _ (sym c.take-value.ensures.value ∙ state.4 0 (Some last.0) last.1))
 
 pub returns-clause-root : goal.returns-clause-root
 returns-clause-root g c =
     let state = c.close_with-closed.ensures.values.2 in
-    let last = closes g.T.Storied.story g.T.Storied.line g.T.Storied.root _ _ state.0 state.1.0 _ _ state.1.1 c.requires.idle (c.requires.all ∙ sym c.args.self.agreed) in
+    let last = closes g.T.Storied.story g.T.Storied.line g.T.Storied.root _ _ state.0 state.1.0 _ _ state.1.1 c.requires.idle (c.requires.all
+    ∙ sym c.args.self.agreed) in
     let held = sym c.in-Some.is ∙ some-injective _ _ (sym c.take-value.ensures.value ∙ state.4 0 (Some last.0) last.1) in
     let same : c.in-Some.value ≡ last.0 = cc in
     rw same last.2
@@ -26,7 +28,8 @@ returns-clause-root g c =
 pub returns-clause-sound : goal.returns-clause-sound
 returns-clause-sound g c =
     let state = c.close_with-closed.ensures.values.2 in
-    let last = closes g.T.Storied.story g.T.Storied.line g.T.Storied.root _ _ state.0 state.1.0 _ _ state.1.1 c.requires.idle (c.requires.all ∙ sym c.args.self.agreed) in
+    let last = closes g.T.Storied.story g.T.Storied.line g.T.Storied.root _ _ state.0 state.1.0 _ _ state.1.1 c.requires.idle (c.requires.all
+    ∙ sym c.args.self.agreed) in
     let held = sym c.in-Some.is ∙ some-injective _ _ (sym c.take-value.ensures.value ∙ state.4 0 (Some last.0) last.1) in
     let same : c.in-Some.value ≡ last.0 = cc in
     rw same last.3
@@ -34,7 +37,8 @@ returns-clause-sound g c =
 pub returns-clause-lines : goal.returns-clause-lines
 returns-clause-lines g c =
     let state = c.close_with-closed.ensures.values.2 in
-    let last = closes g.T.Storied.story g.T.Storied.line g.T.Storied.root _ _ state.0 state.1.0 _ _ state.1.1 c.requires.idle (c.requires.all ∙ sym c.args.self.agreed) in
+    let last = closes g.T.Storied.story g.T.Storied.line g.T.Storied.root _ _ state.0 state.1.0 _ _ state.1.1 c.requires.idle (c.requires.all
+    ∙ sym c.args.self.agreed) in
     let held = sym c.in-Some.is ∙ some-injective _ _ (sym c.take-value.ensures.value ∙ state.4 0 (Some last.0) last.1) in
     let same : c.in-Some.value ≡ last.0 = cc in
     rw same last.4
