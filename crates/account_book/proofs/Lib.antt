@@ -1,4 +1,3 @@
-mod NumberLemmas
 mod LineLemmas
 mod BookLemmas
 mod ListLemmas

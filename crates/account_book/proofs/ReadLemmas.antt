@@ -18,10 +18,11 @@ use Rattle.scram_core.specs.Login.{base64_of}
 use Rattle.account_book.specs.declared.fault.LineKind.{LineKind}
 use Rattle.account_book.specs.declared.fault.LineKind.TheVariants as kind
 use Rattle.account_book.specs.Entries.{Entry, line_text}
-use Rattle.account_book.specs.Fields.{Texts, texts_in, fields_of, cut, on, as_written, name_in, number_of}
+use Rattle.account_book.specs.Fields.{Texts, texts_in, fields_of, cut, on, as_written, name_in}
+use Rattle.sm_resume.specs.Spelling.{number_of}
 use Rattle.account_book.specs.Fields.{are_rounds, rounds_in, bytes_in, sized, key_in, salt_in}
 use Rattle.account_book.specs.Lines.{need, entry_in, line_of}
-use Rattle.account_book.proofs.NumberLemmas.{number-spelt}
+use Rattle.sm_resume.proofs.Numbers.{number-spelt}
 use Rattle.account_book.proofs.CutLemmas.{cut-joined, none-lacks}
 use Rattle.account_book.proofs.WrittenLemmas.{seventh, sixth, fifth, fourth, third, second, spaced, spread, cut-at, reads}
 

@@ -20,7 +20,7 @@ use Rattle.account_book.specs.declared.fault.LineKind.TheVariants as kind
 use Rattle.account_book.specs.Entries.{Entry, line_text, IsSized, IsEntry}
 use Rattle.account_book.specs.Fields.{Texts, texts_in, cut, on, name_in, are_rounds, rounds_in, bytes_in, sized, key_in, salt_in}
 use Rattle.account_book.specs.Lines.{need, entry_in, line_of}
-use Rattle.account_book.proofs.NumberLemmas.{number-found}
+use Rattle.sm_resume.proofs.Numbers.{number-found}
 use Rattle.account_book.proofs.CutLemmas.{lacks, true-two, before-at, after-at, after-none, lacks-append}
 use Rattle.account_book.proofs.LocalLemmas.{local-lacks-space, local-lacks-end, name-read}
 

@@ -1,14 +1,13 @@
 -- The fields of an account line, and what each is read as.
-use Rattle.std.specs.Prelude.{◌≡◌, ℕ, ◌^◌, nat_lt, nat_le, ◌&&◌, List, length, bytes_eq, Option, Some, None, Result, Ok, Err, is_some, if◌then◌else◌}
+use Rattle.std.specs.Prelude.{◌≡◌, ℕ, nat_le, ◌&&◌, List, length, bytes_eq, Option, Some, None, Result, Ok, Err, is_some, if◌then◌else◌}
 use Rattle.std.specs.Option.{option_and_then}
 use Rattle.std.specs.Result.{result_ok}
-use Rattle.std.specs.Fmt.{decimal}
-use Rattle.std.specs.Str.Parse.{digits_value}
 use Rattle.base64.specs.Engines.{standard}
 use Rattle.base64.specs.GeneralPurpose.{decode_of}
 use Rattle.jid_core.specs.Cuts.{before, after}
 use Rattle.jid_core.specs.Preparation.{local_of}
 use Rattle.jid_core.specs.declared.fault.JidFault.{JidFault}
+use Rattle.sm_resume.specs.Spelling.{number_of}
 use Rattle.account_book.specs.declared.fields.Fields.{Fields}
 
 -- the seven fields, as they are written
@@ -66,11 +65,6 @@ as_written text (Err fault) = None
 
 abbrev pub name_in : List ℕ → Option (List ℕ)
 name_in text = as_written text (local_of text)
-
--- the number below 2^64 that is written so in decimal, without leading zeros
-unfoldable pub number_of : List ℕ → Option ℕ
-number_of text =
-    if nat_lt (digits_value 10 text) (2 ^ 64) && bytes_eq (decimal (digits_value 10 text)) text then Some (digits_value 10 text) else None
 
 -- ROUNDS: a number from 4096 to 1000000
 abbrev pub are_rounds : ℕ → Option ℕ

@@ -20,7 +20,7 @@ use indexmap::IndexSet;
 use std::alloc::{AllocError, Global};
 use std::marker::Model;
 
-/// How many accounts a list may have.
+/// How many accounts a list may have: as many users as a house takes.
 const MOST_ACCOUNTS: usize = 4096;
 
 /// The accounts of a list, each with a name of its own.

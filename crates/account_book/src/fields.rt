@@ -2,7 +2,7 @@
 
 ghost use Rattle.std.specs.Prelude.{◌≡◌, ◌≤◌, IfSome, IfNone, Some, None, length};
 ghost use Rattle.jid_core.specs.Cuts.{before, after};
-ghost use Rattle.account_book.specs.Fields.{fields_of, texts_in, number_of, rounds_in, Splits};
+ghost use Rattle.account_book.specs.Fields.{fields_of, texts_in, rounds_in, Splits};
 
 use jid_core::cut_at;
 use sm_resume::read_number;
@@ -61,13 +61,6 @@ pub(crate) fn fields_of_line(line: &[u8]) -> Option<Fields<'_>>
     split(text)
 }
 
-/// A decimal without leading zeros, below 2^64.
-fn read_decimal(text: &[u8]) -> Option<u64>
-    ensures { result ≡ number_of text.now }
-{
-    read_number(text)
-}
-
 /// How many rounds an account has at least (RFC 7677, 4).
 const LEAST_ROUNDS: u64 = 4096;
 
@@ -78,7 +71,7 @@ const MOST_ROUNDS: u64 = 1_000_000;
 pub(crate) fn read_rounds(text: &[u8]) -> Option<u32>
     ensures { result ≡ rounds_in text.now }
 {
-    let rounds = read_decimal(text)?;
+    let rounds = read_number(text)?;
     if LEAST_ROUNDS <= rounds && rounds <= MOST_ROUNDS {
         Some(rounds as u32)
     } else {

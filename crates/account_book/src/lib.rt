@@ -19,5 +19,6 @@ mod make;
 pub use account::Account;
 pub use book::Accounts;
 pub use fault::{BookFault, LineKind};
+pub use line::{LEAST_SALT, MOST_SALT};
 pub use make::make_line;
 pub use std::alloc::AllocError as NoMemory;

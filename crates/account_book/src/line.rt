@@ -76,13 +76,19 @@ fn read_key<const N: usize>(alloc: Global, text: &[u8]) -> Result<[u8; N], LineF
     Ok(key)
 }
 
+/// The fewest bytes of a salt: so many tell 2^64 accounts apart.
+pub const LEAST_SALT: usize = 8;
+
+/// The most bytes of a salt: the block of both hashes. More would add nothing.
+pub const MOST_SALT: usize = 64;
+
 fn read_fields(alloc: Global, fields: &Fields) -> Result<Account, LineFault>
     ensures read { Reads (entry_in (texts_of fields.now)) result }
     ensures local { IfOk result (λ account. IsTrue (is_local account.name)) }
 {
     let name = read_name(alloc, fields.name)?;
     let rounds = read_rounds(fields.rounds).ok_or(LineKind::Rounds)?;
-    let salt = read_base64(alloc, fields.salt, 8, 64, LineKind::Salt)?;
+    let salt = read_base64(alloc, fields.salt, LEAST_SALT, MOST_SALT, LineKind::Salt)?;
     let keys = Keys {
         rounds,
         salt,

@@ -17,7 +17,7 @@ use sha1::Sha1;
 use sha2::{Digest, Sha256};
 use std::alloc::{AllocError, Global};
 
-/// The rounds of an account that is made.
+/// The rounds of an account that is made: the fewest that RFC 7677, 4, allows, since each login costs its client as many hashes.
 const ROUNDS: u32 = 4096;
 
 /// Appends a space and the rounds.

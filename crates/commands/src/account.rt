@@ -9,7 +9,7 @@ use outside::{Got, Sink, Source};
 use script_play::{Status, write_all};
 use std::alloc::Global;
 
-/// How many bytes a password may have.
+/// How many bytes a password may have: more than anyone types, and few enough for one reading.
 const MOST_PASSWORD: usize = 256;
 
 /// Reads a password line and writes the account line of this name with this salt, of 4096 rounds (RFC 5802, section 3; RFC 7677).

@@ -20,7 +20,8 @@ use std::sync::Wait;
 use std::thread::Threads;
 
 /// Runs the command of these words: `replay`, which reads a script; `account NAME SALT`, which reads a password line; or `serve` with its options,
-/// which reads a list of accounts and serves clients at the ports. `serve` never returns if a door hands out links for ever; the others touch no ports.
+/// which reads a list of accounts and serves clients at the ports. `serve` never returns if a door hands out links for ever, or a link goes on
+/// for ever; the others touch no ports.
 pub fn run<R: Threads + Wait + Sync, S: Source, K: Sink, P: Ports>(
     rt: &R,
     alloc: Global,

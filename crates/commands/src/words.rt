@@ -8,6 +8,7 @@ ghost use Rattle.serve_words.specs.Options.{IsRefusal, is_value};
 ghost use Rattle.commands.specs.Commands.{HasWorker, Reads, account_task, name_in, replay_task, serve_task, task, task_of};
 ghost use Rattle.commands.specs.Grammars.{Parses, account_grammar, pair_in, wanted};
 
+use account_book::{LEAST_SALT, MOST_SALT};
 use base64::DecodeAllocError;
 use base64::engine::general_purpose::STANDARD;
 use clap::error::ErrorKind;
@@ -18,12 +19,6 @@ use serve_run::Serving;
 use serve_words::read_serve;
 use stanza_tree::{NoMemory, Text};
 use std::alloc::{AllocError, Global};
-
-/// How many bytes a salt has at least.
-const LEAST_SALT: usize = 8;
-
-/// How many bytes a salt has at most.
-const MOST_SALT: usize = 64;
 
 /// A command with its values.
 #[derive(Drop)]

@@ -19,7 +19,7 @@ pub use binding::{Binding, binding_of, prepared};
 pub use challenged::Challenged;
 pub use ended::{Ended, HeaderFault, ItemFault};
 pub use failure::Failure;
-pub use login::{Exchanging, Sasl, Verdict, challenge, judge, sasl_of};
+pub use login::{DRAW, Exchanging, Sasl, Verdict, challenge, judge, sasl_of};
 pub use requests::{header_fault, is_from};
 pub use stage::{Purpose, Stage};
 pub use stream_error::StreamError;

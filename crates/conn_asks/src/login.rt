@@ -249,13 +249,16 @@ fn failure_of(fault: ScramFault) -> Result<Failure, NoMemory>
     }
 }
 
+/// How many random bytes a draw has: base64 makes 24 characters of them for a nonce, and the first sixteen are those of an id.
+pub const DRAW: usize = 18;
+
 /// The challenge that answers a first text, and the exchange that it begins. Without an account it is one that tells nothing of that.
 pub fn challenge(
     alloc: Global,
     accounts: &Accounts,
     mechanism: Mechanism,
     hello: Hello,
-    dice: [u8; 18],
+    dice: [u8; DRAW],
 ) -> Result<(Challenged, Challenge), NoMemory>
     ensures exchange { IfOk result (λ made. made.0 ≡ exchange_of accounts.now mechanism hello dice) }
     ensures text { IfOk result (λ made. made.1 ≡ challenge_of made.0) }

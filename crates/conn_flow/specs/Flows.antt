@@ -31,7 +31,7 @@ use Rattle.conn_flow.specs.declared.phase.Phase.TheVariants.{LoggedIn, PullingOn
 use Rattle.conn_flow.specs.declared.talk.Talk.{Talk}
 use Rattle.conn_flow.specs.declared.want.Want.{Want}
 use Rattle.conn_flow.specs.declared.want.Want.TheVariants.{Say, Submit, NeedDice, Await, Finish}
-use Rattle.conn_flow.specs.Streams.{limits}
+use Rattle.stream_frames.specs.Limits.{limits}
 use Rattle.conn_flow.specs.Duties.{features_of, follows, id_of, stage_after, stage_for}
 
 -- a flow is what it reads and what it knows

@@ -1,12 +1,8 @@
 -- The items of a stream as its bytes come.
 use Rattle.std.specs.Prelude.{ℕ, List, [], ◌∷◌, ◌++◌, Option, Some, None}
 use Rattle.stream_grammar.specs.declared.item.Item.{Item}
-use Rattle.stream_grammar.specs.declared.item.Limits.{Limits}
 use Rattle.stream_grammar.specs.machine.Reading.{first_reading, waiting, went}
-
--- RFC 6120, 4.9.3.14 and 13.12: what a client's stream is held to
-abbrev pub limits : Limits
-limits = record { bytes = 65536; depth = 32; attrs = 64; canonical = 196608 }
+use Rattle.stream_frames.specs.Limits.{limits}
 
 -- The item that ends with the last of these bytes, or the fault that some of them has. What `went` gives is the item of the
 -- grammar that ends there, `IsItem`, or the first fault, `IsFault`: that is a law of the crate `stream_laws`.

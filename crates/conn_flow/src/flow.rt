@@ -12,7 +12,7 @@ use crate::phase::Phase;
 use crate::talk::Talk;
 use crate::want::Want;
 use account_book::Accounts;
-use conn_asks::{Ended, stream_id};
+use conn_asks::{DRAW, Ended, stream_id};
 use house_model::Reply;
 use jid_core::Part;
 use stanza_tree::{NoMemory, Several};
@@ -210,7 +210,7 @@ impl Flow {
     }
 
     /// The random bytes that were wanted.
-    pub fn gave(&mut self, dice: [u8; 18])
+    pub fn gave(&mut self, dice: [u8; DRAW])
         requires { self.old.talk.phase ≡ phase.Drawing }
         ensures { self.new ≡ record self.old { talk = gave_at self.old.talk dice } }
     {

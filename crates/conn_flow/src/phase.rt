@@ -1,6 +1,6 @@
 //! Where a flow stands.
 
-use conn_asks::{Ended, Failure};
+use conn_asks::{DRAW, Ended, Failure};
 
 /// What is next in a flow.
 #[derive(Clone, Copy, Debug, PartialEq, Eq)]
@@ -16,7 +16,7 @@ pub enum Phase {
     /// Random bytes are needed for the purpose.
     Drawing,
     /// Random bytes are there for it.
-    Drawn([u8; 18]),
+    Drawn([u8; DRAW]),
     /// The house is to be told the event.
     Entering,
     /// It was told, and is to answer. `pulls` says whether a pull follows.

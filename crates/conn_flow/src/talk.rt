@@ -13,7 +13,7 @@ ghost use Rattle.conn_flow.specs.Flows.{IsThere, Takes, asked_by, challenged_by,
 use crate::phase::Phase;
 use account_book::Accounts;
 use conn_asks::{
-    Asked, Ended, Exchanging, Failure, Purpose, Stage, ask_header, ask_login, ask_session,
+    Asked, DRAW, Ended, Exchanging, Failure, Purpose, Stage, ask_header, ask_login, ask_session,
     ask_stanza, challenge, push_challenge, push_invitation, push_refused_resource, push_success,
 };
 use house_model::Event;
@@ -24,8 +24,8 @@ use std::alloc::Global;
 use std::mem;
 use stream_grammar::Item;
 
-/// How many logins may fail on a connection.
-const MOST_FAILURES: u8 = 3;
+/// How many logins may fail on a connection: between 2 and 5 by RFC 6120, 6.4.5, so that a mistyped password costs no connection and guessing does.
+pub(crate) const MOST_FAILURES: u8 = 3;
 
 /// What a flow knows beside its bytes.
 pub struct Talk {
@@ -277,7 +277,7 @@ impl Talk {
         accounts: &Accounts,
         mechanism: Mechanism,
         first: Hello,
-        dice: [u8; 18],
+        dice: [u8; DRAW],
     ) -> Result<(), NoMemory>
         ensures { OnOk result (self.new ≡ record (challenged_by self.old (exchange_of accounts.now mechanism first dice)) { purpose = self.old.purpose }) }
     {
@@ -294,7 +294,7 @@ impl Talk {
         &mut self,
         alloc: Global,
         accounts: &Accounts,
-        dice: [u8; 18],
+        dice: [u8; DRAW],
     ) -> Result<(), NoMemory>
         requires { IsThere self.old.purpose }
         ensures { OnOk result (self.new ≡ drawn_if accounts.now self.old dice self.old.purpose) }
@@ -326,7 +326,7 @@ impl Talk {
 }
 
 /// The first sixteen of the bytes.
-fn first_of(dice: &[u8; 18]) -> [u8; 16]
+fn first_of(dice: &[u8; DRAW]) -> [u8; 16]
     ensures { result ≡ take 16 dice.now }
 {
     let mut first = [0u8; 16];

@@ -10,20 +10,17 @@ ghost use Rattle.conn_flow.specs.Flows.{hung_at, last_text, logged_by, ousts, re
 ghost use Rattle.conn_flow.specs.Flows.{told_login, told_once, told_pull, waited, wish, wished};
 
 use crate::phase::Phase;
-use crate::talk::Talk;
+use crate::talk::{MOST_FAILURES, Talk};
 use crate::want::Want;
-use conn_asks::{Ended, Exchanging, Failure, Stage, push_failure};
+use conn_asks::{DRAW, Ended, Exchanging, Failure, Stage, push_failure};
 use house_model::{Event, Reply};
 use jid_core::Part;
 use stanza_tree::{NoMemory, Several};
 use std::alloc::Global;
 use std::mem;
 
-/// How long a client may say nothing, in milliseconds: an hour.
+/// How long a client may say nothing, in milliseconds: an hour, after which its link is taken for dead (RFC 6120, 4.6).
 const IDLE: u64 = 3_600_000;
-
-/// How many logins may fail on a connection.
-const MOST_FAILURES: u8 = 3;
 
 fn bound(stage: Stage) -> Stage
     ensures { result ≡ bound stage }
@@ -205,7 +202,7 @@ impl Talk {
     }
 
     /// Random bytes were drawn.
-    pub(crate) fn give(&mut self, dice: [u8; 18])
+    pub(crate) fn give(&mut self, dice: [u8; DRAW])
         ensures { self.new ≡ gave_at self.old dice }
     {
         self.phase = Phase::Drawn(dice);

@@ -9,7 +9,7 @@ use stanza_tree::NoMemory;
 use std::alloc::Global;
 use std::marker::Model;
 
-/// How many bytes are read at once.
+/// How many bytes are read at once: a page, which most stanzas fit.
 const ROOM: usize = 4096;
 
 /// The bytes that were read and are still to be heard.

@@ -10,10 +10,7 @@ use house_model::{Event, Reply};
 use outside::Link;
 use std::sync::Wait;
 
-/// The most bytes of a frame, and so the room for it.
-pub(crate) const FRAME_ROOM: usize = 524_288;
-
-/// The most lines of a house.
+/// The most lines that the house notes, and so how often it is asked for one.
 const MOST_LINES: u32 = 1024;
 
 /// Enters an event of the pass's line: the reply, and in `frame` the text of a frame that was pulled, or nothing.

@@ -12,12 +12,13 @@ ghost use Rattle.conn_serve.specs.Serving.{Concluded, Gone, IsOpened, MarkedLeav
 
 use crate::converse::converse;
 use crate::ears::Ears;
-use crate::enter::{FRAME_ROOM, ring_stirred};
+use crate::enter::ring_stirred;
 use crate::turn::End;
 use account_book::Accounts;
 use conn_asks::Ended;
 use conn_flow::Flow;
 use hall::{Desk, DeskFault};
+use house_core::MOST_FRAME;
 use house_model::Reply;
 use jid_core::Part;
 use outside::{Clock, Dice, Filled, Link};
@@ -40,7 +41,7 @@ fn equip(
     let flow = Flow::new(alloc, line, domain, dice, moment)?;
     let ears = Ears::new(alloc)?;
     let mut frame = Vec::new(alloc);
-    frame.reserve(FRAME_ROOM)?;
+    frame.reserve(MOST_FRAME)?;
     Ok((flow, ears, frame))
 }
 

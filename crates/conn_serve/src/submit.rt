@@ -15,7 +15,7 @@ ghost use Rattle.conn_serve.specs.Serving.{Turned, marked_next, tale};
 use crate::enter::{enter, ring_stirred};
 use crate::speak::speak;
 use crate::turn::Next;
-use conn_asks::Ended;
+use conn_asks::{DRAW, Ended};
 use conn_flow::Flow;
 use hall::{Desk, DeskFault};
 use house_model::Event;
@@ -74,7 +74,7 @@ pub(crate) fn draw<I: Dice>(dice: &mut I, flow: &mut Flow) -> Next
         → Turned o (tale tape turns moments (I.drawn dice.old) faults ends (I.faults dice.old)) (duty o p)
         (tale tape turns moments (I.drawn dice.new) faults ends (I.faults dice.new)) flow.new ahead result }
 {
-    let mut bytes = [0u8; 18];
+    let mut bytes = [0u8; DRAW];
     match dice.fill(&mut bytes) {
         Filled::Full => {
             flow.gave(bytes);

@@ -64,7 +64,7 @@ fn attend<W: Wait, D: Desk, G: Door, C: Clock, I: Dice>(
 /// Serves the links of the post's door at the line of the pass, one after the other, until the door shuts or fails: each came without marks, went
 /// as a connection may and ended with a cause, and was given back. Where no turn was refused to the pass, its line gained one piece of turns for
 /// each link, and where the door tells its tapes each piece goes with its tape. What the pass has seen is legal, and all that is promised of legal
-/// histories holds of it. Never returns if the door hands out links for ever.
+/// histories holds of it. Never returns if the door hands out links for ever, or a link goes on for ever.
 pub fn work<W: Wait, D: Desk, G: Door, C: Clock, I: Dice>(
     rt: &W,
     alloc: Global,

@@ -105,7 +105,7 @@ where
 
 /// Serves the links of each post at a house, until each door shut or failed, in as many threads as there are posts. The posts come back, with the
 /// house as all left it, and `DoorFault` where a door failed; or as they were where there was no memory to begin. What each worker did stands in one
-/// legal history, for which the house stands. Never returns if a door hands out links for ever.
+/// legal history, for which the house stands. Never returns if a door hands out links for ever, or a link goes on for ever.
 pub fn serve_posts<
     R: Threads + Wait + Sync,
     G: Door + Send + Drop,

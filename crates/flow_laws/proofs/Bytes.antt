@@ -8,7 +8,8 @@ use Rattle.stream_grammar.specs.machine.Reading.{Reading, reads, stopped, first_
 use Rattle.stream_grammar.specs.machine.Reading.{taken_reading, is_done, is_stopped, is_ready, is_none, handed, waiting, went}
 use Rattle.stream_grammar.proofs.FeedLemmas.{piece_went}
 use Rattle.stream_laws.proofs.Handing.{went-more}
-use Rattle.conn_flow.specs.Streams.{limits, item_at, Cut, here_or, cut}
+use Rattle.stream_frames.specs.Limits.{limits}
+use Rattle.conn_flow.specs.Streams.{item_at, Cut, here_or, cut}
 use Rattle.flow_laws.specs.Standing.{IsRead}
 
 -- A reading at which nothing waits.

@@ -44,7 +44,8 @@ use Rattle.conn_asks.specs.Requests.{binding_of, binding_with, bind_space, heade
 use Rattle.conn_asks.specs.Logins.{sasl_of}
 use Rattle.conn_asks.specs.Asking.{Asks, AsksBinding, AsksCounting, AsksManagement, AsksResume, AsksSasl, AsksStanza}
 use Rattle.conn_asks.specs.Asking.{asked_binding, asked_header, asked_stanza, asked_verdict, is_own}
-use Rattle.conn_flow.specs.Streams.{limits, item_at}
+use Rattle.stream_frames.specs.Limits.{limits}
+use Rattle.conn_flow.specs.Streams.{item_at}
 use Rattle.flow_laws.specs.Standing.{IsFitAt, IsFitFor}
 
 -- A top element is proper, and within the limit on its canonical spelling.

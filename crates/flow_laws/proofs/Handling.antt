@@ -16,7 +16,8 @@ use Rattle.conn_flow.specs.declared.phase.Phase.{Phase}
 use Rattle.conn_flow.specs.declared.phase.Phase.TheVariants.{Resting, Heard, Saying, Refusing, Drawing, Drawn, Entering, Entered, LoggingIn}
 use Rattle.conn_flow.specs.declared.phase.Phase.TheVariants.{LoggedIn, PullingOnce, Pulling, Sweeping, Parting, Left}
 use Rattle.conn_flow.specs.declared.talk.Talk.{Talk}
-use Rattle.conn_flow.specs.Streams.{Cut, cut, limits}
+use Rattle.stream_frames.specs.Limits.{limits}
+use Rattle.conn_flow.specs.Streams.{Cut, cut}
 use Rattle.conn_flow.specs.Moves.{Takes}
 use Rattle.conn_flow.specs.Duties.{AsksIf, Due, Rest, Site, asked_due, numbered}
 use Rattle.conn_flow.specs.Following.{rest_due}

@@ -14,7 +14,7 @@ use Rattle.conn_asks.specs.StreamErrors.{error_of}
 use Rattle.conn_flow.specs.declared.phase.Phase.{Phase}
 use Rattle.conn_flow.specs.declared.phase.Phase.TheVariants.{PullingOnce}
 use Rattle.conn_flow.specs.declared.talk.Talk.{Talk}
-use Rattle.conn_flow.specs.Streams.{limits}
+use Rattle.stream_frames.specs.Limits.{limits}
 use Rattle.conn_flow.specs.Duties.{Site, Due, PullsOnce, Duty, end_due, error_due}
 use Rattle.conn_flow.specs.Following.{rest_due}
 use Rattle.conn_flow.specs.Flows.{IsLoaded, handled_phase, IsToldAll}

@@ -10,7 +10,7 @@ use Rattle.conn_asks.specs.declared.ended.Ended.TheVariants as ended
 use Rattle.conn_flow.specs.declared.phase.Phase.{Phase}
 use Rattle.conn_flow.specs.declared.phase.Phase.TheVariants.{Resting, Pulling, Parting}
 use Rattle.conn_flow.specs.declared.talk.Talk.{Talk}
-use Rattle.conn_flow.specs.Streams.{limits}
+use Rattle.stream_frames.specs.Limits.{limits}
 use Rattle.conn_flow.specs.Moves.{Hears, Waits, Hangs}
 use Rattle.conn_flow.specs.Duties.{Site, Rest, Pulls, ends}
 use Rattle.conn_flow.specs.Following.{GoesOn}

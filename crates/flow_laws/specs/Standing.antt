@@ -10,7 +10,7 @@ use Rattle.conn_flow.specs.declared.phase.Phase.{Phase}
 use Rattle.conn_flow.specs.declared.phase.Phase.TheVariants.{Resting, Heard, Saying, Refusing, Drawing, Drawn, Entering, Entered, LoggingIn}
 use Rattle.conn_flow.specs.declared.phase.Phase.TheVariants.{LoggedIn, PullingOnce, Pulling, Sweeping, Parting, Left}
 use Rattle.conn_flow.specs.declared.talk.Talk.{Talk}
-use Rattle.conn_flow.specs.Streams.{limits}
+use Rattle.stream_frames.specs.Limits.{limits}
 use Rattle.conn_flow.specs.Duties.{Site, Due, Rest, Text, Dice, Submits, LogsIn, PullsOnce, Pulls, Sweeps, Leaves, Duty, after_failure, drew, end_due, followed}
 use Rattle.conn_flow.specs.Following.{rest_due}
 use Rattle.conn_flow.specs.Flows.{State, IsLoaded, IsToldAll}

@@ -1,14 +1,11 @@
 //! Which lines may have something to pull, for those who serve them. Nothing is promised of it.
 
-use house_core::Stirred;
+use house_core::{LINES_A_WORD, STIRRED_WORDS, Stirred};
 use stanza_tree::NoMemory;
 use std::alloc::Global;
 use std::sync::atomic::{AtomicU64, Ordering};
 
-// How many words of 64 lines each there are, as the house gives them.
-const WORDS: u32 = 16;
-
-// How often a line of one word is asked for, where others take lines of it at the same time.
+// How often a line of one word is asked for, where others take lines of it at the same time: so a call ends whatever they do.
 const MOST_TRIES: u32 = 64;
 
 #[derive(Drop)]
@@ -20,7 +17,7 @@ impl Stirring {
     /// No line.
     pub(crate) fn new(alloc: Global) -> Result<Stirring, NoMemory> {
         let mut words = Vec::new(alloc);
-        for _number in 0..WORDS {
+        for _number in 0..STIRRED_WORDS {
             words.push(AtomicU64::new(0))?;
         }
         Ok(Stirring { words })
@@ -43,7 +40,7 @@ impl Stirring {
             if let Some(bit) = take_bit(word) {
                 return Some(first.saturating_add(bit));
             }
-            first = first.saturating_add(64);
+            first = first.saturating_add(LINES_A_WORD);
         }
         None
     }

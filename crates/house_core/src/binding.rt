@@ -28,9 +28,10 @@ use stanza_model::Effect;
 use stanza_tree::{NoMemory, Text};
 use std::alloc::Global;
 
-/// How many sessions one user may have, and all users together.
+/// How many sessions one user may have: more devices than anyone has.
 const MOST_OF_USER: usize = 16;
 
+/// How many sessions all users together may have: so many full queues take 2 GiB.
 const MOST_SESSIONS: usize = 512;
 
 const TO_BIND: Needs = Needs {

@@ -5,7 +5,6 @@ mod acking;
 mod acting;
 mod binding;
 mod counting;
-mod dice;
 mod ending;
 mod gate;
 pub mod house;
@@ -16,4 +15,4 @@ mod resuming;
 mod submit;
 
 pub use house::House;
-pub use house_world::Stirred;
+pub use house_world::{LINES_A_WORD, MOST_FRAME, STIRRED_WORDS, Stirred};

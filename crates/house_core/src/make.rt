@@ -4,11 +4,12 @@ ghost use Rattle.std.specs.Option.{option_copied};
 ghost use Rattle.jid_core.specs.Addresses.{address_text};
 ghost use Rattle.jid_core.specs.Preparation.{is_local};
 ghost use Rattle.house_model.specs.Answers.{answer_text};
-ghost use Rattle.house_model.specs.Steps.{hex, resource_or};
+ghost use Rattle.house_model.specs.Steps.{resource_or};
+ghost use Rattle.sm_resume.specs.Spelling.{hexadecimal};
 
-use crate::dice::hex_of;
 use house_model::Answer;
 use jid_core::{Jid, JidFault, Part};
+use sm_resume::digits_of;
 use stanza_tree::{NoMemory, Text};
 use std::alloc::Global;
 
@@ -19,11 +20,11 @@ fn no_memory(_fault: JidFault) -> NoMemory
     NoMemory
 }
 
-/// The resource that the dice give.
+/// The resource that the dice give: their 32 hexadecimal digits.
 fn drawn(alloc: Global, dice: &[u8; 16]) -> Result<Part, NoMemory>
-    ensures { IfOk result (λ p. p ≡ hex dice.now) }
+    ensures { IfOk result (λ p. p ≡ hexadecimal dice.now) }
 {
-    let digits = hex_of(alloc, dice)?;
+    let digits = digits_of(dice);
     match Part::resource(alloc, digits.as_slice()) {
         Ok(resource) => Ok(resource),
         Err(fault) => Err(no_memory(fault)),

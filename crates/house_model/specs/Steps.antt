@@ -1,5 +1,5 @@
 -- The events, each with its answer and what it does, once the gate has let it through. All is read off what the code keeps.
-use Rattle.std.specs.Prelude.{ℕ, ◌+◌, ◌/◌, ◌%◌, max, min, nat_lt, List, [], ◌∷◌, ◌++◌, map, slice_get, slice_index_or, flat_map}
+use Rattle.std.specs.Prelude.{ℕ, ◌+◌, max, min, nat_lt, List, [], ◌∷◌, ◌++◌, map, slice_get, slice_index_or}
 use Rattle.std.specs.Prelude.{bytes_eq, Option, Some, None, is_some, Bool, true, false, not, ◌&&◌, if◌then◌else◌}
 use Rattle.stanza_tree.specs.declared.frame.Entry.{Entry}
 use Rattle.stanza_tree.specs.Entries.{frame}
@@ -9,6 +9,7 @@ use Rattle.stanza_model.specs.declared.effect.Effect.TheVariants as effect
 use Rattle.stanza_model.specs.declared.effect.Change.{Change}
 use Rattle.stanza_model.specs.declared.effect.Change.TheVariants as change
 use Rattle.stanza_model.specs.declared.stanza.Stanza.{Stanza}
+use Rattle.sm_resume.specs.Spelling.{hexadecimal}
 use Rattle.sm_resume.specs.declared.decision.Cause.{Cause}
 use Rattle.sm_resume.specs.declared.decision.Cause.TheVariants.{Replaced, Lost}
 use Rattle.sm_resume.specs.declared.id.ResumeId.{ResumeId}
@@ -54,14 +55,8 @@ effect_of (effect.Queue s to rest origin) = On s (Push (record { to = to; rest =
 effect_of (effect.Set c) = set c
 
 -- Bind: RFC 6120, 7.6 and 7.7. The address is the user's, with the resource asked for or with the dice as 32 hexadecimal digits.
-abbrev pub hex_digit : ℕ → ℕ
-hex_digit n = if nat_lt n 10 then 48 + n else 87 + n
-
-abbrev pub hex : List ℕ → List ℕ
-hex bytes = flat_map (λ b. hex_digit (b / 16) ∷ hex_digit (b % 16) ∷ []) bytes
-
 abbrev pub resource_or : List ℕ → Option (List ℕ) → List ℕ
-resource_or dice None = hex dice
+resource_or dice None = hexadecimal dice
 resource_or dice (Some resource) = resource
 
 abbrev pub bound_address : Kept → (user : ℕ) → List ℕ → Address

@@ -21,7 +21,7 @@ use stanza_router::{Place, copy_to};
 use stanza_tree::{Element, NoMemory, frame_length, sent_length};
 use std::alloc::Global;
 
-/// The most bytes of a presence as it is sent.
+/// The most bytes of a presence as it is sent: it is kept, and shown to each session that becomes available.
 const MOST_OF_PRESENCE: u64 = 16_384;
 
 /// How long a presence is as it is sent, with its sender's address and its own; a number of 2^64 - 1 stands for any that is greater.

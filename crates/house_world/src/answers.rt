@@ -1,20 +1,22 @@
 //! The answers that wait at a line, and how they are spelt.
 ghost use Rattle.std.specs.Prelude.{◌≡◌, ◌≤◌, ◌<◌, ◌+◌, ◌++◌, ◌∷◌, [], IfOk, length, nat_le, vec_len, vec_capacity};
-ghost use Rattle.std.specs.Char.{digit_char};
 ghost use Rattle.std.specs.Fmt.{decimal};
 ghost use Rattle.std.specs.Option.{option_copied};
-ghost use Rattle.sm_resume.specs.Spelling.{hexadecimal, spelling};
+ghost use Rattle.sm_resume.specs.Spelling.{spelling};
 ghost use Rattle.house_model.specs.Answers.{answer_text, bound_text, counted_text, enabled_text, failed_text, refused_text, request_text, resumed_text};
 ghost use Rattle.house_world.specs.Oldest.{Gave};
 
 use house_model::Answer;
 use itoa::Buffer;
-use sm_resume::ResumeId;
+use sm_resume::{ResumeId, digits_of};
 use stanza_tree::{NoMemory, append, append_value, append_words};
 use std::alloc::Global;
 use std::marker::Model;
 
-/// How many answers may wait for a connection.
+/// The most bytes of a frame: of a stanza of 196,608 bytes with what is added to it, and of any answer.
+pub const MOST_FRAME: usize = 524_288;
+
+/// How many answers may wait for a connection: a client that asks for more reads what it was answered first.
 pub const MOST_ANSWERS: u32 = 8;
 
 /// The answers that wait, the oldest first. The room for them is taken once.
@@ -192,31 +194,8 @@ fn push_id(id: &ResumeId, out: &mut Vec<u8>)
 {
     push_decimal(id.session, out);
     append(b"-", out);
-    push_digits(&id.digits, out);
-}
-
-/// Two lower-case hexadecimal digits for each byte.
-#[tactic(auto, unfolding(sm_resume::specs::Spelling::hexadecimal))]
-fn push_digits(bytes: &[u8; 16], out: &mut Vec<u8>)
-    requires { vec_len out.old + length (hexadecimal bytes.now) ≤ vec_capacity out.old }
-    ensures bytes { out.new.items ≡ out.old.items ++ hexadecimal bytes.now }
-    ensures capacity { vec_capacity out.old ≤ vec_capacity out.new }
-{
-    for byte in bytes {
-        out.push_reserved(digit(*byte / 16));
-        out.push_reserved(digit(*byte % 16));
-    }
-}
-
-fn digit(value: u8) -> u8
-    requires { value < 16 }
-    ensures { result ≡ digit_char value }
-{
-    if value < 10 {
-        b'0' + value
-    } else {
-        b'a' + (value - 10)
-    }
+    let digits = digits_of(&id.digits);
+    append(&digits, out);
 }
 
 fn push_decimal(number: u64, out: &mut Vec<u8>)

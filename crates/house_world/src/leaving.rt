@@ -13,7 +13,7 @@ use crate::world::World;
 use session_table::Line;
 use sm_resume::Cause;
 
-/// How long a session that lost its connection can be resumed, in milliseconds.
+/// How long a session that lost its connection can be resumed, in milliseconds: the five minutes that the answer to `enable` tells (XEP-0198, 3).
 const PATIENCE: u64 = 300_000;
 
 impl World {

@@ -13,8 +13,8 @@ mod reserving;
 mod stirring;
 mod world;
 
-pub use answers::{Answers, MOST_ANSWERS, push_request};
+pub use answers::{Answers, MOST_ANSWERS, MOST_FRAME, push_request};
 pub use deeds::{given, inward};
 pub use lengths::{know_part, know_to};
-pub use stirring::Stirred;
+pub use stirring::{LINES_A_WORD, STIRRED_WORDS, Stirred};
 pub use world::World;

@@ -16,7 +16,7 @@ use stanza_model::{Change, Effect};
 use stanza_tree::NoMemory;
 use std::alloc::Global;
 
-/// A list of so many effects is looked through for each of them; of a longer one the sessions are sorted.
+/// A list of so many effects is looked through for each of them, which costs less than sorting so few; of a longer one the sessions are sorted.
 const FEW: usize = 16;
 
 fn reserve(session: &mut Session, entries: usize) -> Result<(), NoMemory>

@@ -5,6 +5,7 @@ ghost use Rattle.std.specs.Str.{str_to_ascii_lowercase};
 ghost use Rattle.jid_core.specs.AsciiParts.{is_local_byte, is_resource_byte, is_label_byte, has_stray_hyphen, is_label, are_labels};
 
 use crate::fault::NoMemory;
+use crate::prepare::MOST_LABEL;
 use std::alloc::Global;
 
 /// Whether all are characters of ASCII that a local part may have.
@@ -52,7 +53,10 @@ fn has_label_bytes(label: &[u8]) -> bool
 fn is_label(label: &[u8]) -> bool
     ensures { result ≡ is_label label.now }
 {
-    !label.is_empty() && label.len() < 64 && has_label_bytes(label) && !has_stray_hyphen(label)
+    !label.is_empty()
+        && label.len() <= MOST_LABEL
+        && has_label_bytes(label)
+        && !has_stray_hyphen(label)
 }
 
 /// Whether they are labels of letters, digits and hyphens, joined by dots.

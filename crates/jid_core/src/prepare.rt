@@ -166,10 +166,13 @@ fn ascii_form(alloc: Global, name: &[u8]) -> Result<String, Errors>
     Ok(text.into_owned(alloc)?)
 }
 
-/// Whether each label has 1 to 63 bytes (RFC 1035, 2.3.4).
+/// The most bytes of a label (RFC 1035, 2.3.4).
+pub(crate) const MOST_LABEL: usize = 63;
+
+/// Whether each label has a byte, and no more than may be.
 fn has_labels(name: &[u8]) -> bool
     ensures { result ≡ has_labels name.now }
 {
     name.split(|byte| *byte == b'.')
-        .all(|label| matches!(label.len(), 1..=63))
+        .all(|label| matches!(label.len(), 1..=MOST_LABEL))
 }

@@ -253,53 +253,54 @@ fn hi_sha1_of_rfc_6070(rt: HostRuntime) {
 }
 
 // The first 32 bytes of the two of RFC 7914, 11, and python3's for the cases of RFC 6070.
+const OF_RFC_7914: [HiCase; 7] = [
+    (
+        b"passwd",
+        b"salt",
+        1,
+        b"55ac046e56e3089fec1691c22544b605f94185216dde0465e68b9d57c20dacbc",
+    ),
+    (
+        b"Password",
+        b"NaCl",
+        80000,
+        b"4ddcd8f60b98be21830cee5ef22701f9641a4418d04c0414aeff08876b34ab56",
+    ),
+    (
+        b"password",
+        b"salt",
+        1,
+        b"120fb6cffcf8b32c43e7225256c4f837a86548c92ccc35480805987cb70be17b",
+    ),
+    (
+        b"password",
+        b"salt",
+        2,
+        b"ae4d0c95af6b46d32d0adff928f06dd02a303f8ef3c251dfd6e2d85a95474c43",
+    ),
+    (
+        b"password",
+        b"salt",
+        4096,
+        b"c5e478d59288c841aa530db6845c4c8d962893a001ce4e11a4963873aa98134a",
+    ),
+    (
+        LONG_PASSWORD,
+        LONG_SALT,
+        4096,
+        b"348c89dbcbd32b2f32d814b8116e84cf2b17347ebc1800181c4e2a1fb8dd53e1",
+    ),
+    (
+        &[0xaa; 65],
+        b"salt",
+        3,
+        b"1313359d5b82b96658b09646d0f293a3d8017e6cb124eb3b489766526adb30d0",
+    ),
+];
+
 #[test]
 fn hi_sha256_of_rfc_7914(rt: HostRuntime) {
-    let cases: [HiCase; 7] = [
-        (
-            b"passwd",
-            b"salt",
-            1,
-            b"55ac046e56e3089fec1691c22544b605f94185216dde0465e68b9d57c20dacbc",
-        ),
-        (
-            b"Password",
-            b"NaCl",
-            80000,
-            b"4ddcd8f60b98be21830cee5ef22701f9641a4418d04c0414aeff08876b34ab56",
-        ),
-        (
-            b"password",
-            b"salt",
-            1,
-            b"120fb6cffcf8b32c43e7225256c4f837a86548c92ccc35480805987cb70be17b",
-        ),
-        (
-            b"password",
-            b"salt",
-            2,
-            b"ae4d0c95af6b46d32d0adff928f06dd02a303f8ef3c251dfd6e2d85a95474c43",
-        ),
-        (
-            b"password",
-            b"salt",
-            4096,
-            b"c5e478d59288c841aa530db6845c4c8d962893a001ce4e11a4963873aa98134a",
-        ),
-        (
-            LONG_PASSWORD,
-            LONG_SALT,
-            4096,
-            b"348c89dbcbd32b2f32d814b8116e84cf2b17347ebc1800181c4e2a1fb8dd53e1",
-        ),
-        (
-            &[0xaa; 65],
-            b"salt",
-            3,
-            b"1313359d5b82b96658b09646d0f293a3d8017e6cb124eb3b489766526adb30d0",
-        ),
-    ];
-    for (password, salt, rounds, want) in cases {
+    for (password, salt, rounds, want) in OF_RFC_7914 {
         assert!(rt;
             spells(want, &hi_sha256(password, salt, rounds)),
             "{rounds} rounds"

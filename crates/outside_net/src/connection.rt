@@ -7,8 +7,8 @@ use mio::net::TcpStream;
 use std::io::{Error, ErrorKind, Read, Result, Write};
 use std::time::{Clock, Duration};
 
-// How long a writing waits: so many rounds of so many milliseconds, 30 seconds in all. A round that ends before the socket
-// has room, as at a signal, makes it shorter.
+// How long a writing waits: so many rounds of so many milliseconds, 30 seconds in all, so that a peer that reads nothing holds no worker
+// for ever. A round that ends before the socket has room, as at a signal, makes it shorter.
 const WRITE_ROUNDS: u32 = 30;
 
 const WRITE_WAIT: u64 = 1000;

@@ -8,7 +8,7 @@ use stanza_model::{Change, Condition, Effect, Here, PresenceForm, Stanza, refuse
 use stanza_tree::{Element, NoMemory, Several};
 use std::alloc::Global;
 
-/// The most addresses of a session's directed list.
+/// The most addresses of a session's directed list: each is looked for when the session goes.
 const MOST_DIRECTED: usize = 1000;
 
 /// What comes of directed presence of `who` (RFC 6121, 4.6.3). `receivers` are the sessions that its address names, and `list` is the

@@ -9,8 +9,10 @@ use Rattle.std.specs.Option.{option_and_then}
 use Rattle.jid_core.specs.Cuts.{before, after}
 use Rattle.sm_resume.specs.declared.id.ResumeId.{ResumeId}
 use Rattle.sm_resume.specs.Spelling.{IsResumeId, hexadecimal, spelling}
-use Rattle.replay_script.specs.Numbers.{number_of, dice_of, id_by, id_spelt}
-use Rattle.replay_script.proofs.NumberLemmas.{none-is, number-found, number-spelt, dice-found, dice-spelt}
+use Rattle.sm_resume.specs.Spelling.{number_of}
+use Rattle.replay_script.specs.Numbers.{dice_of, id_by, id_spelt}
+use Rattle.sm_resume.proofs.Numbers.{number-found, number-spelt}
+use Rattle.replay_script.proofs.NumberLemmas.{none-is, dice-found, dice-spelt}
 
 -- no digit is a dash
 no-dash : (d : ℕ) → (48 ≤ d) × (d ≤ 57) → (d == 45) ≡ false

@@ -8,7 +8,7 @@ use Rattle.stream_laws.proofs.Handing.{went-more}
 use Rattle.stream_laws.proofs.OneItem.{next_brought, one_next}
 use Rattle.replay_script.specs.Deeds.{Deed, Turned, Fed, Renewed, Streams, no_streams, streams_next, IsPrint, ArePrints, print_items}
 use Rattle.replay_script.specs.Deeds.{Framers, framers_next, item_in, items_of, print_deed, prints_from, prints}
-use Rattle.replay_script.specs.Stanzas.{limits}
+use Rattle.stream_frames.specs.Limits.{limits}
 
 -- The items of bytes, where what waited before them was handed out.
 

@@ -22,7 +22,8 @@ use Rattle.stream_grammar.proofs.FeedLemmas.{piece_went}
 use Rattle.stream_laws.proofs.Handing.{went-more}
 use Rattle.stream_laws.proofs.ProperItems.{top_proper}
 use Rattle.house_model.specs.Histories.{StanzaFits}
-use Rattle.replay_script.specs.Stanzas.{limits, fed, client_header, in_client_stream, begins_with_tag, item_of}
+use Rattle.stream_frames.specs.Limits.{limits}
+use Rattle.replay_script.specs.Stanzas.{fed, client_header, in_client_stream, begins_with_tag, item_of}
 use Rattle.stream_grammar.specs.machine.Reading.{Reading, first_reading, went, taken, reads, stopped, is_ready, handed, reading_next, reading_after}
 use Rattle.stream_grammar.specs.machine.Reading.{waiting, concluded, or_else, fault_if, is_past, extent_after, byte_judged}
 use Rattle.stream_grammar.specs.grammar.Bounds.{rules_of, is_large, is_large_item, told_number}

@@ -14,7 +14,8 @@ use Rattle.stream_grammar.specs.declared.item.Limits.{Limits}
 use Rattle.stream_grammar.specs.machine.Reading.{Reading, first_reading, reading_next, reading_after, handed, is_done, taken, taken_reading, waiting, went}
 use Rattle.stream_grammar.proofs.FeedLemmas.{piece_went}
 use Rattle.stream_laws.proofs.OneItem.{one_read, one_taken}
-use Rattle.replay_script.specs.Stanzas.{limits, client_header, in_client_stream, begins_with_tag, top_in, item_of, element_of, IsStanzaText}
+use Rattle.stream_frames.specs.Limits.{limits}
+use Rattle.replay_script.specs.Stanzas.{client_header, in_client_stream, begins_with_tag, top_in, item_of, element_of, IsStanzaText}
 use Rattle.replay_script.proofs.StanzaLemmas.{take_whole}
 
 -- The header is taken whole: no byte before its last ends an item or has a fault.

@@ -7,7 +7,7 @@ use Rattle.stream_grammar.specs.machine.Reading.{Reading, reads, stopped, first_
 use Rattle.replay_script.specs.declared.step.Step.{Step}
 use Rattle.replay_script.specs.declared.step.Step.TheVariants as step
 use Rattle.replay_script.specs.Prints.{print_item, print_outcome}
-use Rattle.replay_script.specs.Stanzas.{limits}
+use Rattle.stream_frames.specs.Limits.{limits}
 use Rattle.stream_laws.specs.ItemLists.{AreNext}
 
 -- a turn of the house, bytes fed to the framer of a connection's place, or that framer begun again

@@ -13,7 +13,8 @@ use Rattle.replay_script.specs.declared.step.Step.{Step}
 use Rattle.replay_script.specs.declared.step.Step.TheVariants as step
 use Rattle.replay_script.specs.Characters.{is_token}
 use Rattle.replay_script.specs.Notices.{notice_of}
-use Rattle.replay_script.specs.Numbers.{number_of, line_number_of, count_in, dice_of, id_spelt, bytes_of}
+use Rattle.sm_resume.specs.Spelling.{number_of}
+use Rattle.replay_script.specs.Numbers.{line_number_of, count_in, dice_of, id_spelt, bytes_of}
 use Rattle.replay_script.specs.Readings.{on, cut}
 use Rattle.replay_script.specs.Stanzas.{stanza_in}
 

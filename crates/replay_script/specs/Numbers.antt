@@ -7,15 +7,10 @@ use Rattle.std.specs.Fmt.{decimal}
 use Rattle.std.specs.Str.Parse.{digits_value}
 use Rattle.hex.specs.Hex.{decode_of}
 use Rattle.hex.specs.declared.error.FromHexError.{FromHexError}
-use Rattle.sm_resume.specs.Spelling.{hexadecimal}
+use Rattle.sm_resume.specs.Spelling.{hexadecimal, number_of}
 use Rattle.sm_resume.specs.declared.id.ResumeId.{ResumeId}
 use Rattle.std.specs.Option.{option_and_then}
 use Rattle.jid_core.specs.Cuts.{before, after}
-
--- the number below 2^64 that is written so in decimal, without leading zeros
-unfoldable pub number_of : List ℕ → Option ℕ
-number_of text =
-    if nat_lt (digits_value 10 text) (2 ^ 64) && bytes_eq (decimal (digits_value 10 text)) text then Some (digits_value 10 text) else None
 
 abbrev pub below : ℕ → Option ℕ → Option ℕ
 below most None = None

@@ -9,13 +9,9 @@ use Rattle.stream_grammar.specs.machine.Reading.{Reading, first_reading, reading
 use Rattle.stream_grammar.specs.grammar.Bounds.{rules_of}
 use Rattle.stream_grammar.specs.declared.item.Item.{Item}
 use Rattle.stream_grammar.specs.declared.item.Item.TheVariants as item
-use Rattle.stream_grammar.specs.declared.item.Limits.{Limits}
+use Rattle.stream_frames.specs.Limits.{limits}
 use Rattle.stream_laws.specs.ItemLists.{AreNext}
 use Rattle.replay_script.specs.Readings.{on}
-
--- what every stream is held to
-abbrev pub limits : Limits
-limits = record { bytes = 65536; depth = 32; attrs = 64; canonical = 196608 }
 
 -- a reading once bytes were fed to it, up to the first that ends an item or has a fault
 abbrev pub fed : Reading → List ℕ → Reading

@@ -9,13 +9,14 @@ ghost use Rattle.replay_script.specs.Readings.{Gives};
 use crate::fault::LineFault;
 use crate::fields::{first_field, is_token};
 use crate::notice::read_notice;
-use crate::numbers::{read_count, read_decimal, read_dice, read_line_number, read_resume_id};
+use crate::numbers::{read_count, read_dice, read_line_number, read_resume_id};
 use house_model::Event;
 use jid_core::Part;
+use sm_resume::read_number;
 use stanza_tree::Text;
 use std::alloc::Global;
 
-/// How many bytes the id of a request may have.
+/// How many bytes the id of a request may have: as many as an item of a stream.
 const MOST_ID: usize = 65_536;
 
 /// The event of a line by its word and what stands after it.
@@ -68,7 +69,7 @@ fn read_going(word: &[u8], rest: &[u8]) -> Option<Event>
 {
     let (w, t) = first_field(rest)?;
     let w = read_line_number(w)?;
-    let t = read_decimal(t)?;
+    let t = read_number(t)?;
     if word == b"drop".as_slice() {
         return Some(Event::DropLine { w, t });
     }
@@ -113,7 +114,7 @@ fn read_resume(rest: &[u8]) -> Option<Event>
     let (w, rest) = first_field(rest)?;
     let w = read_line_number(w)?;
     let (t, rest) = first_field(rest)?;
-    let t = read_decimal(t)?;
+    let t = read_number(t)?;
     let (h, token) = first_field(rest)?;
     let h = read_count(h)?;
     if !is_token(token) {
@@ -147,7 +148,7 @@ fn read_pull(rest: &[u8]) -> Option<Event>
 {
     let (w, t) = first_field(rest)?;
     let w = read_line_number(w)?;
-    let t = read_decimal(t)?;
+    let t = read_number(t)?;
     Some(Event::Pull { w, t })
 }
 
@@ -205,7 +206,7 @@ fn read_bind(alloc: Global, rest: &[u8]) -> Result<Event, LineFault>
     let (w, rest) = first_field(rest).ok_or(LineFault::Bad)?;
     let w = read_line_number(w).ok_or(LineFault::Bad)?;
     let (t, rest) = first_field(rest).ok_or(LineFault::Bad)?;
-    let t = read_decimal(t).ok_or(LineFault::Bad)?;
+    let t = read_number(t).ok_or(LineFault::Bad)?;
     let (dice, rest) = first_field(rest).ok_or(LineFault::Bad)?;
     let dice = read_dice(dice).ok_or(LineFault::Bad)?;
     let (id, resource) = first_field(rest).ok_or(LineFault::Bad)?;
@@ -227,7 +228,7 @@ fn read_note(alloc: Global, rest: &[u8]) -> Result<Event, LineFault>
     let (w, rest) = first_field(rest).ok_or(LineFault::Bad)?;
     let w = read_line_number(w).ok_or(LineFault::Bad)?;
     let (t, rest) = first_field(rest).ok_or(LineFault::Bad)?;
-    let t = read_decimal(t).ok_or(LineFault::Bad)?;
+    let t = read_number(t).ok_or(LineFault::Bad)?;
     let (address, words) = first_field(rest).ok_or(LineFault::Bad)?;
     let stanza = read_notice(alloc, address, words)?;
     Ok(Event::Act { w, stanza, t })

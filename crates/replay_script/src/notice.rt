@@ -11,7 +11,7 @@ use stanza_model::{MessageForm, Stanza};
 use stanza_tree::{Attr, Element, Name, NoMemory, Node, Several, Text, TextFault, length};
 use std::alloc::Global;
 
-/// How many canonical bytes a stanza may have.
+/// How many canonical bytes a stanza may have: as many as one of a stream.
 const MOST_STANZA: u64 = 196_608;
 
 /// `<message to='ADDRESS' type='headline'><body>WORDS</body></message>`. Costs the bytes of both.

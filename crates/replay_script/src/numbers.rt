@@ -2,7 +2,7 @@
 ghost use Rattle.std.specs.Prelude.{◌≡◌, IfSome, ◌<◌};
 ghost use Rattle.std.specs.Char.{is_ascii_uppercase};
 ghost use Rattle.std.specs.List.{list_any};
-ghost use Rattle.replay_script.specs.Numbers.{number_of, line_number_of, count_in, dice_of, id_spelt, may_be_bytes, bytes_of};
+ghost use Rattle.replay_script.specs.Numbers.{line_number_of, count_in, dice_of, id_spelt, may_be_bytes, bytes_of};
 ghost use Rattle.replay_script.specs.Readings.{Gives};
 
 use crate::fault::LineFault;
@@ -11,21 +11,14 @@ use sm_resume::{ResumeId, read_digits, read_number};
 use stanza_tree::Several;
 use std::alloc::Global;
 
-/// How many lines for connections a house may have.
+/// How many lines for connections a house may have: those that it notes.
 pub(crate) const MOST_WORKERS: u64 = 1024;
-
-/// A decimal without leading zeros, below 2^64.
-pub(crate) fn read_decimal(field: &[u8]) -> Option<u64>
-    ensures { result ≡ number_of field.now }
-{
-    read_number(field)
-}
 
 /// The number of a line for a connection, below 1024.
 pub(crate) fn read_line_number(field: &[u8]) -> Option<u32>
     ensures { result ≡ line_number_of field.now }
 {
-    let number = read_decimal(field)?;
+    let number = read_number(field)?;
     if number < MOST_WORKERS {
         Some(number as u32)
     } else {
@@ -37,7 +30,7 @@ pub(crate) fn read_line_number(field: &[u8]) -> Option<u32>
 pub(crate) fn read_count(field: &[u8]) -> Option<u32>
     ensures { result ≡ count_in field.now }
 {
-    u32::try_from(read_decimal(field)?).ok()
+    u32::try_from(read_number(field)?).ok()
 }
 
 /// Sixteen bytes as 32 lower-case hexadecimal digits.

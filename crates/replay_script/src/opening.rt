@@ -9,16 +9,17 @@ ghost use Rattle.replay_script.specs.Readings.{Gives};
 use crate::event::read_user;
 use crate::fault::LineFault;
 use crate::fields::first_field;
-use crate::numbers::{MOST_WORKERS, read_decimal};
+use crate::numbers::MOST_WORKERS;
 use crate::step::Step;
 use jid_core::{Jid, Part, cut_at};
+use sm_resume::read_number;
 use stanza_tree::Several;
 use std::alloc::Global;
 
 /// How many bytes the domain may have (1,023 with `rooms.` in front of it).
 const MOST_DOMAIN: usize = 1017;
 
-/// How many users there may be.
+/// How many users there may be: as many as a house takes.
 const MOST_USERS: usize = 4096;
 
 /// The house of a first line by what stands after its word. Costs the square of the number of users.
@@ -41,7 +42,7 @@ pub(crate) fn read_house(alloc: Global, rest: &[u8]) -> Result<Step, LineFault>
 fn read_workers(field: &[u8]) -> Option<u32>
     ensures { result ≡ workers_of field.now }
 {
-    let number = read_decimal(field)?;
+    let number = read_number(field)?;
     if 0 < number && number <= MOST_WORKERS {
         Some(number as u32)
     } else {

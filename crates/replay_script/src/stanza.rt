@@ -5,19 +5,21 @@ ghost use Rattle.stream_grammar.specs.grammar.Proper.{IsProper};
 ghost use Rattle.house_model.specs.Histories.{StanzaFits};
 ghost use Rattle.replay_script.specs.Lines.{StepFits, stanza_line_of};
 ghost use Rattle.replay_script.specs.Readings.{Gives};
-ghost use Rattle.replay_script.specs.Stanzas.{limits, client_header, in_client_stream, begins_with_tag, item_of, element_of, stanza_in};
+ghost use Rattle.stream_frames.specs.Limits.{limits};
+ghost use Rattle.replay_script.specs.Stanzas.{client_header, in_client_stream, begins_with_tag, item_of, element_of, stanza_in};
 
 use crate::fault::LineFault;
 use crate::fields::first_field;
-use crate::numbers::{read_decimal, read_line_number};
+use crate::numbers::read_line_number;
 use crate::step::Step;
 use house_model::Event;
+use sm_resume::read_number;
 use stanza_model::Stanza;
 use stanza_tree::{Element, NoMemory};
 use std::alloc::Global;
 use stream_frames::{Framer, Item, LIMITS};
 
-/// How many bytes the text of a stanza may have.
+/// How many bytes the text of a stanza may have: as many as an item of a stream.
 const MOST_XML: usize = 65_536;
 
 /// The step of a `stanza` line by what stands after its word.
@@ -28,7 +30,7 @@ pub(crate) fn read_stanza(alloc: Global, rest: &[u8]) -> Result<Step, LineFault>
     let (w, rest) = first_field(rest).ok_or(LineFault::Bad)?;
     let w = read_line_number(w).ok_or(LineFault::Bad)?;
     let (t, xml) = first_field(rest).ok_or(LineFault::Bad)?;
-    let t = read_decimal(t).ok_or(LineFault::Bad)?;
+    let t = read_number(t).ok_or(LineFault::Bad)?;
     let stanza = stanza_in(alloc, xml)?;
     Ok(Step::Event(Event::Act { w, stanza, t }))
 }

@@ -12,10 +12,10 @@ use stanza_model::{Condition, Contact, MOST_CONTACTS, MOST_ROSTER_BYTES, counted
 use stanza_tree::{NoMemory, Text};
 use std::alloc::Global;
 
-/// The most bytes of a name, and of a group.
+/// The most bytes of a name, and of a group: as many as a part of an address has (RFC 7622, 3.2).
 const MOST_BYTES: usize = 1023;
 
-/// The most groups of a contact.
+/// The most groups of a contact: so that one contact takes a third of a roster at most.
 const MOST_GROUPS: usize = 64;
 
 /// The condition by which a set is refused, if it is.

@@ -186,13 +186,20 @@ fn is_nonce_byte(byte: u8) -> bool
     matches!(byte, 0x21..=0x2B | 0x2D..=0x7E)
 }
 
-// After the first byte of a nonce. It has at most 256 bytes in a client's first text, and 512 in its last.
+// How many bytes of a nonce may follow its first in a client's first text: RFC 5802 sets no limit, and 256 bytes are far more than
+// clients draw.
+const MORE_IN_FIRST: u16 = 255;
+
+// And in its last, where the server's part follows the client's.
+const MORE_IN_LAST: u16 = 511;
+
+// After the first byte of a nonce.
 fn begun_nonce(message: Message) -> Stage
     ensures { result ≡ stage.Nonce message (further_limit message) }
 {
     match message {
-        Message::First => Stage::Nonce(message, 255),
-        Message::Last => Stage::Nonce(message, 511),
+        Message::First => Stage::Nonce(message, MORE_IN_FIRST),
+        Message::Last => Stage::Nonce(message, MORE_IN_LAST),
     }
 }
 

@@ -11,7 +11,7 @@ use Rattle.stream_grammar.specs.machine.Reading.{Reading, reads, stopped, readin
 use Rattle.stream_grammar.specs.machine.Reading.{handed, is_ready, is_none, is_done, went, waiting}
 use Rattle.replay_script.specs.Deeds.{item_in, items_of, print_items}
 use Rattle.replay_script.specs.Prints.{print_item}
-use Rattle.replay_script.specs.Stanzas.{limits}
+use Rattle.stream_frames.specs.Limits.{limits}
 use Rattle.script_play.specs.Feeding.{FedOn}
 use Rattle.script_play.proofs.StreamLemmas.{ready_handed, went_on}
 

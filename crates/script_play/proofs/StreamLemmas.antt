@@ -9,7 +9,7 @@ use Rattle.house_model.specs.States.{State, Kept}
 use Rattle.stream_grammar.specs.declared.item.Item.{Item}
 use Rattle.stream_grammar.specs.machine.Reading.{Reading, reads, stopped, first_reading, reading_next, handed, is_ready, is_none, went}
 use Rattle.replay_script.specs.Deeds.{with_framer}
-use Rattle.replay_script.specs.Stanzas.{limits}
+use Rattle.stream_frames.specs.Limits.{limits}
 use Rattle.script_play.specs.declared.place.Place.{Place}
 use Rattle.script_play.specs.Streams.{reading_at, framers_of}
 

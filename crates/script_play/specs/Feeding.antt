@@ -2,7 +2,7 @@
 use Rattle.std.specs.Prelude.{◌≡◌, ℕ, List, ◌++◌, drop}
 use Rattle.stream_grammar.specs.machine.Reading.{Reading, handed, went}
 use Rattle.replay_script.specs.Deeds.{items_of, print_items}
-use Rattle.replay_script.specs.Stanzas.{limits}
+use Rattle.stream_frames.specs.Limits.{limits}
 
 -- Some of these bytes lead a framer from a reading to another, and what is printed from the one list to the other: with the rest of the bytes
 -- it comes to the same as with all of them from the beginning.

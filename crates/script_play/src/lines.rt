@@ -7,11 +7,12 @@ use outside::{Got, Source};
 use stanza_tree::NoMemory;
 use std::marker::Model;
 
-/// How many bytes a line may have, without its line feed.
+/// How many bytes a line may have, without its line feed: two digits for each byte of an item of a stream, and more.
 const MOST_LINE: usize = 200_000;
-/// How many bytes a script may have.
+/// How many bytes a script may have, 1 GiB: so it has far fewer lines than the house counts turns.
 const MOST_SCRIPT: u64 = 1_073_741_824;
 
+/// How many bytes one reading asks for: a page.
 const PIECE: usize = 4096;
 
 /// What came of reading a line.

@@ -2,7 +2,7 @@
 ghost use Rattle.std.specs.Prelude.{◌≡◌, ◌≤◌, ◌<◌, ◌++◌, length, true, IfOk, OnOk};
 ghost use Rattle.stream_grammar.specs.machine.Reading.{first_reading, handed, is_ready, went};
 ghost use Rattle.replay_script.specs.Deeds.{items_of, print_items};
-ghost use Rattle.replay_script.specs.Stanzas.{limits};
+ghost use Rattle.stream_frames.specs.Limits.{limits};
 ghost use Rattle.script_play.specs.Feeding.{FedOn};
 
 use replay_script::print_item;

@@ -16,14 +16,11 @@ use crate::lines::{Reader, Taken};
 use crate::output::write_all;
 use crate::status::Status;
 use crate::streams::Streams;
-use house_core::House;
+use house_core::{House, MOST_FRAME};
 use house_model::Event;
 use outside::{Sink, Source};
 use replay_script::{LineFault, Step, print_reply, read_line};
 use std::alloc::Global;
-
-/// How many bytes a frame may have.
-const MOST_FRAME: usize = 524_288;
 
 /// Plays a script. Memory is taken for the house, for one line and for one frame. Costs the script and what is printed.
 pub fn replay<S: Source, K: Sink>(alloc: Global, source: &mut S, sink: &mut K) -> Status

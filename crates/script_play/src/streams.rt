@@ -2,7 +2,7 @@
 ghost use Rattle.std.specs.Prelude.{◌≡◌, ◌<◌, ◌≤◌, ◌++◌, length, IfOk, OnOk};
 ghost use Rattle.stream_grammar.specs.machine.Reading.{Reading, first_reading, handed, went};
 ghost use Rattle.replay_script.specs.Deeds.{no_framers, with_framer, items_of, print_items};
-ghost use Rattle.replay_script.specs.Stanzas.{limits};
+ghost use Rattle.stream_frames.specs.Limits.{limits};
 ghost use Rattle.script_play.specs.Streams.{framers_of};
 
 use crate::place::Place;

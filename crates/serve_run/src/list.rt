@@ -8,7 +8,7 @@ use outside::{Got, Source};
 use script_play::Status;
 use std::alloc::Global;
 
-/// How many bytes one reading of the list asks for.
+/// How many bytes one reading of the list asks for: a page.
 const PIECE: usize = 4096;
 
 /// No list of accounts is longer.

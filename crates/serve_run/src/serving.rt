@@ -242,7 +242,7 @@ where
 
 /// Serves clients: reads the list of accounts from the source, to its end or past 8,388,608 bytes; opens the ports at 127.0.0.1; serves what comes,
 /// until each door handed out its connections or failed; and prints `links L turns T`: how many connections came, and how many turns the house
-/// took. Never returns if a door hands out links for ever.
+/// took. Never returns if a door hands out links for ever, or a link goes on for ever.
 ///
 /// `Accounts` tells the first line at fault. `ReadFault`, `WriteFault` and `ListenFault` come only where the source, the sink, or the ports and their
 /// doors count a fault; what listens is given back to the ports in any case. At `WriteFault` the server ran to its end and a front of the line is

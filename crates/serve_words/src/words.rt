@@ -155,7 +155,7 @@ const MOST_PORT: u64 = 65_535;
 /// How many workers there may be: each has a thread, and serves one connection at a time.
 const MOST_WORKERS: u64 = 64;
 
-/// How many connections a worker may be told to serve.
+/// How many connections a worker may be told to serve: more is for ever, which is what it does where it isn't told.
 const MOST_CONNECTIONS: u64 = 1_000_000;
 
 /// What the values that clap read ask for.

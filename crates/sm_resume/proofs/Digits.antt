@@ -1,12 +1,14 @@
 -- Bytes and their hexadecimal digits.
 use Rattle.std.proofs.Common.{◌≡◌, ℕ, zero, suc, ◌+◌, ◌*◌, ◌/◌, ◌%◌, ◌<◌, List, [], ◌∷◌, ◌++◌, length, take}
-use Rattle.std.proofs.Common.{get_or, slice_set, arith, refl, sym, ap, ◌∙◌, append_assoc}
+use Rattle.std.proofs.Common.{get_or, slice_set, slice_index, Bool, true, ◌&&◌, ◌==◌, inl, inr, arith, refl, sym, ap, ◌∙◌, append_assoc}
 use Rattle.std.proofs.Math.ListN.{length-set}
+use Rattle.std.proofs.lemmas.Bool.{and_parts, cases_lt, eqb-true}
 use Rattle.std.proofs.Math.Seq.{take-suc}
 use Rattle.std.proofs.lemmas.Grind.{same_number_lists}
 use Rattle.std.proofs.lemmas.List.{take_more_set}
 use Rattle.std.proofs.lemmas.Str.{digit_value-digit_char}
 use Rattle.std.specs.Char.{digit_char, digit_value}
+use Rattle.hex.specs.Hex.{encode_with, lower_digits}
 use Rattle.sm_resume.specs.Spelling.{AreDigits, hexadecimal}
 
 pub length-hexadecimal : (bytes : List ℕ) → length (hexadecimal bytes) ≡ 2 * length bytes
@@ -109,3 +111,31 @@ hexadecimal_step digits text i high low within more small other spelt first seco
     ∙ (sym (ap (λ n. take (2 * i) text ++ get_or text (2 * i) 0 ∷ get_or text n 0 ∷ []) next)
     ∙ (sym (two_more text (2 * i) (omega arith))
     ∙ sym (ap (λ (n : ℕ). take n text) place)))))))))
+
+-- The table of the digits has that of each half of a byte, as a test of its places shows.
+
+abbrev has_digit : ℕ → Bool
+has_digit half = slice_index lower_digits half == digit_char half
+
+abbrev has_digits : ℕ → Bool
+has_digits zero = true
+has_digits (suc n) = has_digit n && has_digits n
+
+has_digit-below : (n half : ℕ) → has_digits n ≡ true → half < n → has_digit half ≡ true
+has_digit-below zero half all small = absurd (omega arith)
+has_digit-below (suc n) half all small =
+    let parts = and_parts (has_digit n) (has_digits n) all in
+    elim (cases_lt half n) [
+      | inl below ↦ has_digit-below n half parts.1 below
+      | inr top ↦ (let same : half ≡ n = omega arith in rw same parts.0)
+    ]
+
+digit-listed : (half : ℕ) → half < 16 → slice_index lower_digits half ≡ digit_char half
+digit-listed half small = eqb-true (slice_index lower_digits half) (digit_char half) (has_digit-below 16 half refl small)
+
+pub encoded : (bytes : List ℕ) → ((k : ℕ) → get_or bytes k 0 < 256) → encode_with lower_digits bytes ≡ hexadecimal bytes
+unfolding hexadecimal encode_with
+encoded [] small = refl
+encoded (byte ∷ bytes) small =
+    let first : byte < 256 = small 0 in
+    rw (digit-listed (byte / 16) (omega arith), digit-listed (byte % 16) (omega arith), encoded bytes (λ k. small (suc k))) refl

@@ -1,8 +1,10 @@
 -- How a resumption id is spelt. XEP-0198, 3, leaves the text of an id to the server; here it is the
 -- number of the session, a dash, and the digits that make it hard to guess.
-use Rattle.std.specs.Prelude.{◌≡◌, ◌≢◌, ℕ, ◌/◌, ◌%◌, ◌^◌, ◌<◌, ◌≤◌, ◌⊎◌, List, [], ◌∷◌, ◌++◌, length, slice_index}
+use Rattle.std.specs.Prelude.{◌≡◌, ◌≢◌, ℕ, ◌/◌, ◌%◌, ◌^◌, ◌<◌, ◌≤◌, ◌⊎◌, nat_lt, ◌&&◌, List, [], ◌∷◌, ◌++◌, length, slice_index}
+use Rattle.std.specs.Prelude.{bytes_eq, Option, Some, None, if◌then◌else◌}
 use Rattle.std.specs.Char.{digit_char}
 use Rattle.std.specs.Fmt.{decimal}
+use Rattle.std.specs.Str.Parse.{digits_value}
 use Rattle.sm_resume.specs.declared.id.ResumeId.{ResumeId}
 
 -- Sixteen bytes.
@@ -23,6 +25,11 @@ hexadecimal (byte ∷ bytes) = digit_char (byte / 16) ∷ digit_char (byte % 16)
 -- The session number in decimal without leading zeros, a dash (45), and the hexadecimal digits.
 unfoldable pub spelling : ResumeId → List ℕ
 spelling id = decimal id.session ++ 45 ∷ hexadecimal id.digits
+
+-- The number below 2^64 that is written so in decimal, without leading zeros.
+unfoldable pub number_of : List ℕ → Option ℕ
+number_of text =
+    if nat_lt (digits_value 10 text) (2 ^ 64) && bytes_eq (decimal (digits_value 10 text)) text then Some (digits_value 10 text) else None
 
 -- A byte that ids are spelt with: the dash, a decimal digit (48 to 57) or a letter from a to f (97 to
 -- 102).

@@ -3,7 +3,7 @@
 ghost use Rattle.std.specs.Prelude.{◌≡◌, ◌^◌, ◌<◌, ◌≤◌, ◌++◌, ℕ, List, length, slice_index, Some, IfSome, IsTrue, ◌↔◌, OnOk, OnErr};
 ghost use Rattle.std.specs.Char.{digit_char};
 ghost use Rattle.std.specs.Fmt.{decimal};
-ghost use Rattle.sm_resume.specs.Spelling.{AreDigits, IsPlain, IsResumeId, hexadecimal, spelling};
+ghost use Rattle.sm_resume.specs.Spelling.{AreDigits, IsPlain, IsResumeId, hexadecimal, number_of, spelling};
 
 use std::alloc::AllocError;
 use std::str;
@@ -47,13 +47,15 @@ impl ResumeId {
     {
         let alloc = *out.allocator();
         let mut text = format!(in alloc; "{}-", self.session)?.into_bytes();
-        push_digits(&self.digits, &mut text)?;
+        let digits = digits_of(&self.digits);
+        text.extend_from_slice(&digits)?;
         out.extend_from_slice(text.as_slice())
     }
 }
 
 /// The number that a text spells in decimal without leading zeros. None exactly where it spells none of 64 bits.
 pub fn read_number(text: &[u8]) -> Option<u64>
+    ensures number { result ≡ number_of text.now }
     ensures spelt { IfSome result (λ n. decimal n ≡ text.now) }
     ensures found { (n : ℕ) → n < 2 ^ 64 → decimal n ≡ text.now → result ≡ Some n }
 {
@@ -107,26 +109,12 @@ fn half(digit: u8) -> Option<u8>
     }
 }
 
-// The lower-case hexadecimal digit of half a byte.
-fn digit_of(half: u8) -> u8
-    requires { half < 16 }
-    ensures { result ≡ digit_char half }
+/// The 32 lower-case hexadecimal digits of sixteen bytes.
+pub fn digits_of(bytes: &[u8; 16]) -> [u8; 32]
+    ensures { result ≡ hexadecimal bytes.now }
 {
-    if half < 10 {
-        b'0' + half
-    } else {
-        b'a' + (half - 10)
-    }
-}
-
-// Appends two digits for each byte. On a failure some may have been appended.
-#[tactic(auto, unfolding(crate::specs::Spelling::hexadecimal))]
-fn push_digits(bytes: &[u8; 16], text: &mut Vec<u8>) -> Result<(), NoMemory>
-    ensures { OnOk result (text.new.items ≡ text.old.items ++ hexadecimal bytes.now) }
-{
-    for byte in bytes {
-        text.push(digit_of(byte / 16))?;
-        text.push(digit_of(byte % 16))?;
-    }
-    Ok(())
+    let mut text = [0u8; 32];
+    // There is room for two digits a byte, so it can't fail.
+    let _ = hex::encode_to_slice(bytes, &mut text);
+    text
 }

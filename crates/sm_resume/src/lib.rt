@@ -9,4 +9,4 @@ mod id;
 pub mod laws;
 
 pub use decision::{Cause, Decision, Facts, decide};
-pub use id::{NoMemory, ResumeId, read_digits, read_number};
+pub use id::{NoMemory, ResumeId, digits_of, read_digits, read_number};

@@ -9,10 +9,10 @@ use crate::shared::{Contact, Subscription};
 use stanza_tree::{Element, NoMemory, length};
 use std::alloc::Global;
 
-/// The most contacts of a roster.
+/// The most contacts of a roster: each change of it looks at all of them.
 pub const MOST_CONTACTS: usize = 1000;
 
-/// The most bytes of the items of a roster, each as `counted` counts it.
+/// The most bytes of the items of a roster, each as `counted` counts it: so its answer fits a frame.
 pub const MOST_ROSTER_BYTES: u64 = 196_608;
 
 /// The bytes by which an item is longer where it stands alone: ` xmlns='jabber:iq:roster'`.

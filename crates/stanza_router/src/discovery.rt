@@ -29,7 +29,7 @@ const PING_SPACE: &str = "urn:xmpp:ping";
 /// The namespace of rooms (XEP-0045).
 const ROOMS_SPACE: &str = "http://jabber.org/protocol/muc";
 
-/// The most bytes of all items of an answer.
+/// The most bytes of all items of an answer: so it fits a frame.
 const MOST_ITEMS: u64 = 196_608;
 
 /// What an entity answers, or why not.

@@ -23,11 +23,20 @@ use std::alloc::Global;
 use stream_grammar::Binding;
 use stream_lex::Token;
 
+/// The most bytes of a character (RFC 3629, 3).
+const MOST_OF_CHARACTER: usize = 4;
+
+/// The most bytes that a byte can bring: up to four characters that were held back.
+const MOST_OF_BYTE: usize = 16;
+
+/// How many bytes a name begins with room for: those of most names.
+const USUAL_NAME: usize = 16;
+
 /// A vector of one byte, with room for the rest of a short name.
 pub(crate) fn one_byte(alloc: Global, byte: u8) -> Result<Vec<u8>, NoMemory>
     ensures { IfOk result (λ v. v.items ≡ byte ∷ []) }
 {
-    let mut bytes = Vec::with_capacity(alloc, 16)?;
+    let mut bytes = Vec::with_capacity(alloc, USUAL_NAME)?;
     bytes.push(byte)?;
     Ok(bytes)
 }
@@ -204,7 +213,7 @@ impl Builder {
                 Ok(Ready::AttributeByte(byte))
             }
             Token::Value(c) => {
-                self.value.reserve(4)?;
+                self.value.reserve(MOST_OF_CHARACTER)?;
                 Ok(Ready::ValueChar(c))
             }
             Token::ValueEnds => {
@@ -212,7 +221,7 @@ impl Builder {
                 Ok(Ready::ValueEnd)
             }
             Token::Word(_) => {
-                self.words.reserve(4)?;
+                self.words.reserve(MOST_OF_CHARACTER)?;
                 Ok(Ready::Words)
             }
             Token::TagEnds { empty: false } => self.ready_for_start(),
@@ -242,7 +251,7 @@ impl Builder {
             [] => Ok(Ready::Nothing),
             [token] => self.ready_for(*token),
             _ => {
-                self.words.reserve(16)?;
+                self.words.reserve(MOST_OF_BYTE)?;
                 Ok(Ready::Words)
             }
         }

@@ -27,9 +27,10 @@ const VALUE_SLOT: usize = 0;
 // word: the passes that looked before may still draw, and they are fewer than 2^32.
 const MOST_TURNS: u64 = 1 << 63;
 
-// A pass for which at most so many turns come first looks again at once, so many times; then it sleeps.
+// A pass for which at most so many turns come first looks again at once, which costs less than to sleep and be woken.
 const FEW_TURNS: u64 = 2;
 
+// So often: a turn that is over sooner was worth the looks. Then it sleeps.
 const MOST_LOOKS: u32 = 1000;
 
 /// A value under a lock that gives it out for one turn at a time.

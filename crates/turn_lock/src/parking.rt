@@ -6,7 +6,7 @@ use std::sync::Wait;
 use std::sync::atomic::{AtomicU64, Ordering};
 use std::time::Duration;
 
-// How many spots there are. Tickets that differ by a multiple of it share one.
+// How many spots there are: as many as a server has workers, so that a wake wakes one. Tickets that differ by a multiple of it share one.
 const SPOTS: u64 = 64;
 
 // The longest sleep, in milliseconds. Each turn that comes wakes those at its spot, so this only bounds

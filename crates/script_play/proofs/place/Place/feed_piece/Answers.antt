@@ -3,7 +3,7 @@ use Rattle.std.specs.Option.{is_some}
 use Rattle.std.specs.Prelude.{None, Some, true}
 use Rattle.stream_frames.specs.Fed.{Fed}
 use Rattle.stream_grammar.specs.machine.Reading.{Reading, handed, is_ready, waiting}
-use Rattle.replay_script.specs.Stanzas.{limits}
+use Rattle.stream_frames.specs.Limits.{limits}
 use Rattle.script_play.proofs.PieceLemmas.{piece_fed, piece_stopped, item_printed, none_printed}
 use Rattle.script_play.proofs.place.Place.feed_piece.Goals as goal
 

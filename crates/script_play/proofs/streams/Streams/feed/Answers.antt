@@ -1,7 +1,7 @@
 use Rattle.std.proofs.Common.{ap, ◌∙◌}
 use Rattle.std.specs.Prelude.{Some}
 use Rattle.stream_grammar.specs.machine.Reading.{Reading, handed, went}
-use Rattle.replay_script.specs.Stanzas.{limits}
+use Rattle.stream_frames.specs.Limits.{limits}
 use Rattle.script_play.specs.Streams.{framers_of}
 use Rattle.script_play.proofs.StreamLemmas.{place_set}
 use Rattle.script_play.proofs.streams.Streams.feed.Goals as goal
