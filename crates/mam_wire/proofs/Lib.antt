@@ -1,0 +1,9 @@
+pub mod AskLemmas
+pub mod CauseLemmas
+pub mod DayLemmas
+pub mod FilterLemmas
+pub mod MomentExamples
+pub mod MomentLemmas
+pub mod QueryExamples
+pub mod QueryLemmas
+pub mod Utf8Lemmas

@@ -1,0 +1,9 @@
+pub mod Answers
+pub mod Asks
+pub mod Faults
+pub mod Filters
+pub mod Forms
+pub mod Moments
+pub mod Queries
+pub mod Results
+pub mod Stamps

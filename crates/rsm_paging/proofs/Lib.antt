@@ -1,0 +1,4 @@
+pub mod PageExamples
+pub mod PageLemmas
+pub mod RiseLemmas
+pub mod WalkLemmas
