@@ -38,5 +38,6 @@ def cost(binary, users):
     return (whole - bare) / PAIRS
 
 
-for users in map(int, sys.argv[2:] or ["16", "200"]):
-    print("%d sessions: %.0f instructions a pair" % (users, cost(sys.argv[1], users)))
+if __name__ == "__main__":
+    for users in map(int, sys.argv[2:] or ["16", "200"]):
+        print("%d sessions: %.0f instructions a pair" % (users, cost(sys.argv[1], users)))

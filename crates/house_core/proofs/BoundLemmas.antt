@@ -29,9 +29,11 @@ use Rattle.house_core.specs.declared.gate.Pass as pass
 use Rattle.house_core.specs.Gates.{Passes}
 use Rattle.house_core.specs.Bindings.{begun_in, replaced_by, replaced_in}
 use Rattle.house_core.specs.Houses.{held}
+use Rattle.house_world.specs.Hosting.{Hosts}
 use Rattle.house_world.specs.Wholes.{IsTied, IsFew}
 use Rattle.house_world.specs.Worlds.{Did, Ends, KeepsLogged, seen}
 use Rattle.house_core.proofs.CallLemmas.{house}
+use Rattle.house_world.proofs.CastLemmas.{hosts_same}
 use Rattle.house_world.proofs.DidLemmas.{did_none, did_then}
 use Rattle.house_core.proofs.EndsLemmas.{ends_by}
 use Rattle.house_world.proofs.ActLemmas.{some_kept}
@@ -70,6 +72,10 @@ logged_is Empty is = absurd (cc)
 logged_is (Fresh c) is = absurd (cc)
 logged_is (Bound c s) is = absurd (cc)
 logged_is (Over c cause) is = absurd (cc)
+
+-- an answer that waits leaves the rooms as they are
+pub said_hosts : (w : ℕ) (answer : Answer) (a b : code.World) → Did (At w (Say answer) ∷ []) 0 a b → Hosts a.rooms b.rooms
+said_hosts w answer a b did = hosts_same a.rooms b.rooms (ap (λ (x : World KeptTraffic). x.rooms) did.world)
 
 pub refused_ends : (k : Kept) (w c : ℕ) (a : Address) (id : List ℕ) (old new : code.World) → has_place k a ≡ false
     → Did (At w (Say (answer.Refused id)) ∷ []) 0 old new
@@ -126,7 +132,7 @@ room_then w address answer a b d same did =
 -- the session of an address, as the table finds it
 pub found_in : (a : code.World) (address : Address) → IsTied a.table → Rises 0 a.table.sessions a.table.made
     → session_in (seen a) address ≡ number_at address a.table.sessions
-found_in a address tied rises = at_is (some_kept (seen a) 0) address a.table a.answers.items a.book.book tied rises refl
+found_in a address tied rises = at_is (some_kept (seen a) 0) address a.table a.answers.items a.book.book a.rooms tied rises refl
 
 replaces_is : (k : Kept) (o : Option ℕ) → replaced_by k.world o ≡ replaces k o
 replaces_is k None = refl

@@ -1,4 +1,5 @@
 pub mod GateLemmas
+pub mod CalmLemmas
 pub mod CallLemmas
 pub mod AnswerLemmas
 pub mod EndsLemmas

@@ -26,7 +26,9 @@ use Rattle.house_core.specs.Logins.{Enters}
 use Rattle.house_world.specs.Wholes.{AreUsers, IsFew, IsTied}
 use Rattle.house_core.specs.Wholes.{IsWhole}
 use Rattle.house_world.specs.Worlds.{Did, seen}
+use Rattle.house_core.proofs.CalmLemmas.{IsCalm, calm_rooms}
 use Rattle.house_core.proofs.CallLemmas.{house}
+use Rattle.house_world.proofs.CastLemmas.{hosts_same}
 use Rattle.house_world.proofs.WorldLemmas.{few_later}
 use Rattle.house_world.proofs.BookLemmas.{book_same}
 
@@ -89,10 +91,10 @@ waits_enters k w users user p r a b d same pass moved enters =
 
 -- the house after it
 pub whole_enters : (domain : Address) (users : List (List ℕ)) (turns moment : ℕ) (a b : code.World) (e : Event) (r : Reply)
-    → IsWhole domain.domain users turns moment a.table a.answers.items a.book
-    → Enters (verdict (turn e (held (house domain users turns moment a))) e) (length users) r a b
-    → IsWhole domain.domain users (turns + 1) moment b.table b.answers.items b.book
-whole_enters domain users turns moment a b e r whole enters = record {
+    → IsWhole domain.domain users turns moment a.table a.answers.items a.book a.rooms
+    → Enters (verdict (turn e (held (house domain users turns moment a))) e) (length users) r a b → IsCalm e
+    → IsWhole domain.domain users (turns + 1) moment b.table b.answers.items b.book b.rooms
+whole_enters domain users turns moment a b e r whole enters calm = record {
   prepared = whole.prepared;
   differ = whole.differ;
   few = whole.few;
@@ -106,6 +108,9 @@ whole_enters domain users turns moment a b e r whole enters = record {
   rosters =
       subst (AreKept domain.domain) (sym (ap (λ (x : World KeptTraffic). x.book) enters.world))
       (event_keeps (turn e (held (house domain users turns moment a))) e whole.rosters);
+  hosted =
+      hosts_same a.rooms b.rooms (calm_rooms (turn e (held (house domain users turns moment a))) e a b calm enters.world)
+      turns whole.hosted;
 }
 
 pub state_enters : (domain : Address) (users : List (List ℕ)) (turns moment many : ℕ) (a b : code.World) (e : Event) (r : Reply)

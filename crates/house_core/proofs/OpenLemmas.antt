@@ -8,6 +8,7 @@ use Rattle.house_model.specs.declared.answer.Answer.{Answer}
 use Rattle.house_model.specs.States.{opening, keep, empty_line}
 use Rattle.contact_table.specs.Books.{empty_book, Book}
 use Rattle.contact_table.specs.Tables.{BookRecord}
+use Rattle.muc_service.specs.Rooms.{Rooms, no_rooms}
 use Rattle.std.specs.List.{list_all}
 use Rattle.jid_core.specs.Names.{are_distinct}
 use Rattle.jid_core.specs.Preparation.{is_local}
@@ -34,6 +35,7 @@ new_house domain users workers spare book = record {
   table = new_table workers spare;
   answers = replicate workers [];
   book = book;
+  rooms = no_rooms;
 }
 
 line_empty : (workers spare w : ℕ) → lines_of (new_table workers spare) (replicate workers []) w ≡ empty_line
@@ -46,6 +48,7 @@ new_held domain users workers spare book none = λ i. record {
   world = record {
     opened = 0;
     book = none i;
+    rooms = no_rooms;
     lines = λ w. line_empty workers spare w i;
     made = 0;
     sessions = (keep (opening domain users workers)).world.sessions;
@@ -53,11 +56,12 @@ new_held domain users workers spare book none = λ i. record {
 }
 
 pub held_new : (domain domain' : Address) (users users' : List (List ℕ)) (workers : ℕ) (t : TableRecord) (answers : List (List Answer)) (book : BookRecord)
-    → domain' ≡ domain → users' ≡ users → t ≡ new_table workers t.spare → answers ≡ replicate workers [] → book.book ≡ empty_book
-    → held (record { domain = domain'; users = users'; turns = 0; moment = 0; table = t; answers = answers; book = book })
+    (rooms : Rooms) → domain' ≡ domain → users' ≡ users → t ≡ new_table workers t.spare → answers ≡ replicate workers [] → book.book ≡ empty_book
+    → rooms ≡ no_rooms
+    → held (record { domain = domain'; users = users'; turns = 0; moment = 0; table = t; answers = answers; book = book; rooms = rooms })
     ≡ keep (opening domain users workers)
-held_new domain domain' users users' workers t answers book named known lines none empty =
-    (λ i. held (record { domain = named i; users = known i; turns = 0; moment = 0; table = lines i; answers = none i; book = book }))
+held_new domain domain' users users' workers t answers book rooms named known lines none empty without =
+    (λ i. held (record { domain = named i; users = known i; turns = 0; moment = 0; table = lines i; answers = none i; book = book; rooms = without i }))
     ∙ new_held domain users workers t.spare book empty
 
 -- all that is true of a house is true of it
@@ -69,7 +73,7 @@ no_session x is = absurd (cc)
 
 fresh_whole : (domain : List ℕ) (users : List (List ℕ)) (workers spare : ℕ) (book : BookRecord) → list_all is_local users ≡ true
     → are_distinct users ≡ true → length users ≤ 4096 → book.domain ≡ domain → book.book ≡ empty_book
-    → IsWhole domain users 0 0 (new_table workers spare) (replicate workers []) book
+    → IsWhole domain users 0 0 (new_table workers spare) (replicate workers []) book no_rooms
 fresh_whole domain users workers spare book prepared differ few served empty = record {
   prepared = prepared;
   differ = differ;
@@ -91,12 +95,15 @@ fresh_whole domain users workers spare book prepared differ few served empty = r
   served = served;
   names = subst (λ (k : Book). AreShortNames k.asked) (sym empty) tt;
   rosters = subst (AreKept domain) (sym empty) (none_kept domain);
+  hosted = record { made = omega arith; stays = omega arith; items = omega arith; numbered = tt; short = tt };
 }
 
 pub new_whole : (domain : List ℕ) (users : List (List ℕ)) (workers : ℕ) (t : TableRecord) (answers : List (List Answer)) (book : BookRecord)
-    → list_all is_local users ≡ true → are_distinct users ≡ true → length users ≤ 4096 → t ≡ new_table workers t.spare → answers ≡ replicate workers []
-    → book.domain ≡ domain → book.book ≡ empty_book → IsWhole domain users 0 0 t answers book
-new_whole domain users workers t answers book prepared differ few lines none served empty =
-    subst (λ (u : TableRecord). IsWhole domain users 0 0 u answers book) (sym lines)
-    (subst (λ (xs : List (List Answer)). IsWhole domain users 0 0 (new_table workers t.spare) xs book) (sym none)
-    (fresh_whole domain users workers t.spare book prepared differ few served empty))
+    (rooms : Rooms) → list_all is_local users ≡ true → are_distinct users ≡ true → length users ≤ 4096 → t ≡ new_table workers t.spare
+    → answers ≡ replicate workers []
+    → book.domain ≡ domain → book.book ≡ empty_book → rooms ≡ no_rooms → IsWhole domain users 0 0 t answers book rooms
+new_whole domain users workers t answers book rooms prepared differ few lines none served empty without =
+    subst (λ (u : TableRecord). IsWhole domain users 0 0 u answers book rooms) (sym lines)
+    (subst (λ (xs : List (List Answer)). IsWhole domain users 0 0 (new_table workers t.spare) xs book rooms) (sym none)
+    (subst (λ (r : Rooms). IsWhole domain users 0 0 (new_table workers t.spare) (replicate workers []) book r) (sym without)
+    (fresh_whole domain users workers t.spare book prepared differ few served empty)))

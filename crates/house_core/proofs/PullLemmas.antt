@@ -57,7 +57,7 @@ given_did : (w : ℕ) (a : code.World) (now : List Answer) → IsTied a.table �
     → now ≡ drop 1 (get_or a.answers.items w [])
     → Did (At w Said ∷ []) 0 a (record a { answers = with_item a.answers w now })
 given_did w a now tied low is = record {
-  world = world_said a.table a.answers.items a.book.book w now (drop 1 (get_or a.answers.items w [])) low is;
+  world = world_said a.table a.answers.items a.book.book a.rooms w now (drop 1 (get_or a.answers.items w [])) low is;
   tied = tied;
   known = λ many users. users;
   few = λ turns few. few_later turns (turns + 0) a.table few (omega arith);
@@ -70,7 +70,7 @@ given_did w a now tied low is = record {
 same_did : (w : ℕ) (a : code.World) (now : List Answer) → IsTied a.table → now ≡ get_or a.answers.items w []
     → Did [] 0 a (record a { answers = with_item a.answers w now })
 same_did w a now tied is = record {
-  world = ap (λ (xs : List (List Answer)). world_of a.table xs a.book.book) (ap (set a.answers.items w) is ∙ set-get_or a.answers.items w []);
+  world = ap (λ (xs : List (List Answer)). world_of a.table xs a.book.book a.rooms) (ap (set a.answers.items w) is ∙ set-get_or a.answers.items w []);
   tied = tied;
   known = λ many users. users;
   few = λ turns few. few_later turns (turns + 0) a.table few (omega arith);

@@ -4,6 +4,7 @@ use Rattle.jid_core.specs.Addresses.{Address}
 use Rattle.session_table.specs.Tables.{TableRecord}
 use Rattle.house_model.specs.declared.answer.Answer.{Answer}
 use Rattle.contact_table.specs.Tables.{BookRecord}
+use Rattle.muc_service.specs.Rooms.{Rooms}
 use Rattle.house_model.specs.States.{Kept}
 use Rattle.house_world.specs.Views.{world_of}
 
@@ -15,10 +16,11 @@ pub record HouseRecord : Type 0 where
   pub table : TableRecord
   pub answers : List (List Answer)  -- those that wait at each line, the oldest first
   pub book : BookRecord  -- what is kept of users
+  pub rooms : Rooms
 
 -- what the definitions see of a house
 abbrev pub held : HouseRecord → Kept
 held h = record {
   head = record { domain = h.domain; users = h.users; workers = length h.table.lines; turns = h.turns; moment = h.moment };
-  world = world_of h.table h.answers h.book.book;
+  world = world_of h.table h.answers h.book.book h.rooms;
 }

@@ -6,6 +6,7 @@ ghost use Rattle.house_model.specs.Steps.{last_moment, verdict};
 ghost use Rattle.house_model.specs.Histories.{StandsFor, StanzaFits, Turn, ended, kept_step, passed};
 ghost use Rattle.roster_laws.specs.Keeping.{AreKept};
 ghost use Rattle.house_core.specs.Houses.{held};
+ghost use Rattle.house_world.specs.Hosting.{AreHosted, Hosts};
 ghost use Rattle.house_world.specs.Keeping.{AreShortNames};
 ghost use Rattle.house_world.specs.Wholes.{IsFew, IsTied};
 ghost use Rattle.house_world.specs.Worlds.{Did, Ends, seen};
@@ -26,7 +27,7 @@ const TO_ACT: Needs = Needs {
     answers: false,
 };
 
-/// The stanza of a connection, once it is checked: its effects are made, the memory is taken that they need, and they are applied.
+/// The stanza of a connection, once it is checked: its effects are made and cast, the memory is taken that they need, and they are carried out.
 fn act_at(
     world: &mut World,
     alloc: Global,
@@ -44,18 +45,20 @@ fn act_at(
     requires domain { world.old.book.domain ≡ domain.now.domain }
     requires names { AreShortNames world.old.book.book.asked }
     requires rosters { AreKept domain.now.domain world.old.book.book }
+    requires hosted { AreHosted (2 ^ 63 + 2 ^ 62) world.old.rooms }
     requires fits { StanzaFits stanza.now }
     ensures done { IfOk result (λ reply. (k : Kept) → k.world ≡ seen world.old → k.head.moment ≡ moment
         → k.head.domain ≡ domain.now → k.head.users ≡ users.now → (t : ℕ)
         → Ends (verdict k (Event.Act w stanza.now t)) 1 reply world.old world.new) }
+    ensures hosts { OnOk result (Hosts world.old.rooms world.new.rooms) }
     ensures refused { OnErr result (Did [] 0 world.old world.new) }
 {
     match check(world, &TO_ACT, w, moment) {
         Pass::Stop(reply) => Ok(reply),
         Pass::Holds { session, .. } => {
-            let effects = effects_of(world, alloc, &domain.domain, users, session, stanza)?;
-            world.prepare(effects.as_slice())?;
-            world.carry_out(session, effects);
+            let cast = effects_of(world, alloc, &domain.domain, users, session, stanza)?;
+            world.prepare(cast.effects.as_slice())?;
+            world.carry_out(session, cast);
             Ok(Reply::Done)
         }
         _ => Ok(Reply::Unready),
@@ -89,7 +92,8 @@ impl House {
     }
 
     /// The connection sends a stanza, which goes where its address says (RFC 6120, 10; RFC 6121, 8.5). Costs the size of the stanza and of
-    /// what it queues; a message for a user's bare address looks at each session. Where memory is wanting only the count of turns changes.
+    /// what it queues; a message for a user's bare address looks at each session, and what changes a room copies it. Where memory is
+    /// wanting only the count of turns changes.
     pub fn act(&mut self, w: u32, stanza: &Stanza, t: u64) -> Result<Reply, NoMemory>
         requires line { w < length self.old.table.lines }
         requires turns { self.old.turns < 2 ^ 63 + 2 ^ 62 }

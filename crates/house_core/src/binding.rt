@@ -1,5 +1,5 @@
 //! The binding of a resource (RFC 6120, section 7).
-ghost use Rattle.std.specs.Prelude.{◌≡◌, ℕ, ◌+◌, ◌-◌, ◌^◌, ◌<◌, ◌≤◌, ◌++◌, ◌∷◌, [], List, length, true, slice_index_or, IfOk, OnErr, OnOk};
+ghost use Rattle.std.specs.Prelude.{◌≡◌, ℕ, ◌+◌, ◌-◌, ◌^◌, ◌<◌, ◌≤◌, ◌++◌, ◌∷◌, [], List, length, true, slice_index_or, unwrap_or, IfOk, OnErr, OnOk};
 ghost use Rattle.std.specs.Option.{option_copied};
 ghost use Rattle.session_table.specs.Tables.{Rises, conn_of, is_logged, line_of};
 ghost use Rattle.jid_core.specs.Addresses.{address_text};
@@ -12,6 +12,7 @@ ghost use Rattle.house_model.specs.Steps.{binds, has_place};
 ghost use Rattle.house_model.specs.declared.event.Event.{Event};
 ghost use Rattle.house_core.specs.Bindings.{begun_in, replaced_in, told_in};
 ghost use Rattle.house_core.specs.Houses.{held};
+ghost use Rattle.house_world.specs.Hosting.{AreHosted, Hosts, IsCast};
 ghost use Rattle.house_world.specs.Readiness.{AreNotable, AreReady};
 ghost use Rattle.house_world.specs.Wholes.{IsFew, IsTied};
 ghost use Rattle.house_world.specs.Worlds.{Did, Ends, KeepsLogged, seen};
@@ -21,7 +22,7 @@ use crate::house::House;
 use crate::make::{make_address, make_bound};
 use house_model::{Answer, Reply};
 use house_routing::departure;
-use house_world::World;
+use house_world::{Cast, World};
 use jid_core::{Jid, Part};
 use sm_resume::Cause;
 use stanza_model::Effect;
@@ -64,28 +65,34 @@ fn has_place(world: &World, address: &Jid) -> bool
 }
 
 // What others are told of the session of an address, where there is one: the next one replaces it.
-fn replaced(world: &World, alloc: Global, address: &Jid) -> Result<Vec<Effect>, NoMemory>
+fn replaced(world: &World, alloc: Global, address: &Jid) -> Result<Cast, NoMemory>
     requires tied { IsTied world.now.table }
-    ensures told { IfOk result (λ told. told.items ≡ told_in (seen world.now) address.now) }
-    ensures short { IfOk result (λ told. AreSmall told.items) }
+    requires hosted { AreHosted (2 ^ 63 + 2 ^ 62) world.now.rooms }
+    ensures told { IfOk result (λ told. IsCast (told_in (seen world.now) address.now) world.now.rooms told) }
+    ensures short { IfOk result (λ told. AreSmall told.effects.items) }
+    ensures hosts { IfOk result (λ told. Hosts world.now.rooms (unwrap_or told.rooms world.now.rooms)) }
 {
     let _ = world.table.session(0);
     match world.table.at(address) {
         Some(s) => departure(world, alloc, s),
-        None => Ok(Vec::new(alloc)),
+        None => Ok(Cast {
+            effects: Vec::new(alloc),
+            rooms: None,
+        }),
     }
 }
 
 // The session of an address departs, where there is one.
-fn replace(world: &mut World, address: &Jid, told: Vec<Effect>)
+fn replace(world: &mut World, address: &Jid, told: Cast)
     requires answered { length world.old.answers.items ≡ length world.old.table.lines }
     requires tied { IsTied world.old.table }
     requires small { IsFew (2 ^ 64 - 5001) world.old.table }
-    requires told { told.items ≡ told_in (seen world.old) address.now }
-    requires ready { AreReady told.items world.old.table }
-    requires short { AreSmall told.items }
-    requires places { AreNotable told.items world.old.book }
+    requires told { IsCast (told_in (seen world.old) address.now) world.old.rooms told }
+    requires ready { AreReady told.effects.items world.old.table }
+    requires short { AreSmall told.effects.items }
+    requires places { AreNotable told.effects.items world.old.book }
     ensures did { Did (replaced_in (seen world.old) address.now) 0 world.old world.new }
+    ensures rooms { world.new.rooms ≡ unwrap_or told.rooms world.old.rooms }
     ensures others { KeepsLogged world.old world.new }
     ensures room { world.old.table.spare ≤ world.new.table.spare }
 {
@@ -97,7 +104,7 @@ fn replace(world: &mut World, address: &Jid, told: Vec<Effect>)
 }
 
 // A session of an address begins at a line, and the client is told.
-fn settle(world: &mut World, w: u32, address: Jid, answer: Answer, told: Vec<Effect>)
+fn settle(world: &mut World, w: u32, address: Jid, answer: Answer, told: Cast)
     requires line { w < length world.old.table.lines }
     requires answered { length world.old.answers.items ≡ length world.old.table.lines }
     requires tied { IsTied world.old.table }
@@ -106,11 +113,12 @@ fn settle(world: &mut World, w: u32, address: Jid, answer: Answer, told: Vec<Eff
     requires few { length (slice_index_or world.old.answers.items w []) < 8 }
     requires room { 0 < world.old.table.spare }
     requires answer { length (answer_text answer) ≤ 524288 }
-    requires told { told.items ≡ told_in (seen world.old) address }
-    requires ready { AreReady told.items world.old.table }
-    requires short { AreSmall told.items }
-    requires places { AreNotable told.items world.old.book }
-    ensures { Did (begun_in (seen world.old) w (conn_of (line_of w world.old.table)) address answer) 1 world.old world.new }
+    requires told { IsCast (told_in (seen world.old) address) world.old.rooms told }
+    requires ready { AreReady told.effects.items world.old.table }
+    requires short { AreSmall told.effects.items }
+    requires places { AreNotable told.effects.items world.old.book }
+    ensures did { Did (begun_in (seen world.old) w (conn_of (line_of w world.old.table)) address answer) 1 world.old world.new }
+    ensures rooms { world.new.rooms ≡ unwrap_or told.rooms world.old.rooms }
 {
     replace(world, &address, told);
     world.begin(w, address);
@@ -138,14 +146,16 @@ fn bind_at(world: &mut World, w: u32, address: Jid, id: &Text) -> Result<(), NoM
     requires logged { is_logged (line_of w world.old.table) ≡ true }
     requires few { length (slice_index_or world.old.answers.items w []) < 8 }
     requires id { IdFits id.now }
+    requires hosted { AreHosted (2 ^ 63 + 2 ^ 62) world.old.rooms }
     ensures done { OnOk result (Did (begun_in (seen world.old) w (conn_of (line_of w world.old.table)) address
         (Answer.Bound id.now (address_text address))) 1 world.old world.new) }
+    ensures hosts { OnOk result (Hosts world.old.rooms world.new.rooms) }
     ensures refused { OnErr result (Did [] 0 world.old world.new) }
 {
     let alloc = *world.answers.allocator();
     let answer = make_bound(alloc, &address, id)?;
     let told = replaced(world, alloc, &address)?;
-    make_room(world, told.as_slice())?;
+    make_room(world, told.effects.as_slice())?;
     settle(world, w, address, answer, told);
     Ok(())
 }
@@ -159,8 +169,10 @@ fn bind(world: &mut World, w: u32, address: Jid, id: &Text) -> Result<Reply, NoM
     requires logged { is_logged (line_of w world.old.table) ≡ true }
     requires few { length (slice_index_or world.old.answers.items w []) < 8 }
     requires id { IdFits id.now }
+    requires hosted { AreHosted (2 ^ 63 + 2 ^ 62) world.old.rooms }
     ensures done { (k : Kept) → k.world ≡ seen world.old
         → IfOk result (λ r. Ends (binds (has_place k address) k w (conn_of (line_of w world.old.table)) address id.now) 1 r world.old world.new) }
+    ensures hosts { OnOk result (Hosts world.old.rooms world.new.rooms) }
     ensures refused { OnErr result (Did [] 0 world.old world.new) }
 {
     if has_place(world, &address) {

@@ -7,6 +7,7 @@ ghost use Rattle.house_model.specs.Steps.{departs, verdict};
 ghost use Rattle.session_table.specs.Tables.{Rises, is_there};
 ghost use Rattle.sm_resume.specs.declared.decision.Cause.TheVariants.{Lost};
 ghost use Rattle.house_core.specs.Houses.{held};
+ghost use Rattle.house_world.specs.Hosting.{AreHosted, Hosts};
 ghost use Rattle.house_world.specs.Wholes.{IsFew, IsTied};
 ghost use Rattle.house_world.specs.Worlds.{Did, Ends, seen};
 
@@ -22,8 +23,10 @@ fn sweep(world: &mut World, moment: u64) -> Result<Reply, NoMemory>
     requires answered { length world.old.answers.items ≡ length world.old.table.lines }
     requires tied { IsTied world.old.table }
     requires small { IsFew (2 ^ 64 - 5001) world.old.table }
+    requires hosted { AreHosted (2 ^ 63 + 2 ^ 62) world.old.rooms }
     ensures done { (k : Kept) (w t : ℕ) → k.world ≡ seen world.old → k.head.moment ≡ moment
         → IfOk result (λ r. Ends (verdict k (Event.Sweep w t)) 0 r world.old world.new) }
+    ensures hosts { OnOk result (Hosts world.old.rooms world.new.rooms) }
     ensures refused { OnErr result (Did [] 0 world.old world.new) }
 {
     let Some(s) = world.table.due(moment) else {
@@ -39,13 +42,15 @@ fn sweep_away(world: &mut World, s: u64) -> Result<(), NoMemory>
     requires tied { IsTied world.old.table }
     requires small { IsFew (2 ^ 64 - 5001) world.old.table }
     requires there { is_there s world.old.table ≡ true }
+    requires hosted { AreHosted (2 ^ 63 + 2 ^ 62) world.old.rooms }
     ensures rises { Rises 0 world.old.table.sessions world.old.table.made }
     ensures did { OnOk result (Did (departs (seen world.old) s Lost) 0 world.old world.new) }
+    ensures hosts { OnOk result (Hosts world.old.rooms world.new.rooms) }
     ensures refused { OnErr result (Did [] 0 world.old world.new) }
 {
     let _ = world.table.session(s);
     let told = departure(world, *world.answers.allocator(), s)?;
-    world.prepare(told.as_slice())?;
+    world.prepare(told.effects.as_slice())?;
     world.depart(s, Cause::Lost, told);
     Ok(())
 }

@@ -93,6 +93,7 @@ pub(crate) fn check(world: &mut World, needs: &Needs, w: u32, moment: u64) -> Pa
     ensures lines { length world.new.table.lines ≡ length world.old.table.lines }
     ensures answered { length world.new.answers.items ≡ length world.old.answers.items }
     ensures few { (turns : ℕ) → IsFew turns world.old.table → IsFew turns world.new.table }
+    ensures rooms { world.new.rooms ≡ world.old.rooms }
     ensures found { Found needs.now result world.new w }
     ensures passes { (k : Kept) → k.world ≡ seen world.old → k.head.moment ≡ moment
         → Passes result (gate_at (needs_of needs.now) k w (k.world.lines w) (k.world.lines w).stage) world.old world.new }

@@ -11,6 +11,7 @@ ghost use Rattle.house_core.specs.Houses.{held};
 use contact_table::Book;
 use house_world::{Answers, Stirred, World};
 use jid_core::{Jid, Part};
+use muc_service::Rooms;
 use session_table::Table;
 use stanza_tree::NoMemory;
 use std::alloc::Global;
@@ -19,7 +20,7 @@ use std::marker::Model;
 /// The greatest moment: 9999-12-31T23:59:59.999Z, in milliseconds since 1970. A greater one counts as this.
 const LAST_MOMENT: u64 = 253_402_300_799_999;
 
-/// Lines, sessions and what waits for them. Each call names a line, `w`, below the number of workers.
+/// Lines, sessions and what waits for them, what is kept of users, and rooms. Each call names a line, `w`, below the number of workers.
 #[derive(Drop)]
 pub struct House {
     pub(crate) domain: Jid,
@@ -43,9 +44,10 @@ impl Model for House {
       table = h.world.table;
       answers = h.world.answers.items;
       book = h.world.book;
+      rooms = h.world.rooms;
     } };
 
-    ghost invariant = { λ h. IsWhole h.domain.domain h.users.items h.turns h.moment h.world.table h.world.answers.items h.world.book };
+    ghost invariant = { λ h. IsWhole h.domain.domain h.users.items h.turns h.moment h.world.table h.world.answers.items h.world.book h.world.rooms };
 }
 
 impl House {
@@ -58,6 +60,7 @@ impl House {
         ensures history { IfOk result (λ h. StandsFor (opening domain.now users.now workers) [] (held h)) }
     {
         let book = Book::new(alloc, domain.domain.copy(alloc)?);
+        let rooms = Rooms::new(alloc);
         Ok(House {
             domain: domain.copy(alloc)?,
             users: copies_of(alloc, users)?,
@@ -67,6 +70,7 @@ impl House {
                 table: Table::new(alloc, workers)?,
                 answers: no_answers(alloc, workers)?,
                 book,
+                rooms,
                 stirred: Stirred::none(),
             },
         })

@@ -1,4 +1,4 @@
-//! The house: lines, sessions and their queues in memory. Each call is one step of the machine of `house_model`.
+//! The house: lines, sessions and their queues, users and rooms in memory. Each call is one step of the machine of `house_model`.
 #![tactic(auto)]
 
 mod acking;

@@ -12,6 +12,7 @@ use Rattle.sm_account.specs.Connections as alone
 use Rattle.sm_account.specs.Connections.{run}
 use Rattle.sm_account.specs.Accounts as past
 use Rattle.sm_account.specs.Accounts.{Account, OperationFits}
+use Rattle.muc_service.specs.Casting.{cast}
 use Rattle.house_model.specs.declared.event.Event.{Event}
 use Rattle.house_model.specs.declared.event.Event.TheVariants as event
 use Rattle.house_model.specs.declared.reply.Reply.{Reply}
@@ -160,12 +161,12 @@ module _ (a : Account Stanza) (o : State) (g : List Turn) (s : ℕ) (starts : Is
   stage_act w y t said v kept (Bound c i) is fits =
       lead_both a x said v v (if eqb s i then one.Act y ∷ [] else [])
       (effects_ops s (apply whole st.world (On i (Act y)))
-      (map effect_of (effects kept i y)))
+      (map effect_of (cast kept.world.rooms (effects kept i y))))
       (heard_lead ((v ≡ said) × house.IsWhole a o g s c) (eqb s i) w c i said v (one.Act y) refl is fits
       (λ k counted held. whole_is c said v k counted held) (λ e. e))
       (effects_muted a (run x (if eqb s i then one.Act y ∷ [] else [])) v s (apply whole st.world (On i (Act y)))
-      (map effect_of (effects kept i y))
-      (queued_plain client_ear (effects kept i y)))
+      (map effect_of (cast kept.world.rooms (effects kept i y)))
+      (queued_plain client_ear (cast kept.world.rooms (effects kept i y))))
 
   stage_short : (w : ℕ) (y : Stanza) (said v : ℕ) (l : stage.Line) → (st.world.lines w).stage ≡ l
       → house.WhereHeld a o g s (λ c. (v ≡ said) × house.IsWhole a o g s c) (v ≡ said) l

@@ -10,6 +10,7 @@ use Rattle.sm_resume.specs.declared.id.ResumeId.{ResumeId}
 use Rattle.session_table.specs.declared.line.Line as stage
 use Rattle.session_table.specs.declared.line.Line.TheVariants.{Empty, Fresh, Logged, Bound, Over}
 use Rattle.roster_laws.specs.Keeping.{AreKept}
+use Rattle.muc_service.specs.Casting.{cast}
 use Rattle.house_model.specs.declared.answer.Answer.{Answer}
 use Rattle.house_model.specs.declared.event.Event.{Event}
 use Rattle.house_model.specs.declared.event.Event.TheVariants as event
@@ -26,6 +27,7 @@ use Rattle.house_model.specs.Steps.{pulls, leaves, sweeps, departs, due, body, v
 use Rattle.house_model.specs.Histories.{IsOpening, Made, Outcome, Short, Turn, after, next, next_by}
 use Rattle.house_model.specs.Sound.{Sound}
 use Rattle.house_model.proofs.GateLemmas.{gate_leads}
+use Rattle.house_model.proofs.RoomsQuiet.{cast_noted}
 use Rattle.house_model.proofs.RosterKept.{stanza_kept, departure_quiet, noted_book}
 use Rattle.house_model.proofs.TurnLaws.{effects_kept, next_sound, starts_sound}
 use Rattle.roster_laws.proofs.KeepLemmas.{none_kept}
@@ -63,13 +65,15 @@ leaves_quiet (Logged c u) w es is world = quiet_then es (At w Leave ∷ []) is (
 leaves_quiet (Bound c s) w es is world = quiet_then es (At w Leave ∷ []) is (λ x. refl) world
 leaves_quiet (Over c cause) w es is world = quiet_then es (At w Leave ∷ []) is (λ x. refl) world
 
-told_quiet : (from : World KeptTraffic) (s : ℕ) → IsQuiet (map effect_of (departure from s))
-told_quiet from s world = noted_book world (departure from s) ∙ departure_quiet from s world.book
+told_quiet : (from : World KeptTraffic) (s : ℕ) → IsQuiet (map effect_of (cast from.rooms (departure from s)))
+told_quiet from s world =
+    noted_book world (cast from.rooms (departure from s))
+    ∙ (cast_noted (departure from s) from.rooms world.book ∙ departure_quiet from s world.book)
 
 departs_quiet : (from : World KeptTraffic) (s : ℕ) (cause : Cause) → IsQuiet (departs from s cause)
 departs_quiet from s cause =
-    quiet_then (On s (End cause) ∷ map effect_of (departure from s)) (On s Part ∷ [])
-    (quiet_then (On s (End cause) ∷ []) (map effect_of (departure from s)) (λ x. refl) (told_quiet from s)) (λ x. refl)
+    quiet_then (On s (End cause) ∷ map effect_of (cast from.rooms (departure from s))) (On s Part ∷ [])
+    (quiet_then (On s (End cause) ∷ []) (map effect_of (cast from.rooms (departure from s))) (λ x. refl) (told_quiet from s)) (λ x. refl)
 
 replaces_quiet : (k : Kept) (s : Option ℕ) → IsQuiet (replaces k s)
 replaces_quiet k None world = refl
@@ -148,7 +152,9 @@ quiet_keeps k es quiet kept = subst (AreKept k.head.domain.domain) (sym (quiet k
 
 acts_keeps : (k : Kept) (s : ℕ) (x : Stanza) → Keeps k (acts k s x).effects
 acts_keeps k s x kept =
-    subst (AreKept k.head.domain.domain) (sym (noted_book (apply brief k.world (On s (Act x))) (effects k s x)))
+    let es = effects k s x in
+    subst (AreKept k.head.domain.domain)
+    (sym (noted_book (apply brief k.world (On s (Act x))) (cast k.world.rooms es) ∙ cast_noted es k.world.rooms k.world.book))
     (stanza_kept (scene_of k) s x kept)
 
 -- the events that the gate checks

@@ -1,24 +1,31 @@
--- How long an answer of service discovery is, where no room is listed.
-use Rattle.std.proofs.Common.{ℕ, ◌+◌, ◌*◌, ◌≤◌, List, [], ◌∷◌, ◌++◌, map, length, Option, Some, None, Result, Ok, Err}
+-- How long an answer of service discovery is.
+use Rattle.std.proofs.Common.{◌≡◌, ℕ, ◌+◌, ◌-◌, ◌*◌, ◌≤◌, ◌==◌, nat_le, refl, List, [], ◌∷◌, ◌++◌, map, length, Option, Some, None, Result, Ok, Err}
 use Rattle.std.proofs.Common.{Bool, true, false, codes, ap, arith, length-append, if◌then◌else◌}
 use Rattle.std.specs.Prelude.{IfSome, is_some, ⊤}
+use Rattle.std.proofs.lemmas.Bool.{leb-true}
 use Rattle.std.specs.List.{AllByRecursion}
 use Rattle.stanza_tree.specs.Attributes.{attr_of}
 use Rattle.stanza_tree.specs.Spelling.{client_space, texts_under, text_under, text}
 use Rattle.stanza_tree.specs.declared.node.Element.{Element}
 use Rattle.stanza_tree.proofs.Bounds.{length-value_text-le}
-use Rattle.jid_core.specs.Addresses.{Address, local_text, resource_text, address_text}
+use Rattle.jid_core.specs.Addresses.{Address, local_text, resource_text, address_text, same_bare}
 use Rattle.stanza_model.specs.Errors.{plain_attr}
 use Rattle.stanza_model.specs.Replies.{one_child}
 use Rattle.stanza_model.specs.Stanzas.{to_in, id_in}
 use Rattle.stanza_model.specs.declared.condition.Condition.{Condition}
 use Rattle.stanza_model.specs.declared.stanza.Stanza.{Stanza}
-use Rattle.stanza_router.specs.Discovery.{info_space, items_space, query_in, node_of, identity, feature, described, info_of, item}
+use Rattle.stanza_router.specs.Discovery.{info_space, items_space, rooms_space, query_in, node_of, identity, feature, described, described_as}
+use Rattle.stanza_router.specs.Discovery.{fitting, info_if, info_of, item, listed_at, most_items, no_items_if, room_features, room_identity}
+use Rattle.stanza_router.specs.Discovery.{room_item}
 use Rattle.stanza_router.specs.Discovery.{server_items, listing, items_of, found_by, found, replied, discovery}
+use Rattle.stanza_router.specs.declared.listed.Listed.{Listed}
 use Rattle.stanza_router.specs.Places.{service_domain}
 use Rattle.stanza_router.specs.declared.places.Place.{Place}
 use Rattle.stanza_router.specs.declared.places.Place.TheVariants.{Account, Server, User, UserAt, Service, Room, RoomAt, Foreign}
-use Rattle.house_model.proofs.ReplySizes.{spelt_length, under-le, first-length, plain-attributes, plain-declared, one-attribute-le, reply-le, error-reply-le}
+use Rattle.stanza_model.specs.declared.shared.Config.{Config}
+use Rattle.house_model.proofs.RoomCases.{found_all}
+use Rattle.house_model.proofs.ReplySizes.{spelt_length, under-le, first-length, plain-attributes, plain-declared, one-attribute-le}
+use Rattle.house_model.proofs.ReplySizes.{reply-le, error-reply-le}
 
 -- an answer that leaves room for the rest of its reply, or a refusal
 abbrev IsBrief : Result Element Condition → Type 0
@@ -55,34 +62,101 @@ features-le (var ∷ more) words =
       one-attribute-le info_space info_space (codes "feature") (codes "var") var [],
     )
 
-described-le : (category type : List ℕ) (features : List (List ℕ)) → length category ≤ 100 → length type ≤ 100
-    → AreWords features → length features ≤ 9 → IsBrief (Ok (described category type features))
-described-le category type features one two words few =
+-- of an identity that is so long
+described-as-le : (identity : Element) (features : List (List ℕ)) → length (text_under info_space identity) ≤ 20000 → AreWords features
+    → length features ≤ 10 → IsBrief (Ok (described_as identity features))
+described-as-le identity features one words few =
     omega (
       arith,
       one,
-      two,
       few,
-      identity-le category type,
       features-le features words,
-      first-length info_space (identity category type) (map (λ (var : List ℕ). node_of (feature var)) features),
-      under-le client_space info_space (codes "query") [] (node_of (identity category type) ∷ map (λ (var : List ℕ). node_of (feature var)) features),
+      first-length info_space identity (map (λ (var : List ℕ). node_of (feature var)) features),
+      under-le client_space info_space (codes "query") [] (node_of identity ∷ map (λ (var : List ℕ). node_of (feature var)) features),
     )
 
-info-brief : (place : Place) → IsBrief (info_of place)
-info-brief Server =
+described-le : (category type : List ℕ) (features : List (List ℕ)) → length category ≤ 100 → length type ≤ 100
+    → AreWords features → length features ≤ 10 → IsBrief (Ok (described category type features))
+described-le category type features one two words few =
+    described-as-le (identity category type) features (omega (arith, one, two, identity-le category type)) words few
+
+-- a room that is listed
+abbrev pub IsShortListed : Listed → Type 0
+IsShortListed room = (length (address_text room.address) ≤ 3071) × (length room.title ≤ 256)
+
+room-identity-le : (title : List ℕ) → length title ≤ 256 → length (text_under info_space (room_identity title)) ≤ 20000
+room-identity-le title few =
+    let l2 = plain_attr (codes "type") (codes "text") ∷ [] in
+    let l1 = plain_attr (codes "name") title ∷ l2 in
+    omega (
+      arith,
+      few,
+      under-le info_space info_space (codes "identity") (plain_attr (codes "category") (codes "conference") ∷ l1) [],
+      ap length (plain-declared (codes "category") (codes "conference") l1),
+      ap length (plain-declared (codes "name") title l2),
+      ap length (plain-declared (codes "type") (codes "text") []),
+      plain-attributes (codes "category") (codes "conference") l1,
+      plain-attributes (codes "name") title l2,
+      plain-attributes (codes "type") (codes "text") [],
+      length-value_text-le (codes "conference"),
+      length-value_text-le title,
+      length-value_text-le (codes "text"),
+    )
+
+either-word : (b : Bool) (v w : List ℕ) → length v ≤ 100 → length w ≤ 100 → length (if b then v else w) ≤ 100
+either-word true v w one two = one
+either-word false v w one two = two
+
+room-words : (c : Config) → AreWords (room_features c)
+room-words c = (
+  omega arith,
+  (
+    omega arith,
+    (
+      omega arith,
+      (
+        omega arith,
+        (
+          either-word c.members_only _ _ (omega arith) (omega arith),
+          (
+            either-word c.moderated _ _ (omega arith) (omega arith),
+            (
+              either-word c.anyone _ _ (omega arith) (omega arith),
+              (
+                either-word (length c.secret == 0) _ _ (omega arith) (omega arith),
+                (either-word c.persistent _ _ (omega arith) (omega arith), (omega arith, tt)),
+              ),
+            ),
+          ),
+        ),
+      ),
+    ),
+  ),
+)
+
+listed-all : (to : Option Address) (rooms : List Listed) → AllByRecursion IsShortListed rooms → IfSome (listed_at to rooms) IsShortListed
+listed-all None rooms all = tt
+listed-all (Some to) rooms all = found_all IsShortListed (λ room. same_bare room.address to) rooms all
+
+info-if : (room : Option Listed) → IfSome room IsShortListed → IsBrief (info_if room)
+info-if None short = tt
+info-if (Some room) short =
+    described-as-le (room_identity room.title) (room_features room.config) (room-identity-le room.title short.1) (room-words room.config) (omega arith)
+
+info-brief : (place : Place) (to : Option Address) (rooms : List Listed) → AllByRecursion IsShortListed rooms → IsBrief (info_of place to rooms)
+info-brief Server to rooms all =
     described-le (codes "server") (codes "im") (info_space ∷ items_space ∷ codes "urn:xmpp:ping" ∷ []) (omega arith) (omega arith)
     (omega arith, (omega arith, (omega arith, tt))) (omega arith)
-info-brief Account =
+info-brief Account to rooms all =
     described-le (codes "account") (codes "registered") (info_space ∷ []) (omega arith) (omega arith) (omega arith, tt) (omega arith)
-info-brief Service =
-    described-le (codes "conference") (codes "text") (info_space ∷ items_space ∷ codes "http://jabber.org/protocol/muc" ∷ []) (omega arith)
+info-brief Service to rooms all =
+    described-le (codes "conference") (codes "text") (info_space ∷ items_space ∷ rooms_space ∷ []) (omega arith)
     (omega arith) (omega arith, (omega arith, (omega arith, tt))) (omega arith)
-info-brief (User user) = tt
-info-brief (UserAt user resource) = tt
-info-brief (Room room) = tt
-info-brief (RoomAt room nick) = tt
-info-brief Foreign = tt
+info-brief (User user) to rooms all = tt
+info-brief (UserAt user resource) to rooms all = tt
+info-brief (Room room) to rooms all = info-if (listed_at to rooms) (listed-all to rooms all)
+info-brief (RoomAt room nick) to rooms all = tt
+info-brief Foreign to rooms all = tt
 
 -- Items.
 domain-le : (a : Address) → length a.domain ≤ length (address_text a)
@@ -118,16 +192,34 @@ server-brief (Some a) short =
       first-length items_space (item (service_domain a.domain)) [],
     )
 
-items-brief : (place : Place) (to : Option Address) → IfSome to (λ a. length (address_text a) ≤ 3071)
-    → IsBrief (items_of place to [])
-items-brief Server to short = server-brief to short
-items-brief Account to short = omega (arith, listing-le [])
-items-brief Service to short = omega (arith, listing-le [])
-items-brief (User user) to short = tt
-items-brief (UserAt user resource) to short = tt
-items-brief (Room room) to short = tt
-items-brief (RoomAt room nick) to short = tt
-items-brief Foreign to short = tt
+-- as many as fit
+fitting-step : (bytes : ℕ) (e : Element) (b : Bool) (rest : List Element) → (b ≡ true → length (text_under items_space e) ≤ bytes)
+    → length (texts_under items_space (map node_of rest)) ≤ bytes - length (text_under items_space e)
+    → length (texts_under items_space (map node_of (if b then e ∷ rest else []))) ≤ bytes
+fitting-step bytes e true rest fits later = (let few = fits refl in omega (arith, few, later, first-length items_space e (map node_of rest)))
+fitting-step bytes e false rest fits later = omega arith
+
+fitting-le : (bytes : ℕ) (es : List Element) → length (texts_under items_space (map node_of (fitting bytes es))) ≤ bytes
+fitting-le bytes [] = omega arith
+fitting-le bytes (e ∷ more) =
+    fitting-step bytes e (nat_le (length (text_under items_space e)) bytes) (fitting (bytes - length (text_under items_space e)) more)
+    (λ is. leb-true (length (text_under items_space e)) bytes is) (fitting-le (bytes - length (text_under items_space e)) more)
+
+no-items : (room : Option Listed) → IsBrief (no_items_if room)
+no-items None = tt
+no-items (Some room) = omega (arith, listing-le [])
+
+items-brief : (place : Place) (to : Option Address) (rooms : List Listed) → IfSome to (λ a. length (address_text a) ≤ 3071)
+    → IsBrief (items_of place to rooms)
+items-brief Server to rooms short = server-brief to short
+items-brief Account to rooms short = omega (arith, listing-le [])
+items-brief Service to rooms short =
+    omega (arith, listing-le (fitting most_items (map room_item rooms)), fitting-le most_items (map room_item rooms))
+items-brief (User user) to rooms short = tt
+items-brief (UserAt user resource) to rooms short = tt
+items-brief (Room room) to rooms short = no-items (listed_at to rooms)
+items-brief (RoomAt room nick) to rooms short = tt
+items-brief Foreign to rooms short = tt
 
 -- The reply.
 unless-brief : (asks : Bool) (condition : Condition) (answer : Result Element Condition) → IsBrief answer
@@ -135,13 +227,13 @@ unless-brief : (asks : Bool) (condition : Condition) (answer : Result Element Co
 unless-brief true condition answer brief = tt
 unless-brief false condition answer brief = brief
 
-found-brief : (place : Place) (to : Option Address) (info items : Option Element)
-    → IfSome to (λ a. length (address_text a) ≤ 3071) → IsBrief (found_by place to [] info items)
-found-brief place to (Some query) items short =
-    unless-brief (is_some (attr_of (codes "node") query.attrs)) _ (info_of place) (info-brief place)
-found-brief place to None (Some query) short =
-    unless-brief (is_some (attr_of (codes "node") query.attrs)) _ (items_of place to []) (items-brief place to short)
-found-brief place to None None short = tt
+found-brief : (place : Place) (to : Option Address) (rooms : List Listed) (info items : Option Element) → AllByRecursion IsShortListed rooms
+    → IfSome to (λ a. length (address_text a) ≤ 3071) → IsBrief (found_by place to rooms info items)
+found-brief place to rooms (Some query) items all short =
+    unless-brief (is_some (attr_of (codes "node") query.attrs)) _ (info_of place to rooms) (info-brief place to rooms all)
+found-brief place to rooms None (Some query) all short =
+    unless-brief (is_some (attr_of (codes "node") query.attrs)) _ (items_of place to rooms) (items-brief place to rooms short)
+found-brief place to rooms None None all short = tt
 
 replied-le : (st : Stanza) (answer : Result Element Condition) → IsBrief answer
     → IfSome (to_in st) (λ a. length (address_text a) ≤ 3071) → spelt_length (id_in st) ≤ 196608
@@ -150,7 +242,8 @@ replied-le st (Ok query) brief to id =
     reply-le st (codes "result") (one_child query) to id (omega arith) (omega (arith, brief, first-length client_space query []))
 replied-le st (Err condition) brief to id = error-reply-le st condition to id
 
-pub discovery-le : (place : Place) (st : Stanza) → IfSome (to_in st) (λ a. length (address_text a) ≤ 3071)
-    → spelt_length (id_in st) ≤ 196608 → length (text (discovery place st [])) ≤ 500000
-discovery-le place st to id =
-    replied-le st (found place st []) (found-brief place (to_in st) (query_in info_space st) (query_in items_space st) to) to id
+pub discovery-le : (place : Place) (st : Stanza) (rooms : List Listed) → AllByRecursion IsShortListed rooms
+    → IfSome (to_in st) (λ a. length (address_text a) ≤ 3071) → spelt_length (id_in st) ≤ 196608
+    → length (text (discovery place st rooms)) ≤ 500000
+discovery-le place st rooms all to id =
+    replied-le st (found place st rooms) (found-brief place (to_in st) rooms (query_in info_space st) (query_in items_space st) all to) to id

@@ -7,6 +7,7 @@ use Rattle.stanza_model.specs.declared.stanza.Stanza.{Stanza}
 use Rattle.sm_resume.specs.declared.decision.Cause.TheVariants.{Flood, Lost}
 use Rattle.sm_resume.specs.declared.id.ResumeId.{ResumeId}
 use Rattle.session_table.specs.declared.line.Line.TheVariants.{Logged}
+use Rattle.muc_service.specs.Casting.{cast}
 use Rattle.house_model.specs.declared.answer.Answer.{Answer}
 use Rattle.house_model.specs.declared.event.Event.{Event}
 use Rattle.house_model.specs.declared.event.Event.TheVariants as event
@@ -70,8 +71,8 @@ acts_fits : (world : World Traffic) (k : Kept) (s : ℕ) (x : Stanza) → Fits w
 acts_fits world k s x = (
   tt,
   all_on_fit (apply whole world (On s (Act x)))
-      (map effect_of (effects k s x))
-      (queued_on (effects k s x)),
+      (map effect_of (cast k.world.rooms (effects k s x)))
+      (queued_on (cast k.world.rooms (effects k s x))),
 )
 
 acks_fits : (counts : Bool) (world : World Traffic) (s h : ℕ) (t : KeptTraffic) → Fits world (acks counts s h t).effects

@@ -1,6 +1,6 @@
 -- The sessions that the rules on stanzas find.
 use Rattle.std.proofs.Common.{◌≡◌, ℕ, zero, suc, ◌<◌, ◌≤◌, List, [], ◌∷◌, ◌++◌, map, flat_map, Option, Some}
-use Rattle.std.proofs.Common.{None, Bool, true, false, ◌&&◌, if◌then◌else◌, refl, arith}
+use Rattle.std.proofs.Common.{None, Bool, true, false, not, if◌then◌else◌, refl, arith}
 use Rattle.std.specs.List.{AllByRecursion, filter, list_any}
 use Rattle.jid_core.specs.Addresses.{Address, same_address, same_part}
 use Rattle.stanza_model.specs.declared.here.Here.{Here}
@@ -11,9 +11,9 @@ use Rattle.stanza_router.specs.declared.places.Place.{Place}
 use Rattle.stanza_router.specs.declared.places.Place.TheVariants.{Account, Server, User, UserAt, Service, Room, RoomAt, Foreign}
 use Rattle.contact_table.specs.Books.{who_sees, whom_sees}
 use Rattle.house_model.specs.Numbered.{least, or_here, all_passing}
-use Rattle.house_model.specs.Lookups.{is_there, is_at, goes_on, is_of, here, numbers_going, session_in, sessions_of, if_it_goes_on, live_at, numbers_of}
+use Rattle.house_model.specs.Lookups.{is_there, is_at, goes_on, is_of, here, numbers_there, session_in, sessions_of, if_it_goes_on, live_at, numbers_of}
 use Rattle.house_model.specs.Presences.{available_of, in_sight, is_another, is_told, named, names, watchers}
-use Rattle.house_model.specs.Routing.{live_for, chosen, receivers}
+use Rattle.house_model.specs.Routing.{live_for, choosable, chosen, receivers}
 use Rattle.house_model.specs.States.{World}
 use Rattle.house_model.specs.Traffic.{KeptTraffic}
 use Rattle.house_model.proofs.Partings.{least_passes}
@@ -81,7 +81,7 @@ or_here_among (Some x) b n s before is = let p = before is in (p.0, omega (arith
 or_here_among None true n s before is = let same : suc n ≡ s = cc in (omega (arith, same), omega (arith, same))
 or_here_among None false n s before is = absurd (cc)
 
-least_among : (n : ℕ) (test : ℕ → Bool) (s : ℕ) → least n test ≡ Some s → (0 < s) × (s ≤ n)
+pub least_among : (n : ℕ) (test : ℕ → Bool) (s : ℕ) → least n test ≡ Some s → (0 < s) × (s ≤ n)
 least_among zero test s is = absurd (cc)
 least_among (suc n) test s is = or_here_among (least n test) (test (suc n)) n s (λ e. least_among n test s e) is
 
@@ -93,9 +93,8 @@ goes_on_is (Some r) world s is = by_going (goes_on (world.sessions r).hold) is
     by_going true is = is
     by_going false is = absurd (cc)
 
-pub live_found : (world : World KeptTraffic) (a : Address) (s : ℕ) → live_at world a ≡ Some s → IsFound world s
-live_found world a s is =
-    let here : session_in world a ≡ Some s = goes_on_is (session_in world a) world s is in
+pub session_found : (world : World KeptTraffic) (a : Address) (s : ℕ) → session_in world a ≡ Some s → IsFound world s
+session_found world a s here =
     let among : (0 < s) × (s ≤ world.made) = least_among world.made (λ n. is_at a (world.sessions n)) s here in
     record {
       above = among.0;
@@ -103,6 +102,9 @@ live_found world a s is =
       there = and_left (is_there (world.sessions s)) (same_address (world.sessions s).rest.address a)
           (least_passes world.made (λ n. is_at a (world.sessions n)) s here);
     }
+
+pub live_found : (world : World KeptTraffic) (a : Address) (s : ℕ) → live_at world a ≡ Some s → IsFound world s
+live_found world a s is = session_found world a s (goes_on_is (session_in world a) world s is)
 
 pub live_for_found : (world : World KeptTraffic) (place : Place) (to : Option Address) (s : ℕ)
     → live_for world place to ≡ Some s → IsFound world s
@@ -146,11 +148,23 @@ of_found world form (Room room) hs all = tt
 of_found world form (RoomAt room nick) hs all = tt
 of_found world form Foreign hs all = tt
 
+choosable_found : (world : World KeptTraffic) (place : Place) (hs : List Here) → AreFound world hs → AreFound world (choosable place hs)
+choosable_found world (UserAt user resource) hs all =
+    filter_all (IsHere world) (λ h. not (same_part h.address.resource (Some resource))) hs all
+choosable_found world Account hs all = all
+choosable_found world (User user) hs all = all
+choosable_found world Server hs all = all
+choosable_found world Service hs all = all
+choosable_found world (Room room) hs all = all
+choosable_found world (RoomAt room nick) hs all = all
+choosable_found world Foreign hs all = all
+
 chosen_found : (world : World KeptTraffic) (form : MessageForm) (place : Place) (user : Option (List ℕ))
     → AreFound world (chosen world form place user)
 chosen_found world form place None = tt
 chosen_found world form place (Some user) =
-    of_found world form place (sessions_of world user) (numbers_found world user)
+    of_found world form place (choosable place (sessions_of world user))
+    (choosable_found world place (sessions_of world user) (numbers_found world user))
 
 pub receivers_found : (world : World KeptTraffic) (form : MessageForm) (place : Place) (user : Option (List ℕ)) (live : Option ℕ)
     → ((s : ℕ) → live ≡ Some s → IsFound world s) → AreFound world (receivers world form place user live)
@@ -178,7 +192,5 @@ in_sight_found world own who =
 
 pub named_found : (world : World KeptTraffic) (addresses : List Address) → AreFound world (named world addresses)
 named_found world addresses =
-    filter_all (IsHere world) (λ h. list_any (names h) addresses) (map (here world) (numbers_going world))
-    (here_found world (numbers_going world)
-    (passing_found world world.made (λ s. is_there (world.sessions s) && goes_on (world.sessions s).hold)
-    (λ s is. and_left (is_there (world.sessions s)) _ is) (omega arith)))
+    filter_all (IsHere world) (λ h. list_any (names h) addresses) (map (here world) (numbers_there world))
+    (here_found world (numbers_there world) (passing_found world world.made (λ s. is_there (world.sessions s)) (λ s is. is) (omega arith)))

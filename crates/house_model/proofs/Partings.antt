@@ -8,6 +8,7 @@ use Rattle.jid_core.specs.Addresses.{Address, same_address, address_text}
 use Rattle.sm_resume.specs.declared.decision.Cause.{Cause}
 use Rattle.sm_resume.specs.declared.decision.Cause.TheVariants.{Flood, Lost, Replaced}
 use Rattle.session_table.specs.declared.line.Line.TheVariants.{Logged}
+use Rattle.muc_service.specs.Casting.{cast}
 use Rattle.house_model.specs.declared.answer.Answer.TheVariants as answer
 use Rattle.house_model.specs.declared.event.Event.{Event}
 use Rattle.house_model.specs.declared.event.Event.TheVariants as event
@@ -18,7 +19,7 @@ use Rattle.house_model.specs.Sessions.{Part, pushed, acked, resumed, begun, step
 use Rattle.house_model.specs.Traffic.{Traffic, whole, KeptTraffic}
 use Rattle.house_model.specs.Routing.{departure}
 use Rattle.house_model.specs.States.{State, World, Kept, keep, keep_by, keep_session, keep_world}
-use Rattle.house_model.specs.Effects.{Effect, Open, At, Begin, On, Note, Say, Close, apply, apply_all}
+use Rattle.house_model.specs.Effects.{Effect, Open, At, Begin, On, Note, Hosts, Say, Close, apply, apply_all}
 use Rattle.house_model.specs.Gate.{Verdict, most_answers, to_bind, left}
 use Rattle.house_model.specs.Lookups.{is_there, is_at, session_at}
 use Rattle.house_model.specs.Steps.{replaces, binds, has_place, bound_address, resource_or, has_come, is_due, due, departs, effect_of, sweeps, verdict, turn}
@@ -98,6 +99,7 @@ effect_gone : (k : ℕ) (world : World Traffic) (e : Effect) → Spares k e
 effect_gone k world (Open v) spares is = is
 effect_gone k world (At v op) spares is = is
 effect_gone k world (Note change) spares is = is
+effect_gone k world (Hosts x) spares is = is
 effect_gone k world (Begin v c a) spares is = elim (put_is (world.made + 1) (begun whole v c a) world.sessions k) [
   | inl p ↦ absurd (let bad : Held v c ≡ Gone = ap (λ (s : Session Traffic). s.hold) (sym p.1) ∙ is in cc)
   | inr p ↦ ap (λ (s : Session Traffic). s.hold) (sym p.1) ∙ is
@@ -119,6 +121,7 @@ plain_spares k (Open w) is = tt
 plain_spares k (At w op) is = tt
 plain_spares k (Begin w c a) is = tt
 plain_spares k (Note change) is = tt
+plain_spares k (Hosts x) is = tt
 
 plain_spare : (k : ℕ) (es : List Effect) → AllPlain part_ear es → AllSpare k es
 plain_spare k [] all = tt
@@ -176,8 +179,8 @@ spare_append k (x ∷ xs) ys a b = (a.0, spare_append k xs ys a.1 b)
 departs_spare : (k : World KeptTraffic) (s i : ℕ) (cause : Cause) → (s ≡ i → ⊥) → AllSpare s (departs k i cause)
 departs_spare k s i cause ne = (
   tt,
-  spare_append s (map effect_of (departure k i)) (On i Part ∷ [])
-      (plain_spare s (map effect_of (departure k i)) (queued_plain part_ear (departure k i))) (ne, tt),
+  spare_append s (map effect_of (cast k.rooms (departure k i))) (On i Part ∷ [])
+      (plain_spare s (map effect_of (cast k.rooms (departure k i))) (queued_plain part_ear (cast k.rooms (departure k i)))) (ne, tt),
 )
 
 sweep_departs : (o : Option ℕ) (st : State) (w t s : ℕ) → due (keep (turn (event.Sweep w t) st)) ≡ o

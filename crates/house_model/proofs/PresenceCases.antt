@@ -8,16 +8,18 @@ use Rattle.stanza_tree.specs.Spelling.{text}
 use Rattle.stanza_tree.specs.declared.frame.Origin.TheVariants.{Direct}
 use Rattle.stanza_tree.specs.declared.node.Element.{Element}
 use Rattle.stanza_tree.proofs.Bounds.{length-frame}
-use Rattle.stanza_model.specs.Replies.{may_be_answered, result_of, error_of, said_to, refused}
+use Rattle.stanza_model.specs.Replies.{may_be_answered, one_child, result_of, error_of, said_to, refused}
 use Rattle.stanza_model.specs.Stanzas.{to_in, element_in}
 use Rattle.stanza_model.specs.declared.condition.Condition.{Condition}
-use Rattle.stanza_model.specs.declared.condition.Condition.TheVariants.{BadRequest, NotAcceptable, ResourceConstraint, ServiceUnavailable}
+use Rattle.stanza_model.specs.declared.condition.Condition.TheVariants.{BadRequest, NotAcceptable, ResourceConstraint}
 use Rattle.stanza_model.specs.declared.effect.Change.TheVariants as change
 use Rattle.stanza_model.specs.declared.effect.Effect.{Effect}
 use Rattle.stanza_model.specs.declared.effect.Effect.TheVariants.{Set}
 use Rattle.stanza_model.specs.declared.here.Here.{Here}
+use Rattle.stanza_model.specs.declared.kinds.MessageForm.{MessageForm}
 use Rattle.stanza_model.specs.declared.kinds.PresenceForm.{PresenceForm}
-use Rattle.stanza_model.specs.declared.kinds.PresenceForm.TheVariants.{Available, Unavailable, Subscribe, Subscribed, Unsubscribe, Unsubscribed, Probe, Error}
+use Rattle.stanza_model.specs.declared.kinds.PresenceForm.TheVariants.{Available, Unavailable, Subscribe, Subscribed, Unsubscribe}
+use Rattle.stanza_model.specs.declared.kinds.PresenceForm.TheVariants.{Unsubscribed, Probe, Error}
 use Rattle.stanza_model.specs.declared.stanza.Stanza.{Stanza}
 use Rattle.stanza_model.specs.declared.stanza.Stanza.TheVariants.{Presence}
 use Rattle.stanza_router.specs.Discovery.{discovery}
@@ -28,27 +30,38 @@ use Rattle.stanza_router.specs.declared.places.Place.TheVariants.{Account, Serve
 use Rattle.roster_book.specs.Requests.{roster_get}
 use Rattle.presence_core.specs.Broadcasts as broadcasts
 use Rattle.presence_core.specs.Broadcasts.{announced, asked_by, available, is_among, is_sent, leaves, others, seen_by, set_unavailable}
-use Rattle.presence_core.specs.Broadcasts.{shown_to, told_others, told_watchers, unavailable, welcome, with_priority}
+use Rattle.presence_core.specs.Broadcasts.{shown_to, told_others, told_watchers, welcome, with_priority}
 use Rattle.presence_core.specs.Copies.{copies, copy_to, presence_text}
 use Rattle.presence_core.specs.DirectedPresence.{delivered, directed, has_room, with_address, without_address}
 use Rattle.presence_core.specs.Priorities.{priority_in}
+use Rattle.muc_service.specs.Rooms.{Hosted}
+use Rattle.mam_wire.specs.Answers.{fin}
+use Rattle.mam_wire.specs.Forms.{query_form}
+use Rattle.house_model.specs.Archives.{empty_page}
 use Rattle.house_model.specs.Lookups.{has_user, here}
 use Rattle.house_model.specs.Presences.{asking, directed_by, in_sight, length_sent, most_of_presence, named, party, shown, shown_of, watchers}
 use Rattle.house_model.specs.Routing.{Scene, between, broadcast, departure, departure_by, directed_if, error_to}
 use Rattle.house_model.specs.Routing.{has_account, live_for, own_contacts, presence, presence_to, roster_changed}
-use Rattle.house_model.specs.Routing.{subscribed, to_address, to_be_in_room, to_user, unless_full, user_in}
+use Rattle.house_model.specs.Routing.{absent_from, asked_of, leaves_rooms, present_in, to_all_in, to_be_in, to_one_in}
+use Rattle.house_model.specs.Routing.{subscribed, to_address, to_user, unless_full, user_in}
+use Rattle.house_model.specs.RoomLookups.{listed, room_for}
 use Rattle.house_model.specs.States.{World}
 use Rattle.house_model.specs.Traffic.{KeptTraffic}
 use Rattle.house_model.proofs.PairCases.{Tells, subscription_all}
 use Rattle.house_model.proofs.Founds.{AreFound, IsFound, IsHere, append_all, either_all, filter_all}
 use Rattle.house_model.proofs.Founds.{in_sight_found, live_for_found, named_found, watchers_found}
 
--- What holds of all that the server says to a stanza's sender, of the stanza's copies for sessions that are found, and of what is kept of
--- the sender
-pub record Covers (o : Scene) (s : ℕ) (st : Stanza) (P : Effect → Type 0) : Type 0 where
+-- What holds of all that the server says to a stanza's sender, of the stanza's copies for sessions that are found, of what is kept of the
+-- sender, and of what a room gives out; and what holds of a list of such effects, or of those of a session that is present in a room, leaves one
+-- or all that it is in, of what is said in one, and of what comes of a request to one
+pub record Covers (o : Scene) (s : ℕ) (st : Stanza) (P : Effect → Type 0) (Q : List Effect → Type 0) : Type 0 where
+  pub all : (es : List Effect) → AllByRecursion P es → Q es
   pub refusal : (condition : Condition) → P (said_to (here o.world s) (error_of st condition))
   pub result : P (said_to (here o.world s) (result_of st []))
   pub found : (place : Place) → P (said_to (here o.world s) (discovery place st []))
+  pub told : (place : Place) → P (said_to (here o.world s) (discovery place st (listed o.world.rooms)))
+  pub form : P (said_to (here o.world s) (result_of st (one_child query_form)))
+  pub page : P (said_to (here o.world s) (result_of st (one_child (fin empty_page))))
   pub copy : (e : Element) (h : Here) → element_in st ≡ Some e → IsFound o.world h.session
       → P (copied (here o.world s) (to_in st) e h)
   pub presence : (e : Element) (h : Here) → length (presence_text (here o.world s) e) ≤ 16384 → IsHere o.world h
@@ -64,6 +77,16 @@ pub record Covers (o : Scene) (s : ℕ) (st : Stanza) (P : Effect → Type 0) : 
       → Tells P (party o.domain o.world own) (party o.domain o.world user)
   pub lists : (own : List ℕ) → AllByRecursion P (roster_get (own_contacts o own) (here o.world s) st)
   pub changes : (own : List ℕ) → (here o.world s).address.local ≡ Some own → AllByRecursion P (roster_changed o own (here o.world s) st)
+  pub said : (form : MessageForm) (e : Element) → element_in st ≡ Some e
+      → Q (to_all_in o (here o.world s) st form e (room_for o.world.rooms (to_in st)))
+  pub whispered : AllByRecursion P (to_one_in (here o.world s) st (room_for o.world.rooms (to_in st)))
+  pub asks : (h : Hosted) → room_for o.world.rooms (to_in st) ≡ Some h → Q (asked_of (here o.world s) st (Some h))
+  pub absent : (e : Element) → element_in st ≡ Some e → length (presence_text (here o.world s) e) ≤ 16384
+      → Q (absent_from (here o.world s) st (room_for o.world.rooms (to_in st)))
+  pub leaves : (e : Element) → element_in st ≡ Some e → length (presence_text (here o.world s) e) ≤ 16384
+      → (es : List Effect) → AllByRecursion P es → Q (es ++ leaves_rooms o.world.rooms s (Some st))
+  pub present : (e : Element) → element_in st ≡ Some e → length (presence_text (here o.world s) e) ≤ 16384
+      → Q (present_in o.world.rooms (here o.world s) st (room_for o.world.rooms (to_in st)))
 
 -- Copies of a text.
 pub copies_all : (world : World KeptTraffic) (P : Effect → Type 0) (rest : List ℕ) → ((h : Here) → IsHere world h → P (copy_to rest h))
@@ -89,10 +112,11 @@ leaves_all world P departing who rest each hides directs ws ds some more =
     (directs [], tt)
 
 -- departure
-pub departure_all : (world : World KeptTraffic) (s : ℕ) (P : Effect → Type 0)
+pub departure_by_all : (world : World KeptTraffic) (s : ℕ) (P : Effect → Type 0)
     → ((h : Here) → IsHere world h → P (copy_to (text (broadcasts.departure (here world s))) h)) → P (Set (change.Unavailable s))
-    → ((addresses : List Address) → P (Set (change.Directed s addresses))) → AllByRecursion P (departure world s)
-departure_all world s P each hides directs = by (here world s).address.local
+    → ((addresses : List Address) → P (Set (change.Directed s addresses)))
+    → AllByRecursion P (departure_by (here world s).address.local world (here world s))
+departure_by_all world s P each hides directs = by (here world s).address.local
   where
     by : (own : Option (List ℕ)) → AllByRecursion P (departure_by own world (here world s))
     by None = tt
@@ -101,8 +125,16 @@ departure_all world s P each hides directs = by (here world s).address.local
         (watchers world own (here world s)) (named world (directed_by world (here world s)))
         (watchers_found world own (here world s)) (named_found world (directed_by world (here world s)))
 
+pub departure_all : (world : World KeptTraffic) (s : ℕ) (P : Effect → Type 0)
+    → ((h : Here) → IsHere world h → P (copy_to (text (broadcasts.departure (here world s))) h)) → P (Set (change.Unavailable s))
+    → ((addresses : List Address) → P (Set (change.Directed s addresses))) → AllByRecursion P (leaves_rooms world.rooms s None)
+    → AllByRecursion P (departure world s)
+departure_all world s P each hides directs left =
+    append_all P (departure_by (here world s).address.local world (here world s)) (leaves_rooms world.rooms s None)
+    (departure_by_all world s P each hides directs) left
+
 -- What the sender's own session is told.
-module _ (o : Scene) (s : ℕ) (st : Stanza) (P : Effect → Type 0) (all : Covers o s st P) where
+module _ (o : Scene) (s : ℕ) (st : Stanza) (P : Effect → Type 0) (Q : List Effect → Type 0) (all : Covers o s st P Q) where
   abbrev who : Here
   who = here o.world s
 
@@ -136,119 +168,126 @@ module _ (o : Scene) (s : ℕ) (st : Stanza) (P : Effect → Type 0) (all : Cove
       append_all P (copies (presence_text who e) hs) _
       (copies_all o.world P (presence_text who e) (λ h is. all.presence e h short is) hs found) (all.directs list, tt)
 
-  in_room_all : (form : PresenceForm) → AllByRecursion P (to_be_in_room who st form)
-  in_room_all Available = refusal_all ServiceUnavailable
-  in_room_all Unavailable = tt
-  in_room_all Subscribe = tt
-  in_room_all Subscribed = tt
-  in_room_all Unsubscribe = tt
-  in_room_all Unsubscribed = tt
-  in_room_all Probe = tt
-  in_room_all Error = tt
-
-prioritized_all : (o : Scene) (s : ℕ) (e : Element) (P : Effect → Type 0) → Covers o s (Presence None Available e) P → (own : List ℕ)
+prioritized_all : (o : Scene) (s : ℕ) (e : Element) (P : Effect → Type 0) (Q : List Effect → Type 0) → Covers o s (Presence None Available e) P Q
+    → (own : List ℕ)
     → length (presence_text (here o.world s) e) ≤ 16384 → (p : Option ℤ)
     → AllByRecursion P (with_priority (here o.world s) (Presence None Available e) p (λ priority.
     announced priority (here o.world s) e (watchers o.world own (here o.world s))
     ++ welcome (here o.world s) (shown o.world own (here o.world s)) (asking o.domain o.world own)))
-prioritized_all o s e P all own short None = refusal_all o s (Presence None Available e) P all BadRequest
-prioritized_all o s e P all own short (Some p) = announced_all o s (Presence None Available e) P all own e short p
+prioritized_all o s e P Q all own short None = refusal_all o s (Presence None Available e) P Q all BadRequest
+prioritized_all o s e P Q all own short (Some p) = announced_all o s (Presence None Available e) P Q all own e short p
 
-broadcast_all : (o : Scene) (s : ℕ) (form : PresenceForm) (e : Element) (P : Effect → Type 0) → Covers o s (Presence None form e) P
+broadcast_all : (o : Scene) (s : ℕ) (form : PresenceForm) (e : Element) (P : Effect → Type 0) (Q : List Effect → Type 0) → Covers o s (Presence None form e) P Q
     → (own : List ℕ) → length (presence_text (here o.world s) e) ≤ 16384
-    → AllByRecursion P (broadcast o own (here o.world s) (Presence None form e) form)
-broadcast_all o s Available e P all own short = prioritized_all o s e P all own short (priority_in e)
-broadcast_all o s Unavailable e P all own short =
-    leaves_all o.world P None (here o.world s) (presence_text (here o.world s) e) (λ h found. all.presence e h short found) all.hides
+    → Q (broadcast o own (here o.world s) (Presence None form e) form)
+broadcast_all o s Available e P Q all own short = all.all _ (prioritized_all o s e P Q all own short (priority_in e))
+broadcast_all o s Unavailable e P Q all own short =
+    all.leaves e refl short (leaves None (here o.world s) (presence_text (here o.world s) e) (watchers o.world own (here o.world s))
+    (named o.world (directed_by o.world (here o.world s))))
+    (leaves_all o.world P None (here o.world s) (presence_text (here o.world s) e) (λ h found. all.presence e h short found) all.hides
     all.directs (watchers o.world own (here o.world s)) (named o.world (directed_by o.world (here o.world s)))
-    (watchers_found o.world own (here o.world s)) (named_found o.world (directed_by o.world (here o.world s)))
-broadcast_all o s Subscribe e P all own short = refusal_all o s (Presence None Subscribe e) P all BadRequest
-broadcast_all o s Subscribed e P all own short = refusal_all o s (Presence None Subscribed e) P all BadRequest
-broadcast_all o s Unsubscribe e P all own short = refusal_all o s (Presence None Unsubscribe e) P all BadRequest
-broadcast_all o s Unsubscribed e P all own short = refusal_all o s (Presence None Unsubscribed e) P all BadRequest
-broadcast_all o s Probe e P all own short = refusal_all o s (Presence None Probe e) P all BadRequest
-broadcast_all o s Error e P all own short = refusal_all o s (Presence None Error e) P all BadRequest
+    (watchers_found o.world own (here o.world s)) (named_found o.world (directed_by o.world (here o.world s))))
+broadcast_all o s Subscribe e P Q all own short = all.all _ (refusal_all o s (Presence None Subscribe e) P Q all BadRequest)
+broadcast_all o s Subscribed e P Q all own short = all.all _ (refusal_all o s (Presence None Subscribed e) P Q all BadRequest)
+broadcast_all o s Unsubscribe e P Q all own short = all.all _ (refusal_all o s (Presence None Unsubscribe e) P Q all BadRequest)
+broadcast_all o s Unsubscribed e P Q all own short = all.all _ (refusal_all o s (Presence None Unsubscribed e) P Q all BadRequest)
+broadcast_all o s Probe e P Q all own short = all.all _ (refusal_all o s (Presence None Probe e) P Q all BadRequest)
+broadcast_all o s Error e P Q all own short = all.all _ (refusal_all o s (Presence None Error e) P Q all BadRequest)
 
-directed_all : (o : Scene) (s : ℕ) (to : Address) (form : PresenceForm) (e : Element) (P : Effect → Type 0)
-    → Covers o s (Presence (Some to) form e) P → length (presence_text (here o.world s) e) ≤ 16384
+directed_all : (o : Scene) (s : ℕ) (to : Address) (form : PresenceForm) (e : Element) (P : Effect → Type 0) (Q : List Effect → Type 0)
+    → Covers o s (Presence (Some to) form e) P Q → length (presence_text (here o.world s) e) ≤ 16384
     → (hs : List Here) → AreFound o.world hs → (list : List Address)
     → AllByRecursion P (directed (here o.world s) (Presence (Some to) form e) hs list)
-directed_all o s to Available e P all short hs found list =
+directed_all o s to Available e P Q all short hs found list =
     either_all P (has_room to list) _ _
-    (delivered_all o s (Presence (Some to) Available e) P all e short hs found (with_address to list))
-    (refusal_all o s (Presence (Some to) Available e) P all ResourceConstraint)
-directed_all o s to Unavailable e P all short hs found list =
-    delivered_all o s (Presence (Some to) Unavailable e) P all e short hs found (without_address to list)
-directed_all o s to Subscribe e P all short hs found list = tt
-directed_all o s to Subscribed e P all short hs found list = tt
-directed_all o s to Unsubscribe e P all short hs found list = tt
-directed_all o s to Unsubscribed e P all short hs found list = tt
-directed_all o s to Probe e P all short hs found list = tt
-directed_all o s to Error e P all short hs found list = tt
+    (delivered_all o s (Presence (Some to) Available e) P Q all e short hs found (with_address to list))
+    (refusal_all o s (Presence (Some to) Available e) P Q all ResourceConstraint)
+directed_all o s to Unavailable e P Q all short hs found list =
+    delivered_all o s (Presence (Some to) Unavailable e) P Q all e short hs found (without_address to list)
+directed_all o s to Subscribe e P Q all short hs found list = tt
+directed_all o s to Subscribed e P Q all short hs found list = tt
+directed_all o s to Unsubscribe e P Q all short hs found list = tt
+directed_all o s to Unsubscribed e P Q all short hs found list = tt
+directed_all o s to Probe e P Q all short hs found list = tt
+directed_all o s to Error e P Q all short hs found list = tt
 
-directed_to_all : (o : Scene) (s : ℕ) (to : Address) (form : PresenceForm) (e : Element) (P : Effect → Type 0)
-    → Covers o s (Presence (Some to) form e) P → length (presence_text (here o.world s) e) ≤ 16384
+directed_to_all : (o : Scene) (s : ℕ) (to : Address) (form : PresenceForm) (e : Element) (P : Effect → Type 0) (Q : List Effect → Type 0)
+    → Covers o s (Presence (Some to) form e) P Q → length (presence_text (here o.world s) e) ≤ 16384
     → (known : Bool) (hs : List Here) → AreFound o.world hs
     → AllByRecursion P (directed_if known o.world (here o.world s) (Presence (Some to) form e) hs)
-directed_to_all o s to form e P all short false hs found = tt
-directed_to_all o s to form e P all short true hs found = directed_all o s to form e P all short hs found (directed_by o.world (here o.world s))
+directed_to_all o s to form e P Q all short false hs found = tt
+directed_to_all o s to form e P Q all short true hs found = directed_all o s to form e P Q all short hs found (directed_by o.world (here o.world s))
 
-error_all : (o : Scene) (s : ℕ) (to : Address) (e : Element) (P : Effect → Type 0) → Covers o s (Presence (Some to) Error e) P
+error_all : (o : Scene) (s : ℕ) (to : Address) (e : Element) (P : Effect → Type 0) (Q : List Effect → Type 0) → Covers o s (Presence (Some to) Error e) P Q
     → (live : Option ℕ) → ((r : ℕ) → live ≡ Some r → IsFound o.world r)
     → AllByRecursion P (error_to o.world (here o.world s) to e live)
-error_all o s to e P all None found = tt
-error_all o s to e P all (Some r) found = (all.copy e (here o.world r) refl (found r refl), tt)
+error_all o s to e P Q all None found = tt
+error_all o s to e P Q all (Some r) found = (all.copy e (here o.world r) refl (found r refl), tt)
 
 -- between two users
-full_all : (o : Scene) (s : ℕ) (st : Stanza) (P : Effect → Type 0) → Covers o s st P
+full_all : (o : Scene) (s : ℕ) (st : Stanza) (P : Effect → Type 0) (Q : List Effect → Type 0) → Covers o s st P Q
     → (found : Option (List Effect)) → IfSome found (λ es. AllByRecursion P es) → AllByRecursion P (unless_full (here o.world s) st found)
-full_all o s st P all None is = refusal_all o s st P all ResourceConstraint
-full_all o s st P all (Some es) is = is
+full_all o s st P Q all None is = refusal_all o s st P Q all ResourceConstraint
+full_all o s st P Q all (Some es) is = is
 
-subscribed_all : (o : Scene) (s : ℕ) (st : Stanza) (P : Effect → Type 0) → Covers o s st P
+subscribed_all : (o : Scene) (s : ℕ) (st : Stanza) (P : Effect → Type 0) (Q : List Effect → Type 0) → Covers o s st P Q
     → (own : List ℕ) (form : PresenceForm) (user : Option (List ℕ))
     → ((x : List ℕ) → user ≡ Some x → Tells P (party o.domain o.world own) (party o.domain o.world x))
     → AllByRecursion P (subscribed o own (here o.world s) st form user)
-subscribed_all o s st P all own form None tells = tt
-subscribed_all o s st P all own form (Some user) tells =
+subscribed_all o s st P Q all own form None tells = tt
+subscribed_all o s st P Q all own form (Some user) tells =
     either_all P (has_user o.users user) _ []
-    (full_all o s st P all (between o own user form)
+    (full_all o s st P Q all (between o own user form)
     (subscription_all P (party o.domain o.world own) (party o.domain o.world user) (tells user refl) form)) tt
 
-user_all : (o : Scene) (s : ℕ) (to : Address) (form : PresenceForm) (e : Element) (P : Effect → Type 0)
-    → Covers o s (Presence (Some to) form e) P → (own : List ℕ) → (here o.world s).address.local ≡ Some own
+user_all : (o : Scene) (s : ℕ) (to : Address) (form : PresenceForm) (e : Element) (P : Effect → Type 0) (Q : List Effect → Type 0)
+    → Covers o s (Presence (Some to) form e) P Q → (own : List ℕ) → (here o.world s).address.local ≡ Some own
     → length (presence_text (here o.world s) e) ≤ 16384 → (place : Place) → place ≡ place_of own o.domain (Some to)
     → AllByRecursion P (to_user o own (here o.world s) (Presence (Some to) form e) to form e place)
-user_all o s to Available e P all own mine short place at =
-    directed_to_all o s to Available e P all short (has_account o.users (user_in own place) (named o.world (to ∷ []))) (named o.world (to ∷ []))
+user_all o s to Available e P Q all own mine short place at =
+    directed_to_all o s to Available e P Q all short (has_account o.users (user_in own place) (named o.world (to ∷ []))) (named o.world (to ∷ []))
     (named_found o.world (to ∷ []))
-user_all o s to Unavailable e P all own mine short place at =
-    directed_to_all o s to Unavailable e P all short (has_account o.users (user_in own place) (named o.world (to ∷ []))) (named o.world (to ∷ []))
+user_all o s to Unavailable e P Q all own mine short place at =
+    directed_to_all o s to Unavailable e P Q all short (has_account o.users (user_in own place) (named o.world (to ∷ []))) (named o.world (to ∷ []))
     (named_found o.world (to ∷ []))
-user_all o s to Error e P all own mine short place at =
-    error_all o s to e P all (live_for o.world place (Some to)) (λ r live. live_for_found o.world place (Some to) r live)
-user_all o s to Subscribe e P all own mine short place at =
-    subscribed_all o s _ P all own Subscribe (user_in own place) (λ x is. all.pairs own place x mine at is)
-user_all o s to Subscribed e P all own mine short place at =
-    subscribed_all o s _ P all own Subscribed (user_in own place) (λ x is. all.pairs own place x mine at is)
-user_all o s to Unsubscribe e P all own mine short place at =
-    subscribed_all o s _ P all own Unsubscribe (user_in own place) (λ x is. all.pairs own place x mine at is)
-user_all o s to Unsubscribed e P all own mine short place at =
-    subscribed_all o s _ P all own Unsubscribed (user_in own place) (λ x is. all.pairs own place x mine at is)
-user_all o s to Probe e P all own mine short place at = tt
+user_all o s to Error e P Q all own mine short place at =
+    error_all o s to e P Q all (live_for o.world place (Some to)) (λ r live. live_for_found o.world place (Some to) r live)
+user_all o s to Subscribe e P Q all own mine short place at =
+    subscribed_all o s _ P Q all own Subscribe (user_in own place) (λ x is. all.pairs own place x mine at is)
+user_all o s to Subscribed e P Q all own mine short place at =
+    subscribed_all o s _ P Q all own Subscribed (user_in own place) (λ x is. all.pairs own place x mine at is)
+user_all o s to Unsubscribe e P Q all own mine short place at =
+    subscribed_all o s _ P Q all own Unsubscribe (user_in own place) (λ x is. all.pairs own place x mine at is)
+user_all o s to Unsubscribed e P Q all own mine short place at =
+    subscribed_all o s _ P Q all own Unsubscribed (user_in own place) (λ x is. all.pairs own place x mine at is)
+user_all o s to Probe e P Q all own mine short place at = tt
 
-address_all : (o : Scene) (s : ℕ) (to : Address) (form : PresenceForm) (e : Element) (P : Effect → Type 0)
-    → Covers o s (Presence (Some to) form e) P → (own : List ℕ) → (here o.world s).address.local ≡ Some own
+-- in a room
+in_room_all : (o : Scene) (s : ℕ) (to : Address) (form : PresenceForm) (e : Element) (P : Effect → Type 0) (Q : List Effect → Type 0)
+    → Covers o s (Presence (Some to) form e) P Q → length (presence_text (here o.world s) e) ≤ 16384
+    → Q (to_be_in o.world.rooms (here o.world s) (Presence (Some to) form e) form (room_for o.world.rooms (Some to)))
+in_room_all o s to Available e P Q all short = all.present e refl short
+in_room_all o s to Unavailable e P Q all short = all.absent e refl short
+in_room_all o s to Subscribe e P Q all short = all.all [] tt
+in_room_all o s to Subscribed e P Q all short = all.all [] tt
+in_room_all o s to Unsubscribe e P Q all short = all.all [] tt
+in_room_all o s to Unsubscribed e P Q all short = all.all [] tt
+in_room_all o s to Probe e P Q all short = all.all [] tt
+in_room_all o s to Error e P Q all short = all.all [] tt
+
+address_all : (o : Scene) (s : ℕ) (to : Address) (form : PresenceForm) (e : Element) (P : Effect → Type 0) (Q : List Effect → Type 0)
+    → Covers o s (Presence (Some to) form e) P Q → (own : List ℕ) → (here o.world s).address.local ≡ Some own
     → length (presence_text (here o.world s) e) ≤ 16384 → (place : Place) → place ≡ place_of own o.domain (Some to)
-    → AllByRecursion P (to_address o own (here o.world s) (Presence (Some to) form e) to form e place)
-address_all o s to form e P all own mine short Account at = user_all o s to form e P all own mine short Account at
-address_all o s to form e P all own mine short (User user) at = user_all o s to form e P all own mine short (User user) at
-address_all o s to form e P all own mine short (UserAt user resource) at = user_all o s to form e P all own mine short (UserAt user resource) at
-address_all o s to form e P all own mine short (Room room) at = in_room_all o s (Presence (Some to) form e) P all form
-address_all o s to form e P all own mine short (RoomAt room nick) at = in_room_all o s (Presence (Some to) form e) P all form
-address_all o s to form e P all own mine short Server at = tt
-address_all o s to form e P all own mine short Service at = tt
-address_all o s to form e P all own mine short Foreign at = tt
+    → Q (to_address o own (here o.world s) (Presence (Some to) form e) to form e place)
+address_all o s to form e P Q all own mine short Account at = all.all _ (user_all o s to form e P Q all own mine short Account at)
+address_all o s to form e P Q all own mine short (User user) at = all.all _ (user_all o s to form e P Q all own mine short (User user) at)
+address_all o s to form e P Q all own mine short (UserAt user resource) at =
+    all.all _ (user_all o s to form e P Q all own mine short (UserAt user resource) at)
+address_all o s to form e P Q all own mine short (Room room) at = in_room_all o s to form e P Q all short
+address_all o s to form e P Q all own mine short (RoomAt room nick) at = in_room_all o s to form e P Q all short
+address_all o s to form e P Q all own mine short Server at = all.all [] tt
+address_all o s to form e P Q all own mine short Service at = all.all [] tt
+address_all o s to form e P Q all own mine short Foreign at = all.all [] tt
 
 -- the text without an address is no longer than with it
 text_short : (who : Here) (to : Option Address) (e : Element) → length_sent who to e ≤ 16384 → length (presence_text who e) ≤ 16384
@@ -256,29 +295,29 @@ text_short who None e short = short
 text_short who (Some to) e short =
     omega (arith, short, length-frame (record { to = address_text to; rest = presence_text who e; origin = Direct }))
 
-short_all : (o : Scene) (s : ℕ) (to : Option Address) (form : PresenceForm) (e : Element) (P : Effect → Type 0)
-    → Covers o s (Presence to form e) P → (own : List ℕ) (place : Place) → (here o.world s).address.local ≡ Some own
+short_all : (o : Scene) (s : ℕ) (to : Option Address) (form : PresenceForm) (e : Element) (P : Effect → Type 0) (Q : List Effect → Type 0)
+    → Covers o s (Presence to form e) P Q → (own : List ℕ) (place : Place) → (here o.world s).address.local ≡ Some own
     → place ≡ place_of own o.domain to → length (presence_text (here o.world s) e) ≤ 16384
-    → AllByRecursion P (presence_to o own (here o.world s) (Presence to form e) to form e place)
-short_all o s None form e P all own place mine at short = broadcast_all o s form e P all own short
-short_all o s (Some to) form e P all own place mine at short = address_all o s to form e P all own mine short place at
+    → Q (presence_to o own (here o.world s) (Presence to form e) to form e place)
+short_all o s None form e P Q all own place mine at short = broadcast_all o s form e P Q all own short
+short_all o s (Some to) form e P Q all own place mine at short = address_all o s to form e P Q all own mine short place at
 
-pub presence_all : (o : Scene) (s : ℕ) (to : Option Address) (form : PresenceForm) (e : Element) (P : Effect → Type 0)
-    → Covers o s (Presence to form e) P → (own : List ℕ) (place : Place) → (here o.world s).address.local ≡ Some own
+pub presence_all : (o : Scene) (s : ℕ) (to : Option Address) (form : PresenceForm) (e : Element) (P : Effect → Type 0) (Q : List Effect → Type 0)
+    → Covers o s (Presence to form e) P Q → (own : List ℕ) (place : Place) → (here o.world s).address.local ≡ Some own
     → place ≡ place_of own o.domain to
-    → AllByRecursion P (presence o own (here o.world s) (Presence to form e) to form e place)
-presence_all o s to form e P all own place mine at = elim (cases_lt most_of_presence (length_sent (here o.world s) to e)) [
+    → Q (presence o own (here o.world s) (Presence to form e) to form e place)
+presence_all o s to form e P Q all own place mine at = elim (cases_lt most_of_presence (length_sent (here o.world s) to e)) [
   | inl long ↦ is_by (sym (lt-ltb most_of_presence (length_sent (here o.world s) to e) long))
-      (refusal_all o s (Presence to form e) P all NotAcceptable)
+      (all.all _ (refusal_all o s (Presence to form e) P Q all NotAcceptable))
   | inr short ↦ is_by (sym (le-ltb most_of_presence (length_sent (here o.world s) to e) short))
-      (short_all o s to form e P all own place mine at (text_short (here o.world s) to e short))
+      (short_all o s to form e P Q all own place mine at (text_short (here o.world s) to e short))
 ]
   where
     is_by : {a b : Bool} → a ≡ b
-        → AllByRecursion P (if a then refused (here o.world s) (Presence to form e) NotAcceptable
+        → Q (if a then refused (here o.world s) (Presence to form e) NotAcceptable
         else presence_to o own (here o.world s) (Presence to form e) to form e place)
-        → AllByRecursion P (if b then refused (here o.world s) (Presence to form e) NotAcceptable
+        → Q (if b then refused (here o.world s) (Presence to form e) NotAcceptable
         else presence_to o own (here o.world s) (Presence to form e) to form e place)
     is_by same is =
-        subst (λ (c : Bool). AllByRecursion P (if c then refused (here o.world s) (Presence to form e) NotAcceptable
+        subst (λ (c : Bool). Q (if c then refused (here o.world s) (Presence to form e) NotAcceptable
         else presence_to o own (here o.world s) (Presence to form e) to form e place)) same is

@@ -5,6 +5,7 @@ use Rattle.jid_core.specs.Addresses.{Address}
 use Rattle.stanza_tree.specs.declared.frame.Entry.{Entry}
 use Rattle.stanza_model.specs.declared.effect.Effect as stanza
 use Rattle.stanza_model.specs.declared.effect.Effect.TheVariants.{Queue, Set}
+use Rattle.stanza_model.specs.declared.effect.Effect.TheVariants as effect
 use Rattle.stanza_model.specs.declared.effect.Change.TheVariants as change
 use Rattle.stanza_model.specs.declared.stanza.Stanza.{Stanza}
 use Rattle.sm_resume.specs.declared.decision.Cause.{Cause}
@@ -12,6 +13,7 @@ use Rattle.sm_resume.specs.declared.decision.Cause.TheVariants.{Flood, Lost, Rep
 use Rattle.sm_resume.specs.declared.id.ResumeId.{ResumeId}
 use Rattle.session_table.specs.declared.line.Line as stage
 use Rattle.session_table.specs.declared.line.Line.TheVariants.{Empty, Fresh, Logged, Bound, Over}
+use Rattle.muc_service.specs.Casting.{cast}
 use Rattle.house_model.specs.declared.answer.Answer.{Answer}
 use Rattle.house_model.specs.declared.event.Event.{Event}
 use Rattle.house_model.specs.declared.event.Event.TheVariants as event
@@ -68,10 +70,22 @@ queued_plain r (Set (change.Asked a b now) ∷ more) = (tt, queued_plain r more)
 queued_plain r (Set (change.Available s stanza priority) ∷ more) = (refl, queued_plain r more)
 queued_plain r (Set (change.Unavailable s) ∷ more) = (refl, queued_plain r more)
 queued_plain r (Set (change.Directed s addresses) ∷ more) = (refl, queued_plain r more)
+queued_plain r (effect.Broadcast n item ∷ more) = (tt, queued_plain r more)
+queued_plain r (effect.Enter n s address nick role ∷ more) = (tt, queued_plain r more)
+queued_plain r (effect.Leave n s ∷ more) = (tt, queued_plain r more)
+queued_plain r (Set (change.RoomMade n address owner) ∷ more) = (tt, queued_plain r more)
+queued_plain r (Set (change.RoomGone n) ∷ more) = (tt, queued_plain r more)
+queued_plain r (Set (change.Unlocked n) ∷ more) = (tt, queued_plain r more)
+queued_plain r (Set (change.Configured n config) ∷ more) = (tt, queued_plain r more)
+queued_plain r (Set (change.Affiliated n address a) ∷ more) = (tt, queued_plain r more)
+queued_plain r (Set (change.RoleSet n s role) ∷ more) = (tt, queued_plain r more)
+queued_plain r (Set (change.Renamed n s nick) ∷ more) = (tt, queued_plain r more)
+queued_plain r (Set (change.OccupantShown n s presence) ∷ more) = (tt, queued_plain r more)
+queued_plain r (Set (change.Subject n text) ∷ more) = (tt, queued_plain r more)
 
 departs_plain : (r : Ear) (k : World KeptTraffic) (s : ℕ) (cause : Cause) → not r.part ≡ true → AllPlain r (departs k s cause)
 departs_plain r k s cause is =
-    (refl, plain_append r (map effect_of (departure k s)) (On s Part ∷ []) (queued_plain r (departure k s)) (is, tt))
+    (refl, plain_append r (map effect_of (cast k.rooms (departure k s))) (On s Part ∷ []) (queued_plain r (cast k.rooms (departure k s))) (is, tt))
 
 pub replaces_plain : (r : Ear) (k : Kept) (o : Option ℕ) → not r.part ≡ true → AllPlain r (replaces k o)
 replaces_plain r k None is = tt
@@ -111,7 +125,7 @@ resumes_plain r (Some id) k w c u h is =
 
 acts_plain : (r : Ear) (k : Kept) (s : ℕ) (x : Stanza) → not r.act ≡ true → AllPlain r (acts k s x).effects
 acts_plain r k s x is =
-    (is, queued_plain r (effects k s x))
+    (is, queued_plain r (cast k.world.rooms (effects k s x)))
 
 acks_plain : (r : Ear) (counts : Bool) (s h : ℕ) (t : KeptTraffic) → not r.ack ≡ true
     → AllPlain r (acks counts s h t).effects

@@ -37,11 +37,11 @@ space-le : (b : Bool) (space : List ℕ) → length (if b then [] else codes " x
 space-le true space = omega arith
 space-le false space = omega (arith, assigned-le space, length-append (codes " xmlns") (assigned space))
 
-named-le : (parent : List ℕ) (n : Name) → length (named parent n) ≤ 10 + length n.local + 6 * length n.space
+pub named-le : (parent : List ℕ) (n : Name) → length (named parent n) ≤ 10 + length n.local + 6 * length n.space
 unfolding named
 named-le parent n = grind (arith, common_steps, space-le (bytes_eq parent n.space) n.space)
 
-closed-le : (local content : List ℕ) → length (closed local content) ≤ 4 + length local + length content
+pub closed-le : (local content : List ℕ) → length (closed local content) ≤ 4 + length local + length content
 unfolding closed
 closed-le local content = grind (arith, common_steps)
 
@@ -153,13 +153,13 @@ abbrev pub spelt_length : Option (List ℕ) → ℕ
 spelt_length None = 0
 spelt_length (Some value) = length (value_text value)
 
-if-attributes : (local : List ℕ) (value : Option (List ℕ)) (more : List Attr)
+pub if-attributes : (local : List ℕ) (value : Option (List ℕ)) (more : List Attr)
     → length (attributes 0 (attr_if local value ++ more))
     ≤ 4 + length local + spelt_length value + length (attributes 0 more)
 if-attributes local None more = omega arith
 if-attributes local (Some value) more = omega (arith, plain-attributes local value more)
 
-if-declared : (local : List ℕ) (value : Option (List ℕ)) (more : List Attr)
+pub if-declared : (local : List ℕ) (value : Option (List ℕ)) (more : List Attr)
     → declarations 0 (attr_if local value ++ more) ≡ declarations 0 more
 if-declared local None more = refl
 if-declared local (Some value) more = plain-declared local value more

@@ -7,12 +7,13 @@ use Rattle.stanza_model.specs.Replies.{refused}
 use Rattle.stanza_model.specs.Rosters.{roster_space}
 use Rattle.stanza_model.specs.Stanzas.{to_in}
 use Rattle.stanza_model.specs.declared.condition.Condition.{Condition}
-use Rattle.stanza_model.specs.declared.condition.Condition.TheVariants.{BadRequest, ItemNotFound, NotAcceptable, NotAllowed}
+use Rattle.stanza_model.specs.declared.condition.Condition.TheVariants.{BadRequest, NotAcceptable, NotAllowed}
 use Rattle.stanza_model.specs.declared.condition.Condition.TheVariants.{RemoteServerNotFound, ResourceConstraint, ServiceUnavailable}
 use Rattle.stanza_model.specs.declared.effect.Change.{Change}
 use Rattle.stanza_model.specs.declared.effect.Change.TheVariants as change
 use Rattle.stanza_model.specs.declared.effect.Effect.{Effect}
 use Rattle.stanza_model.specs.declared.effect.Effect.TheVariants.{Queue, Set}
+use Rattle.stanza_model.specs.declared.effect.Effect.TheVariants as effect
 use Rattle.stanza_model.specs.declared.here.Here.{Here}
 use Rattle.stanza_model.specs.declared.kinds.MessageForm.{MessageForm}
 use Rattle.stanza_model.specs.declared.kinds.MessageForm.TheVariants as form
@@ -37,17 +38,20 @@ use Rattle.presence_core.specs.Broadcasts.{told_others, told_watchers, welcome, 
 use Rattle.presence_core.specs.Copies.{copies, copy_to, presence_text}
 use Rattle.presence_core.specs.DirectedPresence.{directed, delivered, has_room, with_address, without_address}
 use Rattle.presence_core.specs.Priorities.{priority_in}
+use Rattle.muc_service.specs.Rooms.{Rooms}
 use Rattle.house_model.specs.Effects.{apply, apply_all}
 use Rattle.house_model.specs.Lookups.{has_user, here, sessions_of}
 use Rattle.house_model.specs.Presences.{asking, directed_by, length_sent, most_of_presence, named, party, shown, watchers}
-use Rattle.house_model.specs.Requests.{pings, begins_session, binds_resource, discovers, asks_a_room, gets, sets}
+use Rattle.house_model.specs.Requests.{pings, begins_session, binds_resource, discovers, gets, sets}
 use Rattle.house_model.specs.Routing.{Scene, between, broadcast, departure, departure_by, directed_if, effects_at, effects_by, effects_in}
 use Rattle.house_model.specs.Routing.{error_to, has_account, iq, live_for, message, own_contacts, parted, presence, presence_to, receivers}
-use Rattle.house_model.specs.Routing.{roster_changed, subscribed, to_account, to_address, to_be_in_room, to_no_room, to_room, to_server}
+use Rattle.house_model.specs.RoomLookups.{room_for}
+use Rattle.house_model.specs.Routing.{leaves_rooms, roster_changed, subscribed, to_account, to_address, to_be_in, to_room, to_server}
 use Rattle.house_model.specs.Routing.{to_service, to_session, to_user, to_users, unless_full, user_in, user_removed}
 use Rattle.house_model.specs.States.{World}
 use Rattle.house_model.specs.Steps.{effect_of, set}
 use Rattle.house_model.specs.Traffic.{KeptTraffic, brief}
+use Rattle.house_model.proofs.RoomsQuiet.{in_room_quiet, room_quiet, rooms_left_quiet, to_all_quiet, to_one_quiet}
 
 -- Messages.
 
@@ -95,16 +99,10 @@ server_quiet who st place =
     (quiet_either (discovers st) _ _ (λ k. refl)
     (quiet_either (binds_resource st) _ _ (quiet_refused who st NotAllowed) (quiet_refused who st ServiceUnavailable)))
 
-service_quiet : (who : Here) (st : Stanza) (place : Place) → IsQuiet (to_service who st place)
-service_quiet who st place =
+service_quiet : (rooms : Rooms) (who : Here) (st : Stanza) (place : Place) → IsQuiet (to_service rooms who st place)
+service_quiet rooms who st place =
     quiet_either (discovers st) _ _ (λ k. refl)
     (quiet_either (pings st) _ _ (λ k. refl) (quiet_refused who st ServiceUnavailable))
-
-room_quiet : (who : Here) (st : Stanza) (place : Place) → IsQuiet (to_room who st place)
-room_quiet who st place =
-    quiet_either (discovers st) _ _ (λ k. refl)
-    (quiet_either (pings st) _ _ (λ k. refl)
-    (quiet_either (asks_a_room st) _ _ (quiet_refused who st ItemNotFound) (quiet_refused who st ServiceUnavailable)))
 
 session_quiet : (world : World KeptTraffic) (who : Here) (st : Stanza) (to : Option Address) (e : Element) (live : Option ℕ)
     → IsQuiet (to_session world who st to e live)
@@ -149,7 +147,10 @@ broadcast_quiet : (o : Scene) (own : List ℕ) (who : Here) (form : PresenceForm
 broadcast_quiet o own who Available e =
     announced_quiet who (Presence None Available e) e (watchers o.world own who) (shown o.world own who) (asking o.domain o.world own) (priority_in e)
 broadcast_quiet o own who Unavailable e =
-    leaves_quiet None who (presence_text who e) (watchers o.world own who) (named o.world (directed_by o.world who))
+    quiet_both (leaves None who (presence_text who e) (watchers o.world own who) (named o.world (directed_by o.world who)))
+    (leaves_rooms o.world.rooms who.session (Some (Presence None Unavailable e)))
+    (leaves_quiet None who (presence_text who e) (watchers o.world own who) (named o.world (directed_by o.world who)))
+    (rooms_left_quiet o.world.rooms who.session (Some (Presence None Unavailable e)))
 broadcast_quiet o own who Subscribe e = quiet_refused who (Presence None Subscribe e) BadRequest
 broadcast_quiet o own who Subscribed e = quiet_refused who (Presence None Subscribed e) BadRequest
 broadcast_quiet o own who Unsubscribe e = quiet_refused who (Presence None Unsubscribe e) BadRequest
@@ -172,16 +173,6 @@ error_quiet : (world : World KeptTraffic) (who : Here) (to : Address) (e : Eleme
 error_quiet world who to e (Some r) = λ k. refl
 error_quiet world who to e None = λ k. refl
 
-in_room_quiet : (who : Here) (st : Stanza) (form : PresenceForm) → IsQuiet (to_be_in_room who st form)
-in_room_quiet who st Available = quiet_refused who st ServiceUnavailable
-in_room_quiet who st Unavailable = λ k. refl
-in_room_quiet who st Subscribe = λ k. refl
-in_room_quiet who st Subscribed = λ k. refl
-in_room_quiet who st Unsubscribe = λ k. refl
-in_room_quiet who st Unsubscribed = λ k. refl
-in_room_quiet who st Probe = λ k. refl
-in_room_quiet who st Error = λ k. refl
-
 -- All rows.
 
 module _ (o : Scene) (own : List ℕ) (who : Here) where
@@ -199,17 +190,17 @@ module _ (o : Scene) (own : List ℕ) (who : Here) where
   refused_kept : (st : Stanza) (condition : Condition) → Keeps (refused who st condition)
   refused_kept st condition = quiet (refused who st condition) (quiet_refused who st condition)
 
-  message_kept : (st : Stanza) (form : MessageForm) (e : Element) (place : Place) → Keeps (message o.users o.world own who st form e place)
-  message_kept st form e place = quiet (message o.users o.world own who st form e place) (by place)
+  message_kept : (st : Stanza) (form : MessageForm) (e : Element) (place : Place) → Keeps (message o own who st form e place)
+  message_kept st form e place = quiet (message o own who st form e place) (by place)
     where
       found : (place : Place) → IsQuiet (to_users o.users o.world who st form place (user_in own place))
       found place =
           let hs = receivers o.world form place (user_in own place) (live_for o.world place (to_in st)) in
           deliveries_quiet who st place (has_account o.users (user_in own place) hs) hs
 
-      by : (place : Place) → IsQuiet (message o.users o.world own who st form e place)
-      by (Room room) = quiet_refused who st (to_no_room form e)
-      by (RoomAt room nick) = quiet_refused who st ItemNotFound
+      by : (place : Place) → IsQuiet (message o own who st form e place)
+      by (Room room) = to_all_quiet o who st form e (room_for o.world.rooms (to_in st))
+      by (RoomAt room nick) = to_one_quiet who st (room_for o.world.rooms (to_in st))
       by Account = found Account
       by Server = found Server
       by (User user) = found (User user)
@@ -238,8 +229,10 @@ module _ (o : Scene) (own : List ℕ) (who : Here) where
   iq_kept st to e (User user) = refused_kept st ServiceUnavailable
   iq_kept st to e (UserAt user resource) =
       let live = live_for o.world (UserAt user resource) to in quiet (to_session o.world who st to e live) (session_quiet o.world who st to e live)
-  iq_kept st to e Service = quiet (to_service who st Service) (service_quiet who st Service)
-  iq_kept st to e (Room room) = quiet (to_room who st (Room room)) (room_quiet who st (Room room))
+  iq_kept st to e Service = quiet (to_service o.world.rooms who st Service) (service_quiet o.world.rooms who st Service)
+  iq_kept st to e (Room room) =
+      let found = room_for o.world.rooms to in
+      quiet (to_room o.world.rooms who st (Room room) found) (room_quiet o.world.rooms who st (Room room) found)
   iq_kept st to e (RoomAt room nick) = refused_kept st ServiceUnavailable
   iq_kept st to e Foreign = refused_kept st RemoteServerNotFound
 
@@ -280,9 +273,13 @@ module _ (o : Scene) (own : List ℕ) (who : Here) where
   address_kept to form e (User user) = user_kept to form e (User user)
   address_kept to form e (UserAt user resource) = user_kept to form e (UserAt user resource)
   address_kept to form e (Room room) =
-      let st = Presence (Some to) form e in quiet (to_be_in_room who st form) (in_room_quiet who st form)
+      let st = Presence (Some to) form e in
+      let found = room_for o.world.rooms (Some to) in
+      quiet (to_be_in o.world.rooms who st form found) (in_room_quiet o.world.rooms who st form found)
   address_kept to form e (RoomAt room nick) =
-      let st = Presence (Some to) form e in quiet (to_be_in_room who st form) (in_room_quiet who st form)
+      let st = Presence (Some to) form e in
+      let found = room_for o.world.rooms (Some to) in
+      quiet (to_be_in o.world.rooms who st form found) (in_room_quiet o.world.rooms who st form found)
   address_kept to form e Server = λ are. are
   address_kept to form e Service = λ are. are
   address_kept to form e Foreign = λ are. are
@@ -313,7 +310,9 @@ stanza_kept o s st = by (here o.world s).address.local
 
 -- Departure.
 pub departure_quiet : (world : World KeptTraffic) (s : ℕ) (k : Book) → noted_all (departure world s) k ≡ k
-departure_quiet world s = by (here world s).address.local
+departure_quiet world s =
+    quiet_both (departure_by (here world s).address.local world (here world s)) (leaves_rooms world.rooms s None) (by (here world s).address.local)
+    (rooms_left_quiet world.rooms s None)
   where
     by : (own : Option (List ℕ)) → IsQuiet (departure_by own world (here world s))
     by None k = refl
@@ -332,8 +331,20 @@ set_book world (change.Asked a b is) = refl
 set_book world (change.Available s stanza priority) = refl
 set_book world (change.Unavailable s) = refl
 set_book world (change.Directed s addresses) = refl
+set_book world (change.RoomMade n address owner) = refl
+set_book world (change.RoomGone n) = refl
+set_book world (change.Unlocked n) = refl
+set_book world (change.Configured n config) = refl
+set_book world (change.Affiliated n address a) = refl
+set_book world (change.RoleSet n s role) = refl
+set_book world (change.Renamed n s nick) = refl
+set_book world (change.OccupantShown n s presence) = refl
+set_book world (change.Subject n text) = refl
 
 pub noted_book : (world : World KeptTraffic) (es : List Effect) → (apply_all brief world (map effect_of es)).book ≡ noted_all es world.book
 noted_book world [] = refl
 noted_book world (Queue s to rest origin ∷ es) = noted_book (apply brief world (effect_of (Queue s to rest origin))) es
+noted_book world (effect.Broadcast n item ∷ es) = noted_book (apply brief world (effect_of (effect.Broadcast n item))) es
+noted_book world (effect.Enter n s address nick role ∷ es) = noted_book (apply brief world (effect_of (effect.Enter n s address nick role))) es
+noted_book world (effect.Leave n s ∷ es) = noted_book (apply brief world (effect_of (effect.Leave n s))) es
 noted_book world (Set c ∷ es) = noted_book (apply brief world (set c)) es ∙ ap (noted_all es) (set_book world c)

@@ -144,7 +144,7 @@ listing-le st cs to id small =
     (omega (arith, small, items-le cs, query-le (map item cs), first-length client_space (query_of (map item cs)) []))
 
 -- A push of an item.
-number-le : (n : ℕ) → n ≤ 18446744073709551618 → length (decimal n) ≤ 20
+pub number-le : (n : ℕ) → n ≤ 18446744073709551618 → length (decimal n) ≤ 20
 number-le n low = length-decimal-le_wide 20 n (omega arith) (omega (arith, low)) (omega (arith, low))
 
 pub push-le : (n : ℕ) (x : Element) → n ≤ 18446744073709551618 → length (text_under roster_space x) ≤ 200000

@@ -21,9 +21,10 @@ use Rattle.stanza_model.specs.declared.shared.Side.{Side}
 use Rattle.contact_table.specs.Books.{bare_of}
 use Rattle.subscription_pairs.specs.Deliveries.{presence_from}
 use Rattle.subscription_pairs.specs.Users.{contact_by, contact_of, new_contact}
-use Rattle.house_model.specs.Fitting.{IsShortScene, IsSmall}
+use Rattle.house_model.specs.Fitting.{IsShortScene}
 use Rattle.house_model.specs.Presences.{party}
 use Rattle.house_model.specs.Routing.{Scene, own_contacts}
+use Rattle.house_model.proofs.SmallEffects.{Small}
 use Rattle.house_model.proofs.ReplySizes.{under-le, plain-attributes, plain-declared}
 use Rattle.house_model.proofs.RosterCases.{IsAt, IsSeen, Reaches, party_seen}
 use Rattle.house_model.proofs.RosterSizes.{item-le, new-le, push-le}
@@ -122,7 +123,7 @@ module _ (o : Scene) (short : IsShortScene o) where
   at-short : (h : Here) → IsAt o.world h → length (address_text h.address) ≤ 3071
   at-short h at = subst (λ (a : Address). length (address_text a) ≤ 3071) (sym at.address) (short.addresses h.session)
 
-  pub small-reaches : Reaches o.world IsSmall IsShortItem IsShortName IsShortText
+  pub small-reaches : Reaches o.world Small IsShortItem IsShortName IsShortText
   small-reaches = record {
     sees = λ x y is. tt;
     asked = λ x y is. tt;

@@ -34,6 +34,8 @@ use Rattle.house_model.proofs.GivenIds.{can_is}
 use Rattle.house_model.proofs.Partings.{departs_is}
 use Rattle.house_model.proofs.LineLaws.{shares_are, counts_alone}
 use Rattle.house_model.proofs.AccountLaws.{ops_append}
+use Rattle.house_model.proofs.HandledRuns.{handled_runs}
+use Rattle.house_model.proofs.StayVerdicts.{gapless}
 
 -- a Resume in turn
 fails : (o : State) (h : List Turn) → IsOpening o → Legal o h → (w c user count t : ℕ) (id : Option ResumeId)
@@ -163,4 +165,6 @@ safe o h starts legal = record {
   handled_prefix = λ s a is. handled_is o h s a starts legal is;
   acted_once = λ s a is. acted_is o h s a starts legal is;
   resumption = resumption o h starts legal;
+  gapless = gapless o h starts;
+  gapless_handled = λ s i a is. handled_runs o h s i a starts legal is;
 }

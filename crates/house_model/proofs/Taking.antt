@@ -11,6 +11,7 @@ use Rattle.sm_account.specs.Sessions as one
 use Rattle.sm_account.specs.Sessions.{Core}
 use Rattle.sm_account.specs.Logs as log
 use Rattle.sm_account.specs.Logs.{log_of}
+use Rattle.muc_service.specs.Casting.{cast}
 use Rattle.house_model.specs.declared.answer.Answer.TheVariants as answer
 use Rattle.house_model.specs.declared.event.Event.TheVariants as event
 use Rattle.house_model.specs.Sessions.{Session, Tell, Act}
@@ -68,9 +69,9 @@ stage_taken k w x t st kept (Fresh c) o is = refl
 stage_taken k w x t st kept (Logged c u) o is = refl
 stage_taken k w x t st kept (Bound c s) o is =
     heard act_ear log.takes k w c s st (Act x) (one.Act x)
-    (map effect_of (effects kept s x))
+    (map effect_of (cast kept.world.rooms (effects kept s x)))
     (λ c. record { connection = c; stanza = x } ∷ []) takes_quiet
-    (queued_plain act_ear (effects kept s x)) refl o is
+    (queued_plain act_ear (cast kept.world.rooms (effects kept s x))) refl o is
     (λ held. held_takes (st.world.sessions k).counts _ c x held)
 
 short_taken : (k w : ℕ) (x : Stanza) (st : State) (g : stage.Line) → Sound st.world → (st.world.lines w).stage ≡ g
@@ -127,9 +128,9 @@ stage_done k w x t st kept (Fresh c) o is = refl
 stage_done k w x t st kept (Logged c u) o is = refl
 stage_done k w x t st kept (Bound c s) o is =
     heard act_ear log.does k w c s st (Act x) (one.Act x)
-    (map effect_of (effects kept s x))
+    (map effect_of (cast kept.world.rooms (effects kept s x)))
     (λ c. x ∷ []) does_quiet
-    (queued_plain act_ear (effects kept s x)) refl o is
+    (queued_plain act_ear (cast kept.world.rooms (effects kept s x))) refl o is
     (λ held. held_does (st.world.sessions k).counts _ c x held)
 
 pub done_turn : (k : ℕ) → TurnIs log.does (done k) k

@@ -5,12 +5,14 @@ use Rattle.jid_core.specs.Addresses.{Address}
 use Rattle.stanza_tree.specs.declared.frame.Entry.{Entry}
 use Rattle.stanza_model.specs.declared.effect.Effect as stanza
 use Rattle.stanza_model.specs.declared.effect.Effect.TheVariants.{Queue, Set}
+use Rattle.stanza_model.specs.declared.effect.Effect.TheVariants as effect
 use Rattle.stanza_model.specs.declared.effect.Change.TheVariants as change
 use Rattle.stanza_model.specs.declared.stanza.Stanza.{Stanza}
 use Rattle.sm_resume.specs.declared.decision.Cause.TheVariants.{Flood, Replaced}
 use Rattle.sm_resume.specs.declared.id.ResumeId.{ResumeId}
 use Rattle.session_table.specs.declared.line.Line as stage
 use Rattle.session_table.specs.declared.line.Line.TheVariants.{Empty, Fresh, Logged, Bound, Over}
+use Rattle.muc_service.specs.Casting.{cast}
 use Rattle.house_model.specs.declared.answer.Answer.{Answer}
 use Rattle.house_model.specs.declared.event.Event.{Event}
 use Rattle.house_model.specs.declared.event.Event.TheVariants as event
@@ -78,6 +80,18 @@ queued_opens (Set (change.Asked a b now) ∷ more) = omega (arith, queued_opens 
 queued_opens (Set (change.Available s stanza priority) ∷ more) = omega (arith, queued_opens more)
 queued_opens (Set (change.Unavailable s) ∷ more) = omega (arith, queued_opens more)
 queued_opens (Set (change.Directed s addresses) ∷ more) = omega (arith, queued_opens more)
+queued_opens (effect.Broadcast n item ∷ more) = omega (arith, queued_opens more)
+queued_opens (effect.Enter n s address nick role ∷ more) = omega (arith, queued_opens more)
+queued_opens (effect.Leave n s ∷ more) = omega (arith, queued_opens more)
+queued_opens (Set (change.RoomMade n address owner) ∷ more) = omega (arith, queued_opens more)
+queued_opens (Set (change.RoomGone n) ∷ more) = omega (arith, queued_opens more)
+queued_opens (Set (change.Unlocked n) ∷ more) = omega (arith, queued_opens more)
+queued_opens (Set (change.Configured n config) ∷ more) = omega (arith, queued_opens more)
+queued_opens (Set (change.Affiliated n address a) ∷ more) = omega (arith, queued_opens more)
+queued_opens (Set (change.RoleSet n s role) ∷ more) = omega (arith, queued_opens more)
+queued_opens (Set (change.Renamed n s nick) ∷ more) = omega (arith, queued_opens more)
+queued_opens (Set (change.OccupantShown n s presence) ∷ more) = omega (arith, queued_opens more)
+queued_opens (Set (change.Subject n text) ∷ more) = omega (arith, queued_opens more)
 
 opens_append : (xs ys : List Effect) → opens_in (xs ++ ys) ≡ opens_in xs + opens_in ys
 opens_append [] ys = omega arith
@@ -88,12 +102,12 @@ replaces_opens : (s : Option ℕ) (k : Kept) (w c : ℕ) (a : Address) (answer :
 replaces_opens None k w c a answer = refl
 replaces_opens (Some s) k w c a answer =
     let more : List Effect = Begin w c a ∷ At w (Say answer) ∷ [] in
-    let told : List Effect = map effect_of (departure k.world s) in
+    let told : List Effect = map effect_of (cast k.world.rooms (departure k.world s)) in
     omega (
       arith,
       opens_append (On s (End (Replaced (k.world.made + 1))) ∷ told ++ On s Part ∷ []) more,
       opens_append told (On s Part ∷ []),
-      queued_opens (departure k.world s),
+      queued_opens (cast k.world.rooms (departure k.world s)),
     )
 
 binds_silent : (has : Bool) (k : Kept) (w c : ℕ) (a : Address) (id : List ℕ) → IsSilent (binds has k w c a id)
@@ -125,7 +139,7 @@ resumes_silent (Some id) k w c u h =
 
 acts_silent : (k : Kept) (s : ℕ) (x : Stanza) → IsSilent (acts k s x)
 acts_silent k s x = record {
-  opened = omega (arith, queued_opens (effects k s x));
+  opened = omega (arith, queued_opens (cast k.world.rooms (effects k s x)));
   text = refl;
 }
 
@@ -140,7 +154,7 @@ asks_silent false w s t = record { opened = refl; text = refl }
 sweeps_silent : (k : World KeptTraffic) (s : Option ℕ) → IsSilent (sweeps k s)
 sweeps_silent k None = record { opened = refl; text = refl }
 sweeps_silent k (Some s) = record {
-  opened = omega (arith, opens_append (map effect_of (departure k s)) (On s Part ∷ []), queued_opens (departure k s));
+  opened = omega (arith, opens_append (map effect_of (cast k.rooms (departure k s))) (On s Part ∷ []), queued_opens (cast k.rooms (departure k s)));
   text = refl;
 }
 

@@ -32,7 +32,7 @@ if-short : (text : List ℕ) (r : Result Address JidFault) (a : Address) → add
 if-short text (Err fault) a at is = absurd (cc)
 if-short text (Ok b) a at is = read-short text a (at ∙ ap Ok (same_Some b a is))
 
-in-short : (o : Option (List ℕ)) (a : Address) → option_and_then (λ text. address_if (address_of text)) o ≡ Some a → length (address_text a) ≤ 3071
+pub in-short : (o : Option (List ℕ)) (a : Address) → option_and_then (λ text. address_if (address_of text)) o ≡ Some a → length (address_text a) ≤ 3071
 in-short None a is = absurd (cc)
 in-short (Some text) a is = if-short text (address_of text) a refl is
 

@@ -7,7 +7,9 @@ use Rattle.session_table.specs.declared.line.Line as stage
 use Rattle.session_table.specs.declared.line.Line.TheVariants.{Fresh, Logged, Bound, Over}
 use Rattle.house_model.specs.declared.answer.Answer.{Answer}
 use Rattle.stanza_model.specs.declared.effect.Change.{Change}
+use Rattle.stanza_model.specs.declared.effect.Effect as stanza
 use Rattle.contact_table.specs.Books.{noted}
+use Rattle.muc_service.specs.Rooms.{step}
 use Rattle.house_model.specs.Numbered.{put}
 use Rattle.house_model.specs.Sessions.{Hold, Held, Away, Ended, Gone, Ways, Op, begun, session_step}
 use Rattle.house_model.specs.States.{Line, World, empty_line}
@@ -26,6 +28,7 @@ pub data Effect : Type 0 where
   Begin : (w conn : ℕ) → (address : Address) → Effect  -- the next session is held there
   On : (s : ℕ) → (op : Op) → Effect  -- what happens to the session of this number
   Note : (change : Change) → Effect  -- what is kept of users
+  Hosts : (effect : stanza.Effect) → Effect  -- what becomes of the rooms
 
 abbrev pub logged : ℕ → stage.Line → stage.Line
 logged user (Fresh c) = Logged c user
@@ -77,6 +80,7 @@ apply z world (Begin w c address) = record world {
 }
 apply z world (On s op) = touch z s op world
 apply z world (Note change) = record world { book = noted change world.book }
+apply z world (Hosts x) = record world { rooms = step x world.rooms }
 
 abbrev pub apply_all : {T : Type 0} → Ways T → World T → List Effect → World T
 apply_all z world [] = world

@@ -3,12 +3,17 @@ use Rattle.std.specs.Prelude.{◌≡◌, ℕ, ◌<◌, ◌≤◌, ◌^◌, List,
 use Rattle.std.specs.List.{AllByRecursion}
 use Rattle.jid_core.specs.Addresses.{Address, address_text}
 use Rattle.stanza_tree.specs.Entries.{frame}
-use Rattle.stanza_tree.specs.declared.frame.Origin.TheVariants.{Direct}
 use Rattle.stanza_model.specs.RosterLimits.{counted, most_text}
 use Rattle.stanza_model.specs.declared.effect.Effect.{Effect}
-use Rattle.stanza_model.specs.declared.effect.Effect.TheVariants.{Queue, Set}
+use Rattle.stanza_model.specs.declared.effect.Effect.TheVariants.{Queue, Broadcast, Enter, Leave, Set}
 use Rattle.stanza_model.specs.declared.effect.Change.{Change}
 use Rattle.stanza_model.specs.declared.effect.Change.TheVariants.{WantsRoster, Pushed, Available, Unavailable, Directed}
+use Rattle.stanza_model.specs.declared.effect.Change.TheVariants.{RoleSet, Renamed, OccupantShown}
+use Rattle.stanza_model.specs.declared.room.Occupant.{Occupant}
+use Rattle.stanza_model.specs.declared.room.Room.{Room}
+use Rattle.stanza_model.specs.declared.room.Seat.{Seat}
+use Rattle.muc_admin.specs.Listings as admin
+use Rattle.muc_service.specs.Rooms.{Hosted, Rooms}
 use Rattle.house_model.specs.Presences.{asking}
 use Rattle.house_model.specs.Routing.{Scene, own_contacts}
 use Rattle.house_model.specs.Sessions.{Gone}
@@ -30,11 +35,17 @@ ChangeFits world (Pushed s pushes) = IsInHouse s world
 ChangeFits world (Available s stanza priority) = IsInHouse s world
 ChangeFits world (Unavailable s) = IsInHouse s world
 ChangeFits world (Directed s addresses) = IsInHouse s world
+ChangeFits world (RoleSet n s role) = IsInHouse s world
+ChangeFits world (Renamed n s nick) = IsInHouse s world
+ChangeFits world (OccupantShown n s presence) = IsInHouse s world
 ChangeFits world change = ⊤
 
--- what an effect names is in the house, and a stanza is queued as itself, not as an item of a room
+-- each session that an effect names is in the house
 abbrev pub EffectFits : World Traffic → Effect → Type 0
-EffectFits world (Queue s to rest origin) = IsInHouse s world × (origin ≡ Direct)
+EffectFits world (Queue s to rest origin) = IsInHouse s world
+EffectFits world (Broadcast n item) = ⊤
+EffectFits world (Enter n s address nick role) = IsInHouse s world
+EffectFits world (Leave n s) = IsInHouse s world
 EffectFits world (Set c) = ChangeFits world c
 
 -- each effect, in the state in which its turn comes
@@ -46,6 +57,9 @@ AllFit world (e ∷ more) = EffectFits world e × AllFit (apply whole world (eff
 abbrev pub IsSmall : Effect → Type 0
 IsSmall (Set (Available s stanza priority)) = length stanza ≤ 16384
 IsSmall (Set c) = ⊤
+IsSmall (Broadcast n item) = ⊤
+IsSmall (Enter n s address nick role) = ⊤
+IsSmall (Leave n s) = ⊤
 IsSmall (Queue s to rest origin) = length (frame (record { to = to; rest = rest; origin = origin })) ≤ 524288
 
 abbrev pub AreSmall : List Effect → Type 0
@@ -58,8 +72,27 @@ IsShortAddress a = length (address_text a) ≤ 3071
 abbrev pub AreShortAddresses : World KeptTraffic → Type 0
 AreShortAddresses world = (s : ℕ) → IsShortAddress (world.sessions s).rest.address
 
+-- what is kept of those who are in a room is short: the addresses of their sessions, the nick, and what is shown of the presence
+pub record IsShortOccupant (o : Occupant) : Type 0 where
+  pub seats : AllByRecursion (λ (x : Seat). IsShortAddress x.address) o.seats
+  pub nick : length o.nick ≤ 3071
+  pub presence : length o.presence ≤ 16384
+
+-- and of a room: its address, its settings, the list of affiliations, and the subject
+pub record IsShortRoom (r : Room) : Type 0 where
+  pub address : IsShortAddress r.address
+  pub title : length r.config.title ≤ 256
+  pub secret : length r.config.secret ≤ 256
+  pub most : r.config.max ≤ 1000
+  pub affiliations : sum (map admin.counted r.affiliations) ≤ admin.most_text
+  pub occupants : AllByRecursion IsShortOccupant r.occupants
+  pub subject : IfSome r.subject (λ s. length s.text ≤ 300000)
+
+abbrev pub AreShortRooms : Rooms → Type 0
+AreShortRooms rooms = AllByRecursion (λ (h : Hosted). IsShortRoom h.room) rooms.hosted
+
 -- what the rules on stanzas read is short: the domain, the address of each session, and of each who has asked, each presence that is kept,
--- each roster, and the count of each session's pushes
+-- each roster, the count of each session's pushes, and the rooms
 pub record IsShortScene (o : Scene) : Type 0 where
   pub domain : length o.domain ≤ 1023
   pub addresses : AreShortAddresses o.world
@@ -67,3 +100,4 @@ pub record IsShortScene (o : Scene) : Type 0 where
   pub presences : (s : ℕ) → IfSome (o.world.sessions s).rest.manner.presence (λ p. length p ≤ 16384)
   pub rosters : (own : List ℕ) → sum (map counted (own_contacts o own)) ≤ most_text
   pub pushes : (s : ℕ) → (o.world.sessions s).rest.manner.pushes < 2 ^ 64
+  pub rooms : AreShortRooms o.world.rooms

@@ -44,16 +44,18 @@ if_it_goes_on world (Some r) = if goes_on (world.sessions r).hold then Some r el
 abbrev pub live_at : World KeptTraffic → Address → Option ℕ
 live_at world a = if_it_goes_on world (session_in world a)
 
-abbrev pub is_of : List ℕ → Session KeptTraffic → Bool
-is_of user s = is_there s && (goes_on s.hold && same_part s.rest.address.local (Some user))
+-- Whose they are. One that is over is there until it departs: it is listed, shown and in its rooms, though nothing is queued for it any more.
 
--- the sessions of a user that go on, by number
+abbrev pub is_of : List ℕ → Session KeptTraffic → Bool
+is_of user s = is_there s && same_part s.rest.address.local (Some user)
+
+-- the sessions of a user, by number
 abbrev pub numbers_of : World KeptTraffic → (user : List ℕ) → List ℕ
 numbers_of world user = all_passing world.made (λ s. is_of user (world.sessions s))
 
--- all sessions that go on, by number
-abbrev pub numbers_going : World KeptTraffic → List ℕ
-numbers_going world = all_passing world.made (λ s. is_there (world.sessions s) && goes_on (world.sessions s).hold)
+-- all sessions, by number
+abbrev pub numbers_there : World KeptTraffic → List ℕ
+numbers_there world = all_passing world.made (λ s. is_there (world.sessions s))
 
 -- a session as the rules on stanzas see it
 abbrev pub here : World KeptTraffic → ℕ → Here
@@ -66,7 +68,7 @@ here world s = record {
   pushes = (world.sessions s).rest.manner.pushes;
 }
 
--- the sessions of a user that go on
+-- the sessions of a user
 abbrev pub sessions_of : World KeptTraffic → (user : List ℕ) → List Here
 sessions_of world user = map (here world) (numbers_of world user)
 

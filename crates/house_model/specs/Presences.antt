@@ -10,7 +10,7 @@ use Rattle.stanza_model.specs.declared.shared.Shown.{Shown}
 use Rattle.presence_core.specs.Copies.{presence_text}
 use Rattle.contact_table.specs.Books.{bare_of, contacts_of, who_asked, who_sees, whom_sees}
 use Rattle.subscription_pairs.specs.Users.{User}
-use Rattle.house_model.specs.Lookups.{here, numbers_going, sessions_of}
+use Rattle.house_model.specs.Lookups.{here, numbers_there, sessions_of}
 use Rattle.house_model.specs.States.{World}
 use Rattle.house_model.specs.Traffic.{KeptTraffic}
 
@@ -76,7 +76,7 @@ abbrev pub names : Here → Address → Bool
 names h a = if is_some a.resource then same_address h.address a else h.available && same_bare h.address a
 
 abbrev pub named : World KeptTraffic → List Address → List Here
-named world addresses = filter (λ h. list_any (names h) addresses) (map (here world) (numbers_going world))
+named world addresses = filter (λ h. list_any (names h) addresses) (map (here world) (numbers_there world))
 
 abbrev pub directed_by : World KeptTraffic → Here → List Address
 directed_by world who = (world.sessions who.session).rest.manner.directed

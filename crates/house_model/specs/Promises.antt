@@ -1,5 +1,5 @@
 -- What the house promises of every history, whatever is sent, cut or resumed.
-use Rattle.std.specs.Prelude.{◌≡◌, ◌⊎◌, ℕ, ◌+◌, ◌-◌, List, [], ◌∷◌, ◌++◌, drop, Option, Some, None, Bool, true, false, ◌&&◌}
+use Rattle.std.specs.Prelude.{◌≡◌, ◌⊎◌, ℕ, ◌+◌, ◌-◌, List, [], ◌∷◌, ◌++◌, length, drop, take, Option, Some, None, Bool, true, false, ◌&&◌}
 use Rattle.stanza_tree.specs.declared.frame.Entry.{Entry}
 use Rattle.stanza_model.specs.declared.stanza.Stanza.{Stanza}
 use Rattle.sm_counters.specs.Numbers.{count_of, number}
@@ -17,6 +17,7 @@ use Rattle.house_model.specs.States.{State}
 use Rattle.house_model.specs.Histories.{Turn, made, step, after, Legal}
 use Rattle.house_model.specs.Accounts.{IsAccountOf, handled, total_handled}
 use Rattle.house_model.specs.Lines.{carried, acted, was_given}
+use Rattle.house_model.specs.Stays.{Gapless, live_of, logs_of, own, run}
 use Rattle.house_model.specs.Resuming.{InTurn, is_live, is_of_user, IsNotFound, IsResumed, IsSwept, IsReplaced}
 
 abbrev pub session_in : State → List Turn → ℕ → Session Traffic
@@ -25,6 +26,14 @@ session_in o h s = (after o h).world.sessions s
 -- XEP-0198, 3: what was queued for the client, from the first entry on that its count counts
 abbrev pub counted : State → List Turn → ℕ → List Entry
 counted o h s = drop (session_in o h s).traffic.base_out (session_in o h s).traffic.queued
+
+-- and what was queued before
+abbrev pub uncounted : State → List Turn → ℕ → List Entry
+uncounted o h s = take (session_in o h s).traffic.base_out (session_in o h s).traffic.queued
+
+-- XEP-0045, 7: what a session is to see of a stay in a room
+abbrev pub run_of : State → List Turn → (s stay : ℕ) → List Entry
+run_of o h s i = run (logs_of o h).order s (session_in o h s).rest.address i (own s ((logs_of o h).stays i))
 
 -- XEP-0198, 5: a user can resume the session of an id that can be read and was given to a session, where this is not
 -- over, did not depart, and is the user's
@@ -86,3 +95,8 @@ pub record Safe (o : State) (h : List Turn) : Type 0 where
   pub acted_once : (s : ℕ) (a : Account Stanza) → IsAccountOf a o h s → IsPrefixOf (acted o h s) a.stanzas
   -- A resumption in turn fails only where unknown, ended, foreign or miscounted.
   pub resumption : Resumption o h
+  -- Of what a room broadcasts while a session is in it, a run is queued for the session, without a gap.
+  pub gapless : Gapless (after o h).world (logs_of o h)
+  -- What a client that counts has handled of it is a prefix of that run, from its first number that is counted on.
+  pub gapless_handled : (s i : ℕ) (a : Account Stanza) → IsAccountOf a o h s
+      → IsPrefixOf (live_of i (handled a o h s)) (drop (length (live_of i (uncounted o h s))) (run_of o h s i))

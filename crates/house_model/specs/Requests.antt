@@ -38,8 +38,6 @@ discovers st = gets info_space (codes "query") st || gets items_space (codes "qu
 abbrev pub queries : (space : List ℕ) → Stanza → Bool
 queries space st = gets space (codes "query") st || sets space (codes "query") st
 
--- XEP-0313, XEP-0045, 9 and 10: a room's archive, its occupants, its configuration
+-- XEP-0045, 9 and 10: a room's occupants, its configuration
 abbrev pub asks_a_room : Stanza → Bool
-asks_a_room st =
-    queries (codes "urn:xmpp:mam:2") st
-    || (queries (codes "http://jabber.org/protocol/muc#admin") st || queries (codes "http://jabber.org/protocol/muc#owner") st)
+asks_a_room st = queries (codes "http://jabber.org/protocol/muc#admin") st || queries (codes "http://jabber.org/protocol/muc#owner") st

@@ -1,8 +1,9 @@
 -- What comes of a stanza, by its kind and the place that it is for (RFC 6120, 10; RFC 6121, 8.5). The rows of each table go from the top
 -- down, and the first that fits decides. All is read off what the code keeps.
-use Rattle.std.specs.Prelude.{ℕ, nat_lt, List, [], ◌∷◌, ◌++◌, Bool, true, false, ◌||◌, codes, Option, Some, None, is_some, if◌then◌else◌}
+use Rattle.std.specs.Prelude.{ℕ, nat_lt, List, [], ◌∷◌, ◌++◌, flat_map, Bool, true, false, ◌||◌, codes, Option, Some, None, is_some, not, if◌then◌else◌}
+use Rattle.std.specs.List.{filter}
 use Rattle.std.specs.Option.{option_and_then}
-use Rattle.jid_core.specs.Addresses.{Address}
+use Rattle.jid_core.specs.Addresses.{Address, same_part}
 use Rattle.stanza_tree.specs.Children.{child_of}
 use Rattle.stanza_tree.specs.declared.node.Element.{Element}
 use Rattle.stanza_model.specs.Replies.{result_of, said_to, refused}
@@ -23,6 +24,7 @@ use Rattle.stanza_model.specs.declared.stanza.Stanza.TheVariants.{Message, Prese
 use Rattle.stanza_router.specs.Discovery.{discovery}
 use Rattle.stanza_router.specs.Messages.{copied, deliveries, receivers_of}
 use Rattle.stanza_router.specs.Places.{place_of}
+use Rattle.stanza_router.specs.declared.listed.Listed.{Listed}
 use Rattle.stanza_router.specs.declared.places.Place.{Place}
 use Rattle.stanza_router.specs.declared.places.Place.TheVariants.{Account, Server, User, UserAt, Service, Room, RoomAt, Foreign}
 use Rattle.contact_table.specs.Books.{bare_of, contacts_of, local_user}
@@ -30,9 +32,21 @@ use Rattle.roster_book.specs.Requests.{removed_by, roster_get, roster_set}
 use Rattle.subscription_pairs.specs.Changes.{removal, subscription}
 use Rattle.presence_core.specs.Broadcasts.{available, unavailable}
 use Rattle.presence_core.specs.DirectedPresence.{directed}
+use Rattle.muc_room.specs.Entering.{enter}
+use Rattle.muc_room.specs.Leaving.{leave}
+use Rattle.muc_room.specs.Renaming.{rename}
+use Rattle.muc_room.specs.Saying.{direct, say}
+use Rattle.muc_admin.specs.Administration.{admin}
+use Rattle.muc_admin.specs.Inviting.{invite}
+use Rattle.muc_admin.specs.Items.{admin_space}
+use Rattle.muc_admin.specs.Owning.{owner, owner_space}
+use Rattle.muc_service.specs.Rooms.{Hosted, Rooms, is_in}
+use Rattle.mam_wire.specs.Answers.{mam_space}
+use Rattle.house_model.specs.Archives.{archived}
 use Rattle.house_model.specs.Lookups.{live_at, has_user, here, sessions_of}
 use Rattle.house_model.specs.Presences.{asking, directed_by, length_sent, most_of_presence, named, party, shown, watchers}
-use Rattle.house_model.specs.Requests.{pings, begins_session, binds_resource, discovers, asks_a_room, gets, sets}
+use Rattle.house_model.specs.Requests.{pings, begins_session, binds_resource, discovers, asks_a_room, gets, sets, queries}
+use Rattle.house_model.specs.RoomLookups.{called, listed, numbers_for, room_for, rooms_of}
 use Rattle.house_model.specs.States.{World, Kept}
 use Rattle.house_model.specs.Traffic.{KeptTraffic}
 
@@ -59,10 +73,15 @@ user_in own place = None
 
 -- Messages.
 
--- whom a message finds: the session at its address, or those that RFC 6121 chooses among the user's
+-- where no session goes on at an address, one that has it is over, and isn't chosen
+abbrev pub choosable : Place → List Here → List Here
+choosable (UserAt user resource) sessions = filter (λ h. not (same_part h.address.resource (Some resource))) sessions
+choosable place sessions = sessions
+
+-- whom a message finds: the session that goes on at its address, or those that RFC 6121 chooses among the user's
 abbrev pub chosen : World KeptTraffic → MessageForm → Place → Option (List ℕ) → List Here
 chosen world form place None = []
-chosen world form place (Some user) = receivers_of form place (sessions_of world user)
+chosen world form place (Some user) = receivers_of form place (choosable place (sessions_of world user))
 
 abbrev pub receivers : World KeptTraffic → MessageForm → Place → Option (List ℕ) → Option ℕ → List Here
 receivers world form place user (Some s) = here world s ∷ []
@@ -84,10 +103,22 @@ is_invitation_in (Some x) =
 abbrev pub is_invitation : Element → Bool
 is_invitation e = is_invitation_in (child_of (codes "http://jabber.org/protocol/muc#user") (codes "x") e.children)
 
--- XEP-0045: there are no rooms yet, so each message for one is for a room that isn't there
+-- XEP-0045, 7.4: to a room that isn't there
 abbrev pub to_no_room : MessageForm → Element → Condition
 to_no_room Groupchat e = ItemNotFound
 to_no_room form e = if is_invitation e then ItemNotFound else BadRequest
+
+-- XEP-0045, 7.4, 7.8.2 and 8.1: to a room: what is said in it, an invitation to it or a decline of one
+abbrev pub to_all_in : Scene → Here → Stanza → MessageForm → Element → Option Hosted → List Effect
+to_all_in o who st form e None = refused who st (to_no_room form e)
+to_all_in o who st Groupchat e (Some h) = say h.room who st
+to_all_in o who st form e (Some h) =
+    if is_invitation e then invite h.room who st (called o.domain o.world e) else refused who st BadRequest
+
+-- XEP-0045, 7.5: to one who is in a room
+abbrev pub to_one_in : Here → Stanza → Option Hosted → List Effect
+to_one_in who st None = refused who st ItemNotFound
+to_one_in who st (Some h) = direct h.room who st
 
 abbrev pub delivered : List (List ℕ) → Here → Stanza → Place → Option (List ℕ) → List Here → List Effect
 delivered users who st place user found = deliveries who st place (has_account users user found) found
@@ -96,10 +127,10 @@ abbrev pub to_users : List (List ℕ) → World KeptTraffic → Here → Stanza 
 to_users users world who st form place user =
     delivered users who st place user (receivers world form place user (live_for world place (to_in st)))
 
-abbrev pub message : List (List ℕ) → World KeptTraffic → (own : List ℕ) → Here → Stanza → MessageForm → Element → Place → List Effect
-message users world own who st form e (Room room) = refused who st (to_no_room form e)
-message users world own who st form e (RoomAt room nick) = refused who st ItemNotFound
-message users world own who st form e place = to_users users world who st form place (user_in own place)
+abbrev pub message : Scene → (own : List ℕ) → Here → Stanza → MessageForm → Element → Place → List Effect
+message o own who st form e (Room room) = to_all_in o who st form e (room_for o.world.rooms (to_in st))
+message o own who st form e (RoomAt room nick) = to_one_in who st (room_for o.world.rooms (to_in st))
+message o own who st form e place = to_users o.users o.world who st form place (user_in own place)
 
 -- Requests.
 
@@ -107,14 +138,15 @@ message users world own who st form e place = to_users users world who st form p
 abbrev pub done : Here → Stanza → List Effect
 done who st = said_to who (result_of st []) ∷ []
 
-abbrev pub discovered : Here → Stanza → Place → List Effect
-discovered who st place = said_to who (discovery place st []) ∷ []
+-- XEP-0030: what the server tells of itself, of an account, of the service of rooms and of a room
+abbrev pub discovered : List Listed → Here → Stanza → Place → List Effect
+discovered rooms who st place = said_to who (discovery place st rooms) ∷ []
 
 -- RFC 6120, 10.3 and 10.5.1: to the sender's account or to the server
 abbrev pub to_server : Here → Stanza → Place → List Effect
 to_server who st place =
     if begins_session st || pings st then done who st
-    else if discovers st then discovered who st place
+    else if discovers st then discovered [] who st place
     else if binds_resource st then refused who st NotAllowed
     else refused who st ServiceUnavailable
 
@@ -152,36 +184,50 @@ to_session world who st to e (Some s) = copied who to e (here world s) ∷ []
 to_session world who st to e None = refused who st ServiceUnavailable
 
 -- XEP-0045, 6.2 and 6.3: to the service of rooms
-abbrev pub to_service : Here → Stanza → Place → List Effect
-to_service who st place =
-    if discovers st then discovered who st place
+abbrev pub to_service : Rooms → Here → Stanza → Place → List Effect
+to_service rooms who st place =
+    if discovers st then discovered (listed rooms) who st place
     else if pings st then done who st
     else refused who st ServiceUnavailable
 
--- XEP-0045: to a room, which isn't there
-abbrev pub to_room : Here → Stanza → Place → List Effect
-to_room who st place =
-    if discovers st then discovered who st place
-    else if pings st then done who st
-    else if asks_a_room st then refused who st ItemNotFound
+-- XEP-0045, 9 and 10: who is in a room and what they are to it, and its settings
+abbrev pub asked_of : Here → Stanza → Option Hosted → List Effect
+asked_of who st None = if asks_a_room st then refused who st ItemNotFound else refused who st ServiceUnavailable
+asked_of who st (Some h) =
+    if queries admin_space st then admin h.room who st
+    else if queries owner_space st then owner h.room who st
     else refused who st ServiceUnavailable
+
+-- XEP-0045, 6.4 and 6.5, and XEP-0313, 4: to a room
+abbrev pub to_room : Rooms → Here → Stanza → Place → Option Hosted → List Effect
+to_room rooms who st place found =
+    if discovers st then discovered (listed rooms) who st place
+    else if pings st then done who st
+    else if queries mam_space st then archived who st found
+    else asked_of who st found
 
 abbrev pub iq : Scene → (own : List ℕ) → Here → Stanza → Option Address → Element → Place → List Effect
 iq o own who st to e Account = to_account o own who st
 iq o own who st to e Server = to_server who st Server
 iq o own who st to e (User user) = refused who st ServiceUnavailable
 iq o own who st to e (UserAt user resource) = to_session o.world who st to e (live_for o.world (UserAt user resource) to)
-iq o own who st to e Service = to_service who st Service
-iq o own who st to e (Room room) = to_room who st (Room room)
+iq o own who st to e Service = to_service o.world.rooms who st Service
+iq o own who st to e (Room room) = to_room o.world.rooms who st (Room room) (room_for o.world.rooms to)
 iq o own who st to e (RoomAt room nick) = refused who st ServiceUnavailable
 iq o own who st to e Foreign = refused who st RemoteServerNotFound
 
 -- Presence.
 
--- RFC 6121, 4.2 to 4.5: for those who see the sender
+-- XEP-0045, 7.14: a session leaves its rooms in the order in which it entered them
+abbrev pub leaves_rooms : Rooms → (session : ℕ) → Option Stanza → List Effect
+leaves_rooms rooms s st = flat_map (λ h. leave h.room s st) (rooms_of s rooms)
+
+-- RFC 6121, 4.2 to 4.5: for those who see the sender; once it is unavailable, it is in no room
 abbrev pub broadcast : Scene → (own : List ℕ) → Here → Stanza → PresenceForm → List Effect
 broadcast o own who st Available = available who st (watchers o.world own who) (shown o.world own who) (asking o.domain o.world own)
-broadcast o own who st Unavailable = unavailable who (Some st) (watchers o.world own who) (named o.world (directed_by o.world who))
+broadcast o own who st Unavailable =
+    unavailable who (Some st) (watchers o.world own who) (named o.world (directed_by o.world who))
+    ++ leaves_rooms o.world.rooms who.session (Some st)
 broadcast o own who st form = refused who st BadRequest
 
 -- RFC 6121, 4.6: to a user, where it has an account
@@ -218,17 +264,28 @@ to_user o own who st to Error e place = error_to o.world who to e (live_for o.wo
 to_user o own who st to Probe e place = []
 to_user o own who st to form e place = subscribed o own who st form (user_in own place)
 
--- XEP-0045, 7.2: there are no rooms yet, and none can be made
-abbrev pub to_be_in_room : Here → Stanza → PresenceForm → List Effect
-to_be_in_room who st Available = refused who st ServiceUnavailable
-to_be_in_room who st form = []
+-- XEP-0045, 7.2, 7.6 and 7.7: a session enters a room, or is shown there otherwise or under another nick
+abbrev pub present_in : Rooms → Here → Stanza → Option Hosted → List Effect
+present_in rooms who st None = enter None (numbers_for rooms who.session) who st
+present_in rooms who st (Some h) =
+    if is_in who.session h then rename h.room who st else enter (Some h.room) (numbers_for rooms who.session) who st
+
+-- XEP-0045, 7.14
+abbrev pub absent_from : Here → Stanza → Option Hosted → List Effect
+absent_from who st None = []
+absent_from who st (Some h) = leave h.room who.session (Some st)
+
+abbrev pub to_be_in : Rooms → Here → Stanza → PresenceForm → Option Hosted → List Effect
+to_be_in rooms who st Available found = present_in rooms who st found
+to_be_in rooms who st Unavailable found = absent_from who st found
+to_be_in rooms who st form found = []
 
 abbrev pub to_address : Scene → (own : List ℕ) → Here → Stanza → Address → PresenceForm → Element → Place → List Effect
 to_address o own who st to form e Account = to_user o own who st to form e Account
 to_address o own who st to form e (User user) = to_user o own who st to form e (User user)
 to_address o own who st to form e (UserAt user resource) = to_user o own who st to form e (UserAt user resource)
-to_address o own who st to form e (Room room) = to_be_in_room who st form
-to_address o own who st to form e (RoomAt room nick) = to_be_in_room who st form
+to_address o own who st to form e (Room room) = to_be_in o.world.rooms who st form (room_for o.world.rooms (Some to))
+to_address o own who st to form e (RoomAt room nick) = to_be_in o.world.rooms who st form (room_for o.world.rooms (Some to))
 to_address o own who st to form e place = []
 
 abbrev pub presence_to : Scene → (own : List ℕ) → Here → Stanza → Option Address → PresenceForm → Element → Place → List Effect
@@ -242,7 +299,7 @@ presence o own who st to form e place =
 -- Every stanza. A faulty one is refused, wherever it goes.
 
 abbrev pub effects_at : Scene → (own : List ℕ) → Here → Stanza → Place → List Effect
-effects_at o own who (Message to form e) place = message o.users o.world own who (Message to form e) form e place
+effects_at o own who (Message to form e) place = message o own who (Message to form e) form e place
 effects_at o own who (Presence to form e) place = presence o own who (Presence to form e) to form e place
 effects_at o own who (Iq to id form e) place = iq o own who (Iq to id form e) to e place
 effects_at o own who (Faulty kind to id answered condition) place = refused who (Faulty kind to id answered condition) condition
@@ -259,11 +316,12 @@ effects_in o s st = effects_by (here o.world s).address.local o (here o.world s)
 abbrev pub effects : Kept → ℕ → Stanza → List Effect
 effects k s st = effects_in (scene_of k) s st
 
--- Departure. RFC 6121, 4.5.2: those who see a session, or were sent its presence alone, are told by the server that it is gone
+-- Departure. RFC 6121, 4.5.2: those who see a session, or were sent its presence alone, are told by the server that it is gone, and then
+-- those who are in a room with it (XEP-0045, 7.14)
 
 abbrev pub departure_by : Option (List ℕ) → World KeptTraffic → Here → List Effect
 departure_by None world who = []
 departure_by (Some own) world who = unavailable who None (watchers world own who) (named world (directed_by world who))
 
 abbrev pub departure : World KeptTraffic → ℕ → List Effect
-departure world s = departure_by (here world s).address.local world (here world s)
+departure world s = departure_by (here world s).address.local world (here world s) ++ leaves_rooms world.rooms s None

@@ -5,6 +5,7 @@ use Rattle.session_table.specs.declared.line.Line.TheVariants.{Empty}
 use Rattle.session_table.specs.declared.line.Line as stage
 use Rattle.house_model.specs.declared.answer.Answer.{Answer}
 use Rattle.contact_table.specs.Books.{Book, empty_book}
+use Rattle.muc_service.specs.Rooms.{Rooms, no_rooms}
 use Rattle.house_model.specs.Sessions.{Hold, Held, Away, Ended, Gone, Rest, Session, session, gone, unmade}
 use Rattle.house_model.specs.Traffic.{Traffic, whole, KeptTraffic, nothing_kept, keep_traffic}
 
@@ -27,6 +28,7 @@ pub record World (T : Type 0) : Type 0 where
   pub made : ℕ  -- how many sessions there were
   pub sessions : ℕ → Session T
   pub book : Book
+  pub rooms : Rooms
 
 pub record House (T : Type 0) : Type 0 where
   pub head : Head
@@ -47,7 +49,7 @@ empty_line = record { stage = Empty; answers = [] }
 abbrev pub opening : Address → List (List ℕ) → ℕ → State
 opening domain users workers = record {
   head = record { domain = domain; users = users; workers = workers; turns = 0; moment = 0 };
-  world = record { opened = 0; lines = λ w. empty_line; made = 0; sessions = λ s. unmade whole; book = empty_book };
+  world = record { opened = 0; lines = λ w. empty_line; made = 0; sessions = λ s. unmade whole; book = empty_book; rooms = no_rooms };
 }
 
 -- what is kept of a session; nothing of one that departed
@@ -61,7 +63,14 @@ abbrev pub keep_session : Session Traffic → Session KeptTraffic
 keep_session s = keep_by s.counts s.hold s.traffic s.rest
 
 abbrev pub keep_world : World Traffic → World KeptTraffic
-keep_world world = record { opened = world.opened; lines = world.lines; made = world.made; sessions = λ s. keep_session (world.sessions s); book = world.book }
+keep_world world = record {
+  opened = world.opened;
+  lines = world.lines;
+  made = world.made;
+  sessions = λ s. keep_session (world.sessions s);
+  book = world.book;
+  rooms = world.rooms;
+}
 
 abbrev pub keep : State → Kept
 keep st = record { head = st.head; world = keep_world st.world }

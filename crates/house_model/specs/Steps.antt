@@ -1,6 +1,6 @@
 -- The events, each with its answer and what it does, once the gate has let it through. All is read off what the code keeps.
 use Rattle.std.specs.Prelude.{ℕ, ◌+◌, max, min, nat_lt, List, [], ◌∷◌, ◌++◌, map, slice_get, slice_index_or}
-use Rattle.std.specs.Prelude.{bytes_eq, Option, Some, None, is_some, Bool, true, false, not, ◌&&◌, if◌then◌else◌}
+use Rattle.std.specs.Prelude.{bytes_eq, Option, Some, None, is_some, Bool, true, false, not, ◌&&◌}
 use Rattle.stanza_tree.specs.declared.frame.Entry.{Entry}
 use Rattle.stanza_tree.specs.Entries.{frame}
 use Rattle.jid_core.specs.Addresses.{Address, same_bare, address_text}
@@ -15,6 +15,7 @@ use Rattle.sm_resume.specs.declared.decision.Cause.TheVariants.{Replaced, Lost}
 use Rattle.sm_resume.specs.declared.id.ResumeId.{ResumeId}
 use Rattle.session_table.specs.declared.line.Line as stage
 use Rattle.session_table.specs.declared.line.Line.TheVariants.{Empty}
+use Rattle.muc_service.specs.Casting.{cast}
 use Rattle.house_model.specs.declared.answer.Answer.{Answer}
 use Rattle.house_model.specs.declared.answer.Answer.TheVariants as answer
 use Rattle.house_model.specs.declared.event.Event.{Event}
@@ -29,7 +30,7 @@ use Rattle.house_model.specs.Sessions.{Hold, Held, Away, Ended, Session, Push, P
 use Rattle.house_model.specs.Sessions.{End, Part, Marks, WantsRoster, Pushed, Shown, Hidden, Directs, Ways}
 use Rattle.house_model.specs.Traffic.{KeptTraffic, kept_sent, kept_inward, brief}
 use Rattle.house_model.specs.States.{Head, House, Kept, World}
-use Rattle.house_model.specs.Effects.{Effect, Open, At, Begin, On, Note, Log, Say, Said, Leave, Close, apply_all}
+use Rattle.house_model.specs.Effects.{Effect, Open, At, Begin, On, Note, Hosts, Log, Say, Said, Leave, Close, apply_all}
 use Rattle.house_model.specs.Gate.{Verdict, does, only, gives, Pass, Stop, Free, Waits, Knows, Holds, left, closed, gate}
 
 -- OpenLine: what is at the line is left, and the next connection is there
@@ -48,10 +49,22 @@ set (change.Pushed s pushes) = On s (Marks (Pushed pushes))
 set (change.Available s stanza priority) = On s (Marks (Shown stanza priority))
 set (change.Unavailable s) = On s (Marks Hidden)
 set (change.Directed s addresses) = On s (Marks (Directs addresses))
+set (change.RoomMade n address owner) = Hosts (effect.Set (change.RoomMade n address owner))
+set (change.RoomGone n) = Hosts (effect.Set (change.RoomGone n))
+set (change.Unlocked n) = Hosts (effect.Set (change.Unlocked n))
+set (change.Configured n config) = Hosts (effect.Set (change.Configured n config))
+set (change.Affiliated n address a) = Hosts (effect.Set (change.Affiliated n address a))
+set (change.RoleSet n s role) = Hosts (effect.Set (change.RoleSet n s role))
+set (change.Renamed n s nick) = Hosts (effect.Set (change.Renamed n s nick))
+set (change.OccupantShown n s presence) = Hosts (effect.Set (change.OccupantShown n s presence))
+set (change.Subject n text) = Hosts (effect.Set (change.Subject n text))
 set change = Note change
 
 abbrev pub effect_of : stanza.Effect → Effect
 effect_of (effect.Queue s to rest origin) = On s (Push (record { to = to; rest = rest; origin = origin }))
+effect_of (effect.Broadcast n item) = Hosts (effect.Broadcast n item)
+effect_of (effect.Enter n s address nick role) = Hosts (effect.Enter n s address nick role)
+effect_of (effect.Leave n s) = Hosts (effect.Leave n s)
 effect_of (effect.Set c) = set c
 
 -- Bind: RFC 6120, 7.6 and 7.7. The address is the user's, with the resource asked for or with the dice as 32 hexadecimal digits.
@@ -76,9 +89,10 @@ has_place k a =
     && nat_lt (passing k.world.made (λ s. is_there (k.world.sessions s) &&
     (same_bare (k.world.sessions s).rest.address a && not (is_at a (k.world.sessions s))))) most_of_user
 
--- Departure: the session ends, others are told, and it is there no more. It is over with this cause, unless it was over already.
+-- Departure: the session ends, others are told, it leaves its rooms, and it is there no more. It is over with this cause, unless it was over
+-- already.
 abbrev pub departs : World KeptTraffic → (s : ℕ) → Cause → List Effect
-departs world s cause = (On s (End cause) ∷ map effect_of (departure world s)) ++ On s Part ∷ []
+departs world s cause = (On s (End cause) ∷ map effect_of (cast world.rooms (departure world s))) ++ On s Part ∷ []
 
 abbrev pub replaces : Kept → Option ℕ → List Effect
 replaces k None = []
@@ -122,9 +136,9 @@ resumes k w c user None h = does reply.Done (At w (Say answer.NotFound) ∷ [])
 resumes k w c user (Some id) h =
     resumes_by (is_known k id user (k.world.sessions id.session)) (k.world.sessions id.session).hold w c id.session h id (k.world.sessions id.session).traffic
 
--- Act: the stanza counts as acted on, whatever comes of it
+-- Act: the stanza counts as acted on, whatever comes of it. Before what a room broadcasts, its views are queued.
 abbrev pub acts : Kept → ℕ → Stanza → Verdict
-acts k s x = does reply.Done (On s (Act x) ∷ map effect_of (effects k s x))
+acts k s x = does reply.Done (On s (Act x) ∷ map effect_of (cast k.world.rooms (effects k s x)))
 
 -- Ack: XEP-0198, 4
 abbrev pub ack_reply : Option KeptTraffic → Cause → Reply

@@ -13,14 +13,18 @@ ghost use Rattle.stanza_model.specs.declared.stanza.Stanza.{Stanza};
 ghost use Rattle.sm_resume.specs.declared.decision.Cause.{Cause};
 ghost use Rattle.session_table.specs.declared.line.Line.TheVariants.{Bound};
 ghost use Rattle.roster_laws.specs.Keeping.{AreKept};
+ghost use Rattle.muc_service.specs.Casting.{cast};
 ghost use Rattle.house_model.specs.declared.event.Event.{Event};
 ghost use Rattle.house_model.specs.declared.event.Event.TheVariants as event;
 ghost use Rattle.house_model.specs.Traffic.{KeptTraffic, Traffic, whole, brief};
 ghost use Rattle.house_model.specs.States.{World, State, Kept, keep, keep_world};
 ghost use Rattle.house_model.specs.Effects.{Effect, On, apply, apply_all};
 ghost use Rattle.house_model.specs.Sessions.{Act, End};
+ghost use Rattle.house_model.specs.Casts.{AllSuit, addresses_in};
+ghost use Rattle.house_model.specs.RoomFits.{AreOf};
 ghost use Rattle.house_model.specs.Routing.{Scene, departure, effects, effects_in};
-ghost use Rattle.house_model.specs.Fitting.{AreSmall, AllFit, AreShortAddresses, IsInHouse, IsShortAddress, IsShortScene};
+ghost use Rattle.house_model.specs.Fitting.{AreSmall, AllFit, AreShortAddresses, AreShortRooms, IsInHouse, IsShortAddress, IsShortScene};
+ghost use Rattle.house_model.specs.Names.{AreShortThroughout, HasShortNames, NamesFit};
 ghost use Rattle.house_model.specs.Steps.{verdict, turn};
 ghost use Rattle.house_model.specs.Histories.{Turn, step, kept_step, StanzaFits, GivesNoText, after, kept_next_by};
 ghost use Rattle.house_model.specs.Histories.{openings, Allowed, Legal, IsOpening, StandsFor};
@@ -29,6 +33,7 @@ ghost use Rattle.house_model.specs.Bridge.{core_of, ops_of, alone_of};
 ghost use Rattle.house_model.specs.Lines.{lines, carried, arrivals, acted, asks};
 ghost use Rattle.house_model.specs.Accounts.{IsAccountOf, handled};
 ghost use Rattle.house_model.specs.Promises.{session_in, counted, Resumption, Safe};
+ghost use Rattle.house_model.specs.Stays.{Gapless, IsWithin, logs_of};
 ghost use Rattle.house_model.specs.Story.{small_house, faulty, whole_story, her_account};
 ghost use Rattle.sm_account.specs.Prefixes.{IsPrefixOf};
 ghost use Rattle.sm_account.specs.Sessions as alone;
@@ -70,21 +75,46 @@ pub fn pulls_alone_give_texts()
     ensures { (st : State) (e : Event) → GivesNoText e → (step st e).text ≡ [] }
 {}
 
-/// What comes of a stanza that a stream can bring, and of a departure, has at most 524,288 bytes as frames, each, and a presence that
-/// is kept 16,384, where addresses have at most 3,071, and presences that were kept 16,384.
+/// What comes of a stanza that a stream can bring, and of a departure, has at most 524,288 bytes as frames, each, and so has each view that
+/// is queued of what a room broadcasts; and a presence that is kept has 16,384, where addresses have at most 3,071, presences that were kept
+/// 16,384, and what is kept of the rooms is short.
 pub fn effects_are_small()
     ensures stanza { (o : Scene) (s : ℕ) (stanza : Stanza) → StanzaFits stanza → IsShortScene o → IfSome (to_in stanza) IsShortAddress
-        → AreSmall (effects_in o s stanza) }
-    ensures departure { (world : World KeptTraffic) (s : ℕ) → AreShortAddresses world → AreSmall (departure world s) }
+        → AreSmall (cast o.world.rooms (effects_in o s stanza)) }
+    ensures departure { (world : World KeptTraffic) (s : ℕ) → AreShortAddresses world → AreShortRooms world.rooms
+        → AreSmall (cast world.rooms (departure world s)) }
 {}
 
-/// Each session that the effects of a stanza, or of a departure, name is in the house when their turn comes, and no stanza is queued as an
-/// item of a room.
+/// After every legal history what is kept of the rooms is short, where the names that came in are those of addresses, and the addresses of all
+/// sessions are then short throughout: so what the rules on stanzas read of the rooms always is. And one turn more keeps it so, where the
+/// addresses are short before it.
+pub fn rooms_stay_short()
+    ensures history { (o : State) (h : List Turn) → IsOpening o → Legal o h → HasShortNames o.head → NamesFit h
+        → AreShortRooms (after o h).world.rooms }
+    ensures addresses { (o : State) (h : List Turn) → IsOpening o → HasShortNames o.head → NamesFit h → AreShortThroughout o h }
+    ensures turn { (o : State) (h : List Turn) (x : Turn) → IsOpening o → Allowed (after o h) x
+        → AreShortAddresses (keep_world (after o h).world) → AreShortRooms (after o h).world.rooms
+        → AreShortRooms (after o (h ++ x ∷ [])).world.rooms }
+{}
+
+/// Each session that the effects of a stanza, or of a departure, name is in the house when their turn comes, and so is each that is in a
+/// room and is queued a view of what the room broadcasts. Each room that they name is there then, but for one that is made, which has the next
+/// number; who enters it, by the address of the session, isn't in it yet, and who leaves it, gets another role or another nick, or is shown
+/// there, is in it. None of them is queued an item of a stay: those are the views of what a room broadcasts alone.
 pub fn effects_fit()
     ensures stanza { (o : State) (h : List Turn) (w c s t : ℕ) (x : Stanza) → IsOpening o → ((after o h).world.lines w).stage ≡ Bound c s
-        → AllFit (apply whole (after o h).world (On s (Act x))) (effects (keep (turn (event.Act w x t) (after o h))) s x) }
+        → AllFit (apply whole (after o h).world (On s (Act x)))
+        (cast (after o h).world.rooms (effects (keep (turn (event.Act w x t) (after o h))) s x)) }
     ensures departure { (o : State) (h : List Turn) (s : ℕ) (cause : Cause) → IsOpening o → IsInHouse s (after o h).world
-        → AllFit (apply whole (after o h).world (On s (End cause))) (departure (keep_world (after o h).world) s) }
+        → AllFit (apply whole (after o h).world (On s (End cause)))
+        (cast (after o h).world.rooms (departure (keep_world (after o h).world) s)) }
+    ensures rooms { (o : State) (h : List Turn) (w s t : ℕ) (x : Stanza) → IsOpening o
+        → AreOf (after o h).world.rooms (effects (keep (turn (event.Act w x t) (after o h))) s x) }
+    ensures left { (o : State) (h : List Turn) (s : ℕ) → IsOpening o
+        → AreOf (after o h).world.rooms (departure (keep_world (after o h).world) s) }
+    ensures suit { (o : State) (h : List Turn) (w c s t : ℕ) (x : Stanza) → IsOpening o → ((after o h).world.lines w).stage ≡ Bound c s
+        → AllSuit (after o h).world.made (addresses_in (after o h).world) (after o h).world.rooms
+        (effects (keep (turn (event.Act w x t) (after o h))) s x) }
 {}
 
 /// Each user's roster keeps to its limits, and no two of its contacts have one address.
@@ -140,6 +170,13 @@ pub fn lines_are_the_history()
 /// by a Bind of its address, and not otherwise.
 pub fn resumption()
     ensures { (o : State) (h : List Turn) → IsOpening o → Legal o h → Resumption o h }
+{}
+
+/// While a session is in a room, what is queued for it of what the room broadcasts is a run of the room's order: from its entering on, each
+/// item once, in order, as the session sees it, and none is missing. Nothing is queued of a stay to another session.
+pub fn stays_are_gapless()
+    ensures gapless { (o : State) (h : List Turn) → IsOpening o → Gapless (after o h).world (logs_of o h) }
+    ensures within { (o : State) (h : List Turn) (i : ℕ) → IsOpening o → IsWithin (logs_of o h).order ((logs_of o h).stays i) }
 {}
 
 /// Every legal history is safe.

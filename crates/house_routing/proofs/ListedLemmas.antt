@@ -1,5 +1,5 @@
 -- The sessions of a user, by number and as the table lists them.
-use Rattle.std.proofs.Common.{◌≡◌, inl, inr, ℕ, zero, suc, ◌<◌, ◌≤◌, ◌&&◌, nat_eq, not, cond, Bool, true, false, List, []}
+use Rattle.std.proofs.Common.{◌≡◌, inl, inr, ℕ, zero, suc, ◌<◌, ◌≤◌, ◌&&◌, nat_eq, cond, Bool, true, false, List, []}
 use Rattle.std.proofs.Common.{◌∷◌, ◌++◌, Option, Some, None, if◌then◌else◌, arith, refl, sym, ap, ◌∙◌}
 use Rattle.std.specs.Prelude.{map, flat_map, is_some, bytes_eq, ◌||◌}
 use Rattle.std.specs.List.{filter, list_any, AllByRecursion}
@@ -9,19 +9,17 @@ use Rattle.std.proofs.lemmas.Bool.Decides.{eqb_tells}
 use Rattle.std.proofs.lemmas.List.{append-nil, append_assoc}
 use Rattle.jid_core.specs.Addresses.{Address, same_part}
 use Rattle.stanza_model.specs.declared.here.Here.{Here}
-use Rattle.session_table.specs.declared.life.Life.{Life}
-use Rattle.session_table.specs.declared.life.Life.TheVariants.{Live, Over}
 use Rattle.session_table.specs.declared.line.Line as stage
-use Rattle.session_table.specs.Sessions.{SessionRecord, is_over}
+use Rattle.session_table.specs.Sessions.{SessionRecord}
 use Rattle.session_table.specs.Tables.{Rises, session_of}
 use Rattle.house_model.specs.Numbered.{all_passing}
-use Rattle.house_model.specs.Lookups.{goes_on, here, is_of, is_there, sessions_of}
+use Rattle.house_model.specs.Lookups.{here, is_of, is_there, sessions_of}
 use Rattle.contact_table.specs.Arranged.{arranged, those_of}
 use Rattle.house_model.specs.Presences.{available_of, named, names}
 use Rattle.house_model.specs.Sessions.{Session}
 use Rattle.house_model.specs.Traffic.{KeptTraffic}
 use Rattle.house_world.specs.declared.world.World as code
-use Rattle.house_world.specs.Views.{hold_by, session_by}
+use Rattle.house_world.specs.Views.{session_by}
 use Rattle.house_routing.specs.Listings.{here_from, is_among, is_named, is_seen, is_users, listed, listed_by}
 use Rattle.house_world.specs.Wholes.{IsSession, IsTied}
 use Rattle.house_world.specs.Worlds.{seen}
@@ -103,11 +101,6 @@ map_listed g pick last made (e ∷ more) rises are =
     by true own rest = λ i. own i ∷ rest i
     by false own rest = rest
 
-live_by : (l : Life) (h : Option ℕ) (ls : List stage.Line) → goes_on (hold_by l h ls) ≡ not (is_over l)
-live_by Live None ls = refl
-live_by Live (Some w) ls = refl
-live_by (Over cause) h ls = refl
-
 -- a session that is kept passes a test where it is picked
 abbrev IsPick : (Session KeptTraffic → Bool) → (SessionRecord → Bool) → Type 0
 IsPick test pick = (ls : List stage.Line) (o : Option SessionRecord) → ((x : SessionRecord) → o ≡ Some x → IsSession x)
@@ -115,15 +108,14 @@ IsPick test pick = (ls : List stage.Line) (o : Option SessionRecord) → ((x : S
 
 of_by : (user : List ℕ) → IsPick (is_of user) (is_users user)
 of_by user ls None each = refl
-of_by user ls (Some x) each = λ i.
-    there_is x ls (each x refl) i && (live_by x.state x.holder ls i && same_part x.address.local (Some user))
+of_by user ls (Some x) each = λ i. there_is x ls (each x refl) i && same_part x.address.local (Some user)
 
-abbrev is_going : SessionRecord → Bool
-is_going x = not (is_over x.state)
+abbrev is_any : SessionRecord → Bool
+is_any x = true
 
-going_by : IsPick (λ s. is_there s && goes_on s.hold) is_going
-going_by ls None each = refl
-going_by ls (Some x) each = λ i. there_is x ls (each x refl) i && live_by x.state x.holder ls i
+there_by : IsPick is_there is_any
+there_by ls None each = refl
+there_by ls (Some x) each = there_is x ls (each x refl)
 
 abbrev here_by : ℕ → Session KeptTraffic → Here
 here_by s y = record {
@@ -169,8 +161,8 @@ pub named_is : (a : code.World) (addresses : List Address) → IsTied a.table �
     → listed (is_named addresses) a.table.sessions ≡ named (seen a) addresses
 named_is a addresses tied rises =
     sym (
-    ap (filter (λ h. list_any (names h) addresses)) (sym (picked_is a (λ s. is_there s && goes_on s.hold) is_going going_by tied rises))
-    ∙ filter_listed (λ h. list_any (names h) addresses) is_going (λ x. list_any (names (here_from 0 x)) addresses) a.table.sessions
+    ap (filter (λ h. list_any (names h) addresses)) (sym (picked_is a is_there is_any there_by tied rises))
+    ∙ filter_listed (λ h. list_any (names h) addresses) is_any (λ x. list_any (names (here_from 0 x)) addresses) a.table.sessions
     (λ n x. refl)
     )
 
@@ -181,26 +173,24 @@ available_is a user tied rises =
     ap (filter (λ h. h.available)) (sym (listed_is a user tied rises))
     ∙ filter_listed (λ h. h.available) (is_users user) (λ x. is_some x.presence) a.table.sessions (λ n x. refl)
 
-both_ways : (live shown among same : Bool) → (same ≡ true → among ≡ true)
-    → ((live && (shown && among)) && same) ≡ ((live && same) && shown)
-both_ways false shown among same is = refl
-both_ways true false among true is = refl
-both_ways true false among false is = refl
-both_ways true true true true is = refl
-both_ways true true false true is = absurd (let z : false ≡ true = is refl in cc)
-both_ways true true true false is = refl
-both_ways true true false false is = refl
+both_ways : (shown among same : Bool) → (same ≡ true → among ≡ true) → ((shown && among) && same) ≡ (same && shown)
+both_ways false among true is = refl
+both_ways false among false is = refl
+both_ways true true true is = refl
+both_ways true false true is = absurd (let z : false ≡ true = is refl in cc)
+both_ways true true false is = refl
+both_ways true false false is = refl
 
 -- of the sessions of several users, those of one of them
 one_user : (users : List (List ℕ)) (user : List ℕ) (x : SessionRecord) → list_any (λ u. bytes_eq u user) users ≡ true
     → (is_seen users x && same_part x.address.local (Some user)) ≡ (is_users user x && is_some x.presence)
-one_user users user x among = by (not (is_over x.state)) (is_some x.presence) x.address.local
+one_user users user x among = by (is_some x.presence) x.address.local
   where
-    by : (live shown : Bool) (local : Option (List ℕ))
-        → ((live && (shown && is_among users local)) && same_part local (Some user)) ≡ ((live && same_part local (Some user)) && shown)
-    by live shown None = both_ways live shown false false (λ e. absurd (cc))
-    by live shown (Some name) =
-        both_ways live shown (list_any (λ u. bytes_eq u name) users) (bytes_eq name user)
+    by : (shown : Bool) (local : Option (List ℕ))
+        → ((shown && is_among users local) && same_part local (Some user)) ≡ (same_part local (Some user) && shown)
+    by shown None = both_ways shown false false (λ e. absurd (cc))
+    by shown (Some name) =
+        both_ways shown (list_any (λ u. bytes_eq u name) users) (bytes_eq name user)
         (λ e. ap (λ (n : List ℕ). list_any (λ u. bytes_eq u n) users) ((bytes_eq-Decides name user).0 e) ∙ among)
 
 or_right : (b c : Bool) → c ≡ true → (b || c) ≡ true

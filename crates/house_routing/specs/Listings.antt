@@ -7,11 +7,11 @@ use Rattle.stanza_model.specs.declared.here.Here.{Here}
 use Rattle.stanza_model.specs.declared.stanza.Stanza.{Stanza}
 use Rattle.stanza_model.specs.declared.stanza.Stanza.TheVariants.{Message}
 use Rattle.stanza_router.specs.Messages.{copied_to}
-use Rattle.session_table.specs.Sessions.{SessionRecord, is_over}
+use Rattle.session_table.specs.Sessions.{SessionRecord}
 use Rattle.house_model.specs.Presences.{names}
 
 abbrev pub is_users : List ℕ → SessionRecord → Bool
-is_users user x = not (is_over x.state) && same_part x.address.local (Some user)
+is_users user x = same_part x.address.local (Some user)
 
 -- a session of this number as the rules on stanzas see it
 abbrev pub here_from : ℕ → SessionRecord → Here
@@ -25,7 +25,7 @@ here_from n x = record {
 }
 
 abbrev pub is_named : List Address → SessionRecord → Bool
-is_named addresses x = not (is_over x.state) && list_any (names (here_from 0 x)) addresses
+is_named addresses x = list_any (names (here_from 0 x)) addresses
 
 abbrev pub listed_by : Bool → ℕ × SessionRecord → List Here → List Here
 listed_by true e later = here_from e.0 e.1 ∷ later
@@ -46,4 +46,8 @@ is_among users None = false
 is_among users (Some user) = list_any (λ x. bytes_eq x user) users
 
 abbrev pub is_seen : List (List ℕ) → SessionRecord → Bool
-is_seen users x = not (is_over x.state) && (is_some x.presence && is_among users x.address.local)
+is_seen users x = is_some x.presence && is_among users x.address.local
+
+-- a session of another resource
+abbrev pub is_elsewhere : List ℕ → Here → Bool
+is_elsewhere resource h = not (same_part h.address.resource (Some resource))

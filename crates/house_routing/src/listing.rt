@@ -1,12 +1,10 @@
 //! The sessions that the rules on stanzas see, and how they see them.
-ghost use Rattle.std.specs.Prelude.{◌≡◌, flat_map, not, true, IfOk, IfSome, Some};
-ghost use Rattle.std.specs.List.{list_any};
+ghost use Rattle.std.specs.Prelude.{◌≡◌, flat_map, true, IfOk, IfSome, Some};
 ghost use Rattle.std.specs.Option.{option_copied};
 ghost use Rattle.house_model.specs.Lookups.{goes_on, here, live_at, sessions_of};
 ghost use Rattle.contact_table.specs.Tables.{users_in};
 ghost use Rattle.house_model.specs.Presences.{available_of, directed_by, named, names};
 ghost use Rattle.house_model.specs.Routing.{live_for};
-ghost use Rattle.session_table.specs.Sessions.{is_over};
 ghost use Rattle.session_table.specs.Tables.{is_there};
 ghost use Rattle.house_routing.specs.Listings.{here_from, is_among, is_named, is_seen, is_users, listed};
 ghost use Rattle.house_world.specs.Wholes.{IsTied};
@@ -35,22 +33,12 @@ fn here_of(alloc: Global, number: u64, session: &Session) -> Result<Here, NoMemo
     })
 }
 
-/// Whether a session goes on.
-fn is_going(session: &Session) -> bool
-    ensures { result ≡ not (is_over session.now.state) }
-{
-    match session.state() {
-        Life::Live => true,
-        Life::Over(_) => false,
-    }
-}
-
-/// Whether a session goes on and is the user's.
+/// Whether a session is the user's.
 fn is_users(user: &Part, session: &Session) -> bool
     ensures { result ≡ is_users user.now session.now }
 {
     match &session.address().local {
-        Some(local) => session.state() == Life::Live && local.bytes() == user.bytes(),
+        Some(local) => local.bytes() == user.bytes(),
         None => false,
     }
 }
@@ -66,17 +54,11 @@ fn names(session: &Session, address: &Jid) -> bool
     }
 }
 
-fn is_named_among(addresses: &[Jid], session: &Session) -> bool
-    ensures { result ≡ list_any (λ a. names (here_from 0 session.now) a) addresses.now }
-{
-    addresses.iter().any(|address| names(session, address))
-}
-
-/// Whether a session goes on and is named by one of these addresses.
+/// Whether a session is named by one of these addresses.
 fn is_named(addresses: &[Jid], session: &Session) -> bool
     ensures { result ≡ is_named addresses.now session.now }
 {
-    is_going(session) && is_named_among(addresses, session)
+    addresses.iter().any(|address| names(session, address))
 }
 
 fn is_among(users: &Order, session: &Session) -> bool
@@ -88,11 +70,11 @@ fn is_among(users: &Order, session: &Session) -> bool
     }
 }
 
-/// Whether a session goes on, is available, and is of one of these users.
+/// Whether a session is available, and is of one of these users.
 fn is_seen(users: &Order, session: &Session) -> bool
     ensures { result ≡ is_seen users.now.users session.now }
 {
-    is_going(session) && session.presence.is_some() && is_among(users, session)
+    session.presence.is_some() && is_among(users, session)
 }
 
 /// Whether a session that is there goes on.
@@ -142,7 +124,7 @@ pub(crate) fn here(world: &World, alloc: Global, s: u64) -> Result<Option<Here>,
     }
 }
 
-/// The sessions of a user that go on.
+/// The sessions of a user. One that is over is among them until it departs.
 pub(crate) fn sessions_of(world: &World, alloc: Global, user: &Part) -> Result<Vec<Here>, NoMemory>
     requires { IsTied world.now.table }
     ensures { IfOk result (λ found. found.items ≡ sessions_of (seen world.now) user.now) }

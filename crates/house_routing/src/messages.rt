@@ -1,17 +1,25 @@
-//! Messages (RFC 6121, 8.5).
-ghost use Rattle.std.specs.Prelude.{◌≡◌, IfOk};
+//! Messages (RFC 6121, 8.5; XEP-0045, 7.4 to 7.8).
+ghost use Rattle.std.specs.Prelude.{◌≡◌, ℕ, List, Some, IfOk};
+ghost use Rattle.std.specs.List.{filter};
 ghost use Rattle.std.specs.Option.{option_copied};
-ghost use Rattle.house_model.specs.Routing.{chosen, delivered, has_account, is_invitation, message, receivers, to_no_room, to_users, user_in};
-ghost use Rattle.house_routing.specs.Listings.{message_copied};
+ghost use Rattle.muc_admin.specs.Inviting.{invite};
+ghost use Rattle.house_model.specs.RoomLookups.{called};
+ghost use Rattle.house_model.specs.Routing.{choosable, chosen, delivered, has_account, is_invitation, message, receivers, to_all_in, to_no_room};
+ghost use Rattle.house_model.specs.Routing.{to_one_in, to_users, user_in};
+ghost use Rattle.house_routing.specs.Listings.{is_elsewhere, message_copied};
 ghost use Rattle.house_world.specs.Wholes.{IsTied};
 ghost use Rattle.house_world.specs.Worlds.{seen};
 
 use crate::listing::{live_for, sessions_of};
 use crate::requests::one;
+use crate::rooms::{called, room_for};
 use crate::users::place_among;
 use house_model::{MessageForm, Stanza};
 use house_world::World;
 use jid_core::Part;
+use muc_admin::invite;
+use muc_room::{direct, say};
+use muc_service::Hosted;
 use stanza_model::{Condition, Effect, Here, refuse};
 use stanza_router::{Place, copy_to, deliver, keep_receivers};
 use stanza_tree::{Element, NoMemory};
@@ -41,6 +49,83 @@ fn to_no_room(form: MessageForm, message: &Element) -> Condition
         MessageForm::Groupchat => Condition::ItemNotFound,
         _ if is_invitation(message) => Condition::ItemNotFound,
         _ => Condition::BadRequest,
+    }
+}
+
+/// An invitation to a room, or a decline of one (XEP-0045, 7.8.2).
+fn called_in(
+    world: &World,
+    alloc: Global,
+    domain: &Part,
+    who: &Here,
+    stanza: &Stanza,
+    element: &Element,
+    h: &Hosted,
+) -> Result<Vec<Effect>, NoMemory>
+    requires tied { IsTied world.now.table }
+    ensures { IfOk result (λ effects. effects.items
+        ≡ invite h.now.room who.now stanza.now (called domain.now (seen world.now) element.now)) }
+{
+    let receivers = called(world, alloc, domain, element)?;
+    invite(alloc, h.room(), who, stanza, receivers.as_slice())
+}
+
+/// What comes of a message to a room that is there.
+fn to_all_of(
+    world: &World,
+    alloc: Global,
+    domain: &Part,
+    who: &Here,
+    stanza: &Stanza,
+    form: MessageForm,
+    element: &Element,
+    h: &Hosted,
+) -> Result<Vec<Effect>, NoMemory>
+    requires tied { IsTied world.now.table }
+    ensures { (users : List (List ℕ)) → IfOk result (λ effects. effects.items
+        ≡ to_all_in (record { domain = domain.now; users = users; world = seen world.now }) who.now stanza.now form element.now (Some h.now)) }
+{
+    match form {
+        MessageForm::Groupchat => say(alloc, h.room(), who, stanza),
+        _ if is_invitation(element) => called_in(world, alloc, domain, who, stanza, element, h),
+        _ => refuse(alloc, who, stanza, Condition::BadRequest),
+    }
+}
+
+/// What comes of a message to a room: what is said in it, an invitation to it or a decline of one (XEP-0045, 7.4, 7.8.2 and 8.1).
+fn to_all_in(
+    world: &World,
+    alloc: Global,
+    domain: &Part,
+    who: &Here,
+    stanza: &Stanza,
+    form: MessageForm,
+    element: &Element,
+    found: Option<&Hosted>,
+) -> Result<Vec<Effect>, NoMemory>
+    requires tied { IsTied world.now.table }
+    ensures { (users : List (List ℕ)) → IfOk result (λ effects. effects.items
+        ≡ to_all_in (record { domain = domain.now; users = users; world = seen world.now }) who.now stanza.now form element.now
+        (option_copied found.entry)) }
+{
+    match found {
+        Some(h) => to_all_of(world, alloc, domain, who, stanza, form, element, h),
+        None => refuse(alloc, who, stanza, to_no_room(form, element)),
+    }
+}
+
+/// What comes of a message to one who is in a room (XEP-0045, 7.5).
+fn to_one_in(
+    alloc: Global,
+    who: &Here,
+    stanza: &Stanza,
+    found: Option<&Hosted>,
+) -> Result<Vec<Effect>, NoMemory>
+    ensures { IfOk result (λ effects. effects.items ≡ to_one_in who.now stanza.now (option_copied found.entry)) }
+{
+    match found {
+        Some(h) => direct(alloc, h.room(), who, stanza),
+        None => refuse(alloc, who, stanza, Condition::ItemNotFound),
     }
 }
 
@@ -80,6 +165,37 @@ pub(crate) fn has_account(users: &[Part], user: Option<&Part>, found: &[Here]) -
     }
 }
 
+fn is_elsewhere(resource: &Part, session: &Here) -> bool
+    ensures { result ≡ is_elsewhere resource.now session.now }
+{
+    match &session.address.resource {
+        Some(own) => own.bytes() != resource.bytes(),
+        None => true,
+    }
+}
+
+fn keep_elsewhere(resource: &Part, sessions: &mut Vec<Here>)
+    ensures { sessions.new.items ≡ filter (is_elsewhere resource.now) sessions.old.items }
+{
+    sessions.retain(|h| is_elsewhere(resource, h));
+}
+
+/// Takes out the session of an address, which is over where none that goes on has it.
+fn keep_choosable(place: &Place, sessions: &mut Vec<Here>)
+    ensures { sessions.new.items ≡ choosable place.now sessions.old.items }
+{
+    match place {
+        Place::UserAt(_, resource) => keep_elsewhere(resource, sessions),
+        Place::Account
+        | Place::Server
+        | Place::User(_)
+        | Place::Service
+        | Place::Room(_)
+        | Place::RoomAt(_, _)
+        | Place::Foreign => {}
+    }
+}
+
 /// Those whom RFC 6121 chooses among a user's sessions.
 fn chosen(
     world: &World,
@@ -95,6 +211,7 @@ fn chosen(
         return Ok(Vec::new(alloc));
     };
     let mut sessions = sessions_of(world, alloc, user)?;
+    keep_choosable(place, &mut sessions);
     keep_receivers(form, place, &mut sessions);
     Ok(sessions)
 }
@@ -122,10 +239,11 @@ fn to_users(
     deliver(alloc, who, stanza, place, known, found.as_slice())
 }
 
-/// What comes of a message. There are no rooms yet, so each for a room is for one that isn't there.
+/// What comes of a message.
 pub(crate) fn message(
     world: &World,
     alloc: Global,
+    domain: &Part,
     users: &[Part],
     own: &Part,
     who: &Here,
@@ -136,11 +254,14 @@ pub(crate) fn message(
 ) -> Result<Vec<Effect>, NoMemory>
     requires tied { IsTied world.now.table }
     ensures { IfOk result (λ effects. effects.items
-        ≡ message users.now (seen world.now) own.now who.now stanza.now form element.now place.now) }
+        ≡ message (record { domain = domain.now; users = users.now; world = seen world.now }) own.now who.now stanza.now form element.now place.now) }
 {
     match place {
-        Place::Room(_) => refuse(alloc, who, stanza, to_no_room(form, element)),
-        Place::RoomAt(_, _) => refuse(alloc, who, stanza, Condition::ItemNotFound),
+        Place::Room(_) => {
+            let found = room_for(world, stanza.to());
+            to_all_in(world, alloc, domain, who, stanza, form, element, found)
+        }
+        Place::RoomAt(_, _) => to_one_in(alloc, who, stanza, room_for(world, stanza.to())),
         _ => to_users(
             world,
             alloc,

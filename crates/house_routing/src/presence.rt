@@ -1,14 +1,17 @@
-//! Presence (RFC 6121, 4): whom it reaches, and what comes of it.
-ghost use Rattle.std.specs.Prelude.{◌≡◌, ◌∷◌, ◌-◌, ◌^◌, [], IfOk, Some, min, nat_lt};
+//! Presence (RFC 6121, 4; XEP-0045, 7): whom it reaches, and what comes of it.
+ghost use Rattle.std.specs.Prelude.{◌≡◌, ◌∷◌, ◌+◌, ◌-◌, ◌^◌, [], IfOk, Some, min, nat_lt};
 ghost use Rattle.std.specs.Option.{option_copied};
 ghost use Rattle.house_model.specs.Presences.{length_sent, most_of_presence, named};
-ghost use Rattle.house_model.specs.Routing.{broadcast, directed_to, error_to, live_for, presence, presence_to, to_address, to_be_in_room, to_user};
+ghost use Rattle.house_model.specs.Routing.{broadcast, directed_to, error_to, live_for, presence, presence_to, to_address, to_user};
+ghost use Rattle.house_world.specs.Hosting.{AreHosted};
 ghost use Rattle.house_world.specs.Wholes.{IsTied};
 ghost use Rattle.house_world.specs.Worlds.{seen};
 
+use crate::attending::{leaves_rooms, to_be_in};
 use crate::listing::{directed_by, live_for, named};
 use crate::messages::{has_account, user_in};
 use crate::requests::one;
+use crate::rooms::room_for;
 use crate::rosters::subscribed;
 use crate::sight::{shown, watchers};
 use house_model::Stanza;
@@ -52,21 +55,6 @@ fn is_too_long(
     Ok(length_sent(alloc, who, to, element)? > MOST_OF_PRESENCE)
 }
 
-/// What comes of presence for a room. There are no rooms yet, and none can be made.
-fn to_be_in_room(
-    alloc: Global,
-    who: &Here,
-    stanza: &Stanza,
-    form: PresenceForm,
-) -> Result<Vec<Effect>, NoMemory>
-    ensures { IfOk result (λ effects. effects.items ≡ to_be_in_room who.now stanza.now form) }
-{
-    match form {
-        PresenceForm::Available => refuse(alloc, who, stanza, Condition::ServiceUnavailable),
-        _ => Ok(Vec::new(alloc)),
-    }
-}
-
 /// What comes of presence without an address.
 fn broadcast(
     world: &World,
@@ -100,13 +88,16 @@ fn broadcast(
         PresenceForm::Unavailable => {
             let watchers = watchers(world, alloc, own, who)?;
             let named = named(world, alloc, directed_by(world, who))?;
-            unavailable(
+            let mut effects = unavailable(
                 alloc,
                 who,
                 Some(stanza),
                 watchers.as_slice(),
                 named.as_slice(),
-            )
+            )?;
+            let mut more = leaves_rooms(world, alloc, who.session, Some(stanza))?;
+            effects.append(&mut more)?;
+            Ok(effects)
         }
         _ => refuse(alloc, who, stanza, Condition::BadRequest),
     }
@@ -240,6 +231,7 @@ fn to_address(
 ) -> Result<Vec<Effect>, NoMemory>
     requires tied { IsTied world.now.table }
     requires domain { world.now.book.domain ≡ domain.now }
+    requires hosted { AreHosted (2 ^ 63 + 2 ^ 62) world.now.rooms }
     ensures { IfOk result (λ effects. effects.items
         ≡ to_address (record { domain = domain.now; users = users.now; world = seen world.now }) own.now who.now stanza.now to.now form element.now place.now) }
 {
@@ -249,7 +241,10 @@ fn to_address(
                 world, alloc, domain, users, own, who, stanza, to, form, element, place,
             )
         }
-        Place::Room(_) | Place::RoomAt(_, _) => to_be_in_room(alloc, who, stanza, form),
+        Place::Room(_) | Place::RoomAt(_, _) => {
+            let found = room_for(world, Some(to));
+            to_be_in(world, alloc, who, stanza, form, found)
+        }
         Place::Server | Place::Service | Place::Foreign => Ok(Vec::new(alloc)),
     }
 }
@@ -269,6 +264,7 @@ fn presence_to(
 ) -> Result<Vec<Effect>, NoMemory>
     requires tied { IsTied world.now.table }
     requires domain { world.now.book.domain ≡ domain.now }
+    requires hosted { AreHosted (2 ^ 63 + 2 ^ 62) world.now.rooms }
     ensures { IfOk result (λ effects. effects.items
         ≡ presence_to (record { domain = domain.now; users = users.now; world = seen world.now }) own.now who.now stanza.now (option_copied to.entry)
         form element.now place.now) }
@@ -297,6 +293,7 @@ pub(crate) fn presence(
 ) -> Result<Vec<Effect>, NoMemory>
     requires tied { IsTied world.now.table }
     requires domain { world.now.book.domain ≡ domain.now }
+    requires hosted { AreHosted (2 ^ 63 + 2 ^ 62) world.now.rooms }
     ensures { IfOk result (λ effects. effects.items
         ≡ presence (record { domain = domain.now; users = users.now; world = seen world.now }) own.now who.now stanza.now (option_copied to.entry)
         form element.now place.now) }

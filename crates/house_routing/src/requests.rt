@@ -1,19 +1,24 @@
 //! Requests and their answers (RFC 6120, 8.2.3): what the server, the service of rooms and its rooms answer, and what goes to a session.
-ghost use Rattle.std.specs.Prelude.{◌≡◌, ℕ, List, [], ◌∷◌, IfOk, true};
+ghost use Rattle.std.specs.Prelude.{◌≡◌, ℕ, List, [], ◌∷◌, Some, IfOk, true};
 ghost use Rattle.std.specs.Option.{option_copied};
 ghost use Rattle.stanza_model.specs.Replies.{may_be_answered};
 ghost use Rattle.house_model.specs.Requests.{asks_a_room, begins_session, binds_resource, discovers, gets, has_child, pings, queries, sets};
-ghost use Rattle.house_model.specs.Routing.{discovered, done, iq, to_room, to_server, to_service, to_session};
+ghost use Rattle.house_model.specs.RoomLookups.{listed};
+ghost use Rattle.house_model.specs.Routing.{asked_of, discovered, done, iq, to_room, to_server, to_service, to_session};
 ghost use Rattle.house_world.specs.Wholes.{IsTied};
 ghost use Rattle.house_world.specs.Worlds.{seen};
 
+use crate::archives::{ARCHIVE_SPACE, archived};
 use crate::listing::live_for;
+use crate::rooms::{listed, room_for};
 use crate::rosters::to_account;
 use house_model::Stanza;
 use house_world::World;
 use jid_core::{Jid, Part};
+use muc_admin::{admin, owner};
+use muc_service::Hosted;
 use stanza_model::{Condition, Effect, Here, IqForm, refuse, result_of, say_to};
-use stanza_router::{Place, copy_to, discover};
+use stanza_router::{Listed, Place, copy_to, discover};
 use stanza_tree::{Element, NoMemory};
 use std::alloc::Global;
 
@@ -80,12 +85,11 @@ fn queries(space: &str, stanza: &Stanza) -> bool
     gets(space, "query", stanza) || sets(space, "query", stanza)
 }
 
-/// A request for a room's archive, its occupants or its configuration (XEP-0313; XEP-0045, 9 and 10).
+/// A request for a room's occupants or its configuration (XEP-0045, 9 and 10).
 fn asks_a_room(stanza: &Stanza) -> bool
     ensures { result ≡ asks_a_room stanza.now }
 {
-    queries("urn:xmpp:mam:2", stanza)
-        || queries("http://jabber.org/protocol/muc#admin", stanza)
+    queries("http://jabber.org/protocol/muc#admin", stanza)
         || queries("http://jabber.org/protocol/muc#owner", stanza)
 }
 
@@ -106,18 +110,34 @@ fn done(alloc: Global, who: &Here, stanza: &Stanza) -> Result<Vec<Effect>, NoMem
     one(alloc, say_to(alloc, who, &result)?)
 }
 
-/// What is known of a place. No rooms are listed yet.
+/// What is known of a place, where these rooms are told of (XEP-0030).
 fn discovered(
+    alloc: Global,
+    rooms: &[Listed],
+    who: &Here,
+    stanza: &Stanza,
+    place: &Place,
+) -> Result<Vec<Effect>, NoMemory>
+    requires { discovers stanza.now ≡ true }
+    ensures { IfOk result (λ effects. effects.items ≡ discovered rooms.now who.now stanza.now place.now) }
+{
+    let reply = discover(alloc, place, stanza, rooms)?;
+    one(alloc, say_to(alloc, who, &reply)?)
+}
+
+/// What is known of the service of rooms, or of a room.
+fn discovered_among(
+    world: &World,
     alloc: Global,
     who: &Here,
     stanza: &Stanza,
     place: &Place,
 ) -> Result<Vec<Effect>, NoMemory>
     requires { discovers stanza.now ≡ true }
-    ensures { IfOk result (λ effects. effects.items ≡ discovered who.now stanza.now place.now) }
+    ensures { IfOk result (λ effects. effects.items ≡ discovered (listed world.now.rooms) who.now stanza.now place.now) }
 {
-    let reply = discover(alloc, place, stanza, &[])?;
-    one(alloc, say_to(alloc, who, &reply)?)
+    let rooms = listed(world, alloc)?;
+    discovered(alloc, rooms.as_slice(), who, stanza, place)
 }
 
 /// A request for the sender's account or the server (RFC 6120, 10.3 and 10.5.1).
@@ -132,7 +152,7 @@ pub(crate) fn to_server(
     if begins_session(stanza) || pings(stanza) {
         done(alloc, who, stanza)
     } else if discovers(stanza) {
-        discovered(alloc, who, stanza, place)
+        discovered(alloc, &[], who, stanza, place)
     } else if binds_resource(stanza) {
         refuse(alloc, who, stanza, Condition::NotAllowed)
     } else {
@@ -142,15 +162,16 @@ pub(crate) fn to_server(
 
 /// A request for the service of rooms (XEP-0045, 6.2 and 6.3).
 fn to_service(
+    world: &World,
     alloc: Global,
     who: &Here,
     stanza: &Stanza,
     place: &Place,
 ) -> Result<Vec<Effect>, NoMemory>
-    ensures { IfOk result (λ effects. effects.items ≡ to_service who.now stanza.now place.now) }
+    ensures { IfOk result (λ effects. effects.items ≡ to_service world.now.rooms who.now stanza.now place.now) }
 {
     if discovers(stanza) {
-        discovered(alloc, who, stanza, place)
+        discovered_among(world, alloc, who, stanza, place)
     } else if pings(stanza) {
         done(alloc, who, stanza)
     } else {
@@ -158,23 +179,60 @@ fn to_service(
     }
 }
 
-/// A request for a room. There are no rooms yet, so it isn't there.
+/// What a room that is there is asked of those who are in it, and of its settings.
+fn asked_here(
+    alloc: Global,
+    who: &Here,
+    stanza: &Stanza,
+    h: &Hosted,
+) -> Result<Vec<Effect>, NoMemory>
+    ensures { IfOk result (λ effects. effects.items ≡ asked_of who.now stanza.now (Some h.now)) }
+{
+    if queries("http://jabber.org/protocol/muc#admin", stanza) {
+        admin(alloc, h.room(), who, stanza)
+    } else if queries("http://jabber.org/protocol/muc#owner", stanza) {
+        owner(alloc, h.room(), who, stanza)
+    } else {
+        refuse(alloc, who, stanza, Condition::ServiceUnavailable)
+    }
+}
+
+/// A request about who is in a room and what they are to it, or about its settings (XEP-0045, 9 and 10).
+fn asked_of(
+    alloc: Global,
+    who: &Here,
+    stanza: &Stanza,
+    found: Option<&Hosted>,
+) -> Result<Vec<Effect>, NoMemory>
+    ensures { IfOk result (λ effects. effects.items ≡ asked_of who.now stanza.now (option_copied found.entry)) }
+{
+    match found {
+        Some(h) => asked_here(alloc, who, stanza, h),
+        None if asks_a_room(stanza) => refuse(alloc, who, stanza, Condition::ItemNotFound),
+        None => refuse(alloc, who, stanza, Condition::ServiceUnavailable),
+    }
+}
+
+/// A request for a room (XEP-0045, 6.4 and 6.5; XEP-0313, 4).
 fn to_room(
+    world: &World,
     alloc: Global,
     who: &Here,
     stanza: &Stanza,
     place: &Place,
+    found: Option<&Hosted>,
 ) -> Result<Vec<Effect>, NoMemory>
-    ensures { IfOk result (λ effects. effects.items ≡ to_room who.now stanza.now place.now) }
+    ensures { IfOk result (λ effects. effects.items
+        ≡ to_room world.now.rooms who.now stanza.now place.now (option_copied found.entry)) }
 {
     if discovers(stanza) {
-        discovered(alloc, who, stanza, place)
+        discovered_among(world, alloc, who, stanza, place)
     } else if pings(stanza) {
         done(alloc, who, stanza)
-    } else if asks_a_room(stanza) {
-        refuse(alloc, who, stanza, Condition::ItemNotFound)
+    } else if queries(ARCHIVE_SPACE, stanza) {
+        archived(alloc, who, stanza, found)
     } else {
-        refuse(alloc, who, stanza, Condition::ServiceUnavailable)
+        asked_of(alloc, who, stanza, found)
     }
 }
 
@@ -222,8 +280,8 @@ pub(crate) fn iq(
             let live = live_for(world, place, to);
             to_session(world, alloc, who, stanza, to, element, live)
         }
-        Place::Service => to_service(alloc, who, stanza, place),
-        Place::Room(_) => to_room(alloc, who, stanza, place),
+        Place::Service => to_service(world, alloc, who, stanza, place),
+        Place::Room(_) => to_room(world, alloc, who, stanza, place, room_for(world, to)),
         Place::User(_) | Place::RoomAt(_, _) => {
             refuse(alloc, who, stanza, Condition::ServiceUnavailable)
         }

@@ -1,22 +1,24 @@
 //! What comes of a stanza, by its kind and the place that it is for.
-ghost use Rattle.std.specs.Prelude.{◌≡◌, true, IfOk};
+ghost use Rattle.std.specs.Prelude.{◌≡◌, ◌<◌, ◌+◌, ◌^◌, true, unwrap_or, IfOk};
 ghost use Rattle.std.specs.Option.{option_copied};
 ghost use Rattle.house_model.specs.Fitting.{AreSmall};
 ghost use Rattle.house_model.specs.Histories.{StanzaFits};
 ghost use Rattle.house_model.specs.Routing.{departure, departure_by, effects_at, effects_in};
 ghost use Rattle.roster_laws.specs.Keeping.{AreKept};
 ghost use Rattle.session_table.specs.Tables.{is_there};
+ghost use Rattle.house_world.specs.Hosting.{AreHosted, Hosts, IsCast};
 ghost use Rattle.house_world.specs.Keeping.{AreShortNames};
 ghost use Rattle.house_world.specs.Wholes.{IsTied};
 ghost use Rattle.house_world.specs.Worlds.{IsHeld, seen};
 
+use crate::attending::leaves_rooms;
 use crate::listing::{directed_by, here, named};
 use crate::messages::message;
 use crate::presence::presence;
 use crate::requests::iq;
 use crate::sight::watchers;
 use house_model::Stanza;
-use house_world::{World, know_part, know_to};
+use house_world::{Cast, World, know_part, know_to};
 use jid_core::Part;
 use presence_core::unavailable;
 use stanza_model::{Effect, Here, refuse};
@@ -37,12 +39,15 @@ fn effects_at(
 ) -> Result<Vec<Effect>, NoMemory>
     requires tied { IsTied world.now.table }
     requires domain { world.now.book.domain ≡ domain.now }
+    requires hosted { AreHosted (2 ^ 63 + 2 ^ 62) world.now.rooms }
     ensures { IfOk result (λ effects. effects.items
         ≡ effects_at (record { domain = domain.now; users = users.now; world = seen world.now }) own.now who.now stanza.now place.now) }
 {
     match stanza {
         Stanza::Message { form, element, .. } => {
-            message(world, alloc, users, own, who, stanza, *form, element, place)
+            message(
+                world, alloc, domain, users, own, who, stanza, *form, element, place,
+            )
         }
         Stanza::Presence { to, form, element } => {
             presence(
@@ -87,6 +92,7 @@ fn effects_in(
     requires tied { IsTied world.now.table }
     requires held { IsHeld s world.now.table }
     requires domain { world.now.book.domain ≡ domain.now }
+    requires hosted { AreHosted (2 ^ 63 + 2 ^ 62) world.now.rooms }
     ensures { IfOk result (λ effects. effects.items ≡ effects_in (record { domain = domain.now; users = users.now; world = seen world.now }) s stanza.now) }
 {
     let Some(who) = here(world, alloc, s)? else {
@@ -99,7 +105,13 @@ fn effects_in(
     effects_at(world, alloc, domain, users, own, &who, stanza, &place)
 }
 
-/// The effects of a stanza of a session. What they queue is short. Costs the size of the stanza and of the effects, and a look at each session.
+// A list has fewer than 2^64 places.
+fn know_length(_length: usize)
+    ensures { _length < 2 ^ 64 }
+{}
+
+/// The effects of a stanza of a session, as they are queued, and the rooms after them. What they queue is short, and so is what is kept of the
+/// rooms. Costs the size of the stanza and of the effects, and a look at each session; and a copy of the rooms, where they change.
 pub fn effects_of(
     world: &World,
     alloc: Global,
@@ -107,21 +119,25 @@ pub fn effects_of(
     users: &[Part],
     s: u64,
     stanza: &Stanza,
-) -> Result<Vec<Effect>, NoMemory>
+) -> Result<Cast, NoMemory>
     requires tied { IsTied world.now.table }
     requires held { IsHeld s world.now.table }
     requires domain { world.now.book.domain ≡ domain.now }
     requires names { AreShortNames world.now.book.book.asked }
     requires rosters { AreKept domain.now world.now.book.book }
+    requires hosted { AreHosted (2 ^ 63 + 2 ^ 62) world.now.rooms }
     requires fits { StanzaFits stanza.now }
-    ensures effects { IfOk result (λ effects. effects.items ≡ effects_in
-        (record { domain = domain.now; users = users.now; world = seen world.now }) s stanza.now) }
-    ensures short { IfOk result (λ effects. AreSmall effects.items) }
+    ensures effects { IfOk result (λ c. IsCast (effects_in
+        (record { domain = domain.now; users = users.now; world = seen world.now }) s stanza.now) world.now.rooms c) }
+    ensures short { IfOk result (λ c. AreSmall c.effects.items) }
+    ensures hosts { IfOk result (λ c. Hosts world.now.rooms (unwrap_or c.rooms world.now.rooms)) }
 {
     know_part(domain);
     know_to(stanza);
     let effects = effects_in(world, alloc, domain, users, s, stanza)?;
-    Ok(effects)
+    know_length(effects.len());
+    let cast = world.cast(effects)?;
+    Ok(cast)
 }
 
 /// What others are told of a session that departs.
@@ -147,19 +163,27 @@ fn departure_in(world: &World, alloc: Global, s: u64) -> Result<Vec<Effect>, NoM
     requires there { is_there s world.now.table ≡ true }
     ensures { IfOk result (λ effects. effects.items ≡ departure (seen world.now) s) }
 {
-    match here(world, alloc, s)? {
-        Some(who) => departure_of(world, alloc, who.address.local.as_ref(), &who),
-        None => Ok(Vec::new(alloc)),
-    }
+    let Some(who) = here(world, alloc, s)? else {
+        return Ok(Vec::new(alloc));
+    };
+    let mut effects = departure_of(world, alloc, who.address.local.as_ref(), &who)?;
+    let mut more = leaves_rooms(world, alloc, s, None)?;
+    effects.append(&mut more)?;
+    Ok(effects)
 }
 
-/// What others are told of a session that departs. It is short. Costs a look at each session, and the size of what is told.
-pub fn departure(world: &World, alloc: Global, s: u64) -> Result<Vec<Effect>, NoMemory>
+/// What others are told of a session that departs, and leaves its rooms, as it is queued, and the rooms after it. It is short, and so is what is
+/// kept of the rooms. Costs a look at each session and at each room, and the size of what is told; and a copy of the rooms, where it leaves any.
+pub fn departure(world: &World, alloc: Global, s: u64) -> Result<Cast, NoMemory>
     requires tied { IsTied world.now.table }
     requires there { is_there s world.now.table ≡ true }
-    ensures effects { IfOk result (λ effects. effects.items ≡ departure (seen world.now) s) }
-    ensures short { IfOk result (λ effects. AreSmall effects.items) }
+    requires hosted { AreHosted (2 ^ 63 + 2 ^ 62) world.now.rooms }
+    ensures effects { IfOk result (λ c. IsCast (departure (seen world.now) s) world.now.rooms c) }
+    ensures short { IfOk result (λ c. AreSmall c.effects.items) }
+    ensures hosts { IfOk result (λ c. Hosts world.now.rooms (unwrap_or c.rooms world.now.rooms)) }
 {
     let effects = departure_in(world, alloc, s)?;
-    Ok(effects)
+    know_length(effects.len());
+    let cast = world.cast(effects)?;
+    Ok(cast)
 }

@@ -10,6 +10,7 @@ use Rattle.session_table.specs.declared.life.Life.{Life}
 use Rattle.session_table.specs.declared.life.Life.TheVariants.{Live, Over}
 use Rattle.session_table.specs.Sessions.{SessionRecord}
 use Rattle.session_table.specs.Tables.{TableRecord, session_of, with_session}
+use Rattle.muc_service.specs.Casting.{cast}
 use Rattle.house_model.specs.declared.event.Event.TheVariants as event
 use Rattle.house_model.specs.declared.reply.Reply.TheVariants as reply
 use Rattle.house_model.specs.Sessions.{Act, nobody}
@@ -118,7 +119,8 @@ scene_is k domain users world s x same at names =
 
 -- the act as a whole
 pub act_ends : (k : Kept) (p : model.Pass) (c s t w : ℕ) (x : Stanza) (a b d f : code.World) (es : List stanza.Effect) → p ≡ model.Holds c s
-    → b ≡ a → Did [] 0 b d → Did (On s (Act x) ∷ map effect_of es) 1 d f → es ≡ effects k s x → Ends (body k (event.Act w x t) p) 1 reply.Done a f
+    → b ≡ a → Did [] 0 b d → Did (On s (Act x) ∷ map effect_of es) 1 d f → es ≡ cast k.world.rooms (effects k s x)
+    → Ends (body k (event.Act w x t) p) 1 reply.Done a f
 act_ends k p c s t w x a b d f es pass same ready did is =
     subst (λ (q : model.Pass). Ends (body k (event.Act w x t) q) 1 reply.Done a f) (sym pass)
     (record {

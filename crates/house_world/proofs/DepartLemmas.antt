@@ -181,6 +181,7 @@ module _ (a : code.World) (s spare : ℕ) (c : Cause) (x : SessionRecord) (tied 
     world = λ i. record {
       opened = was.opened;
       book = a.book.book;
+      rooms = a.rooms;
       lines = sym (λ j. settled s (part_before j).hold (part_step j).hold (seen a).lines) i;
       made = was.made;
       sessions = λ n. part_at n i;

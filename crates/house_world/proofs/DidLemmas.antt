@@ -19,7 +19,7 @@ use Rattle.house_world.proofs.WorldLemmas.{few_later, moved_same}
 use Rattle.house_world.proofs.OffLemmas.{there}
 use Rattle.house_world.proofs.BookLemmas.{book_same, book_then}
 
-all_then : (world : World KeptTraffic) (es fs : List Effect) → apply_all brief world (es ++ fs) ≡ apply_all brief (apply_all brief world es) fs
+pub all_then : (world : World KeptTraffic) (es fs : List Effect) → apply_all brief world (es ++ fs) ≡ apply_all brief (apply_all brief world es) fs
 all_then world [] fs = refl
 all_then world (e ∷ more) fs = all_then (apply brief world e) more fs
 
@@ -70,6 +70,7 @@ tell_did a w s tied held =
       world = λ i. record {
         opened = t.opened;
         book = a.book.book;
+        rooms = a.rooms;
         lines = sym ((λ j. settled s (is j).hold (step j).hold (lines_of t a.answers.items)) ∙ moved_same s w c (lines_of t a.answers.items)) i;
         made = t.made;
         sessions = sym (put_same s (session_step brief (sessions_of t s) Tell) (sessions_of t) (step ∙ sym is)) i;

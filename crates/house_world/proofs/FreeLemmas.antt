@@ -20,11 +20,12 @@ use Rattle.house_world.proofs.BookLemmas.{book_same}
 
 module _ (a : code.World) (w : ℕ) (tied : IsTied a.table) (low : w < length a.table.lines)
     (answered : length a.answers.items ≡ length a.table.lines) (free : IsFreeLine w a.table) where
-  free_world : (l : stage.Line) → world_of (with_line w l a.table) (set a.answers.items w []) a.book.book
+  free_world : (l : stage.Line) → world_of (with_line w l a.table) (set a.answers.items w []) a.book.book a.rooms
       ≡ record (seen a) { lines = put w (record { stage = l; answers = [] }) (lines_of a.table a.answers.items) }
   free_world l = λ i. record {
     opened = a.table.opened;
     book = a.book.book;
+    rooms = a.rooms;
     lines = lines_put a.table a.answers.items w l [] low (omega (arith, low, answered)) i;
     made = a.table.made;
     sessions = sessions_line a.table w l low (λ n y at live holder. absurd (free n y at holder)) i;
@@ -56,7 +57,7 @@ module _ (a : code.World) (w : ℕ) (tied : IsTied a.table) (low : w < length a.
       subst (λ (t : TableRecord). Did (e ∷ []) more a (record a { table = t; answers = with_item a.answers w now })) (sym is)
       (record {
         world =
-            (λ i. record (world_of (with_line w l a.table) (set a.answers.items w (empty i)) a.book.book) { opened = opened })
+            (λ i. record (world_of (with_line w l a.table) (set a.answers.items w (empty i)) a.book.book a.rooms) { opened = opened })
             ∙ ((λ i. record (free_world l i) { opened = opened }) ∙ effect);
         tied = (let old = tied_line w l a.table tied low free unbound in record { bound = old.bound; holds = old.holds; each = old.each });
         known = λ many users. free_known many l unlogged users;

@@ -21,4 +21,6 @@ pub mod PartLemmas
 pub mod ResumeLemmas
 pub mod AtLemmas
 pub mod BookLemmas
+pub mod CastLemmas
 pub mod DepartLemmas
+pub mod HostLemmas

@@ -110,6 +110,15 @@ module _ (a : code.World) (s : ℕ) (x : SessionRecord) (tied : IsTied a.table) 
   set_is (change.NoContact user address) is short few = absurd (cc)
   set_is (change.Sees one other now) is short few = absurd (cc)
   set_is (change.Asked one other now) is short few = absurd (cc)
+  set_is (change.RoomMade n address owner) is short few = absurd (cc)
+  set_is (change.RoomGone n) is short few = absurd (cc)
+  set_is (change.Unlocked n) is short few = absurd (cc)
+  set_is (change.Configured n config) is short few = absurd (cc)
+  set_is (change.Affiliated n address a) is short few = absurd (cc)
+  set_is (change.RoleSet n m role) is short few = absurd (cc)
+  set_is (change.Renamed n m nick) is short few = absurd (cc)
+  set_is (change.OccupantShown n m presence) is short few = absurd (cc)
+  set_is (change.Subject n text) is short few = absurd (cc)
 
   -- a change of a session that is there
   pub set_did : (y : SessionRecord) (c : Change) → named_by c ≡ Some s → IsSmall (Set c) → IsShortChange c → y ≡ set_by c x
@@ -134,6 +143,15 @@ set_gone a s (change.Contact user address name groups) tied is none = absurd (cc
 set_gone a s (change.NoContact user address) tied is none = absurd (cc)
 set_gone a s (change.Sees one other now) tied is none = absurd (cc)
 set_gone a s (change.Asked one other now) tied is none = absurd (cc)
+set_gone a s (change.RoomMade n address owner) tied is none = absurd (cc)
+set_gone a s (change.RoomGone n) tied is none = absurd (cc)
+set_gone a s (change.Unlocked n) tied is none = absurd (cc)
+set_gone a s (change.Configured n config) tied is none = absurd (cc)
+set_gone a s (change.Affiliated n address b) tied is none = absurd (cc)
+set_gone a s (change.RoleSet n m role) tied is none = absurd (cc)
+set_gone a s (change.Renamed n m nick) tied is none = absurd (cc)
+set_gone a s (change.OccupantShown n m presence) tied is none = absurd (cc)
+set_gone a s (change.Subject n text) tied is none = absurd (cc)
 
 -- what it queues has as much room
 set_queue : (c : Change) (x : SessionRecord) → (set_by c x).queue ≡ x.queue
@@ -142,10 +160,7 @@ set_queue (change.Pushed n pushes) x = refl
 set_queue (change.Available n stanza priority) x = refl
 set_queue (change.Unavailable n) x = refl
 set_queue (change.Directed n addresses) x = refl
-set_queue (change.Contact user address name groups) x = refl
-set_queue (change.NoContact user address) x = refl
-set_queue (change.Sees one other now) x = refl
-set_queue (change.Asked one other now) x = refl
+set_queue c x = refl
 
 pub spare_set : (s n r : ℕ) (t : TableRecord) (x y : SessionRecord) (c : Change) → session_of s t ≡ Some x → y ≡ set_by c x
     → HasSpare n r t → HasSpare n r (with_session s t y)
@@ -160,7 +175,4 @@ state_same (change.Pushed n pushes) x = refl
 state_same (change.Available n stanza priority) x = refl
 state_same (change.Unavailable n) x = refl
 state_same (change.Directed n addresses) x = refl
-state_same (change.Contact user address name groups) x = refl
-state_same (change.NoContact user address) x = refl
-state_same (change.Sees a b now) x = refl
-state_same (change.Asked a b now) x = refl
+state_same c x = refl

@@ -7,7 +7,7 @@ use Rattle.std.proofs.lemmas.List.{drop_all, drop_more}
 use Rattle.stanza_model.specs.declared.effect.Change.{Change}
 use Rattle.stanza_model.specs.declared.effect.Change.TheVariants as change
 use Rattle.stanza_model.specs.declared.effect.Effect as stanza
-use Rattle.stanza_model.specs.declared.effect.Effect.TheVariants.{Queue, Set}
+use Rattle.stanza_model.specs.declared.effect.Effect.TheVariants.{Queue, Broadcast, Enter, Leave, Set}
 use Rattle.contact_table.specs.Books.{Book, Pair, is_pair, noted, pair_of, user_of, with_pair}
 use Rattle.contact_table.specs.Tables.{BookRecord, needed, spare}
 use Rattle.house_model.specs.Effects.{Effect, Note}
@@ -15,7 +15,7 @@ use Rattle.house_model.specs.Steps.{set}
 use Rattle.house_world.specs.declared.world.World as code
 use Rattle.house_world.specs.Views.{world_of}
 use Rattle.house_world.specs.Keeping.{AreShortNames, IsShortChange}
-use Rattle.house_world.specs.Marks.{named_by}
+use Rattle.house_world.specs.Marks.{is_of_users}
 use Rattle.house_world.specs.Readiness.{changes_in, notes, notes_by}
 use Rattle.house_world.specs.Wholes.{IsTied}
 use Rattle.house_world.specs.Worlds.{Did, Stays}
@@ -56,29 +56,34 @@ noted_short (change.Asked a b on) k small short = pair_short (pair_of a b) on k.
 noted_short (change.Sees a b on) k small short = short
 noted_short (change.Contact user address name groups) k small short = short
 noted_short (change.NoContact user address) k small short = short
-noted_short (change.WantsRoster s) k small short = short
-noted_short (change.Pushed s pushes) k small short = short
-noted_short (change.Available s stanza priority) k small short = short
-noted_short (change.Unavailable s) k small short = short
-noted_short (change.Directed s addresses) k small short = short
+noted_short c k small short = short
 
--- a change of no session is noted
-note_is : (c : Change) → named_by c ≡ None → Note c ≡ set c
-note_is (change.Contact user address name groups) none = refl
-note_is (change.NoContact user address) none = refl
-note_is (change.Sees a b on) none = refl
-note_is (change.Asked a b on) none = refl
-note_is (change.WantsRoster s) none = absurd (cc)
-note_is (change.Pushed s pushes) none = absurd (cc)
-note_is (change.Available s stanza priority) none = absurd (cc)
-note_is (change.Unavailable s) none = absurd (cc)
-note_is (change.Directed s addresses) none = absurd (cc)
+-- a change of users is noted
+note_is : (c : Change) → is_of_users c ≡ true → Note c ≡ set c
+note_is (change.Contact user address name groups) is = refl
+note_is (change.NoContact user address) is = refl
+note_is (change.Sees a b on) is = refl
+note_is (change.Asked a b on) is = refl
+note_is (change.WantsRoster s) is = absurd (cc)
+note_is (change.Pushed s pushes) is = absurd (cc)
+note_is (change.Available s stanza priority) is = absurd (cc)
+note_is (change.Unavailable s) is = absurd (cc)
+note_is (change.Directed s addresses) is = absurd (cc)
+note_is (change.RoomMade n address owner) is = absurd (cc)
+note_is (change.RoomGone n) is = absurd (cc)
+note_is (change.Unlocked n) is = absurd (cc)
+note_is (change.Configured n config) is = absurd (cc)
+note_is (change.Affiliated n address a) is = absurd (cc)
+note_is (change.RoleSet n s role) is = absurd (cc)
+note_is (change.Renamed n s nick) is = absurd (cc)
+note_is (change.OccupantShown n s presence) is = absurd (cc)
+note_is (change.Subject n text) is = absurd (cc)
 
-pub note_did : (a : code.World) (c : Change) (b : BookRecord) → IsTied a.table → named_by c ≡ None → IsShortChange c
+pub note_did : (a : code.World) (c : Change) (b : BookRecord) → IsTied a.table → is_of_users c ≡ true → IsShortChange c
     → b.book ≡ noted c a.book.book → b.domain ≡ a.book.domain → Did (set c ∷ []) 0 a (record a { book = b })
 note_did a c b tied none small is same =
     subst (λ (e : Effect). Did (e ∷ []) 0 a (record a { book = b })) (note_is c none) (record {
-      world = ap (world_of a.table a.answers.items) is;
+      world = ap (λ (k : Book). world_of a.table a.answers.items k a.rooms) is;
       tied = tied;
       known = λ many users. users;
       few = λ turns few. few_later turns (turns + 0) a.table few (omega arith);
@@ -94,21 +99,20 @@ pub stays_noted : (a : code.World) (b : BookRecord) → Stays a (record a { book
 stays_noted a b = record { logged = λ w c u at. (at, refl); there = λ n is. is; over = λ n is. is; spare = refl }
 
 -- no change is noted twice for a user
-some_at_most : (user : List ℕ) (c : Change) → needed user c ≤ (if is_some (named_by c) then 0 else 1)
+some_at_most : (user : List ℕ) (c : Change) → needed user c ≤ (if is_of_users c then 1 else 0)
 some_at_most user (change.Contact u address name groups) = one_at_most (list_any (bytes_eq user) (u ∷ []))
 some_at_most user (change.NoContact u address) = one_at_most (list_any (bytes_eq user) (u ∷ []))
 some_at_most user (change.Sees a b on) = one_at_most (list_any (bytes_eq user) (user_of a ∷ user_of b ∷ []))
 some_at_most user (change.Asked a b on) = one_at_most (list_any (bytes_eq user) (user_of a ∷ user_of b ∷ []))
-some_at_most user (change.WantsRoster s) = omega arith
-some_at_most user (change.Pushed s pushes) = omega arith
-some_at_most user (change.Available s stanza priority) = omega arith
-some_at_most user (change.Unavailable s) = omega arith
-some_at_most user (change.Directed s addresses) = omega arith
+some_at_most user c = omega arith
 
 pub notes_at_most : (user : List ℕ) (es : List stanza.Effect) → notes user es ≤ changes_in es
 notes_at_most user [] = omega arith
 notes_at_most user (Queue s to rest origin ∷ more) = omega (arith, notes_at_most user more)
 notes_at_most user (Set c ∷ more) = omega (arith, some_at_most user c, notes_at_most user more)
+notes_at_most user (Broadcast n item ∷ more) = omega (arith, notes_at_most user more)
+notes_at_most user (Enter n s address nick role ∷ more) = omega (arith, notes_at_most user more)
+notes_at_most user (Leave n s ∷ more) = omega (arith, notes_at_most user more)
 
 -- an effect more has places, and each one before it still has
 pub places_step : (user : List ℕ) (all : List stanza.Effect) (i many : ℕ) (e d : stanza.Effect) (old new : BookRecord)

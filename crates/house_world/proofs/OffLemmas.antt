@@ -68,11 +68,12 @@ module _ (a : code.World) (w s : ℕ) (x : SessionRecord) (f : SessionRecord →
       ∙ ap (λ (o : Session KeptTraffic). put s o (sessions_of t)) stepped)
 
   pub off_world : (l : stage.Line)
-      → world_of (with_line w l (changed s f t)) (set a.answers.items w []) a.book.book
+      → world_of (with_line w l (changed s f t)) (set a.answers.items w []) a.book.book a.rooms
       ≡ record (apply brief (seen a) (On s op)) { lines = put w (record { stage = l; answers = [] }) ls }
   off_world l = λ i. record {
     opened = t.opened;
     book = a.book.book;
+    rooms = a.rooms;
     lines = lines_put (changed s f t) a.answers.items w l [] low (omega (arith, low, answered)) i;
     made = t.made;
     sessions = off_sessions l i;

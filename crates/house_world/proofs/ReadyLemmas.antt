@@ -23,8 +23,8 @@ use Rattle.session_table.specs.Sessions.{SessionRecord, ended}
 use Rattle.session_table.specs.Tables.{TableRecord, changed, line_ended, session_of, with_session}
 use Rattle.jid_core.specs.Addresses.{local_text, resource_text}
 use Rattle.contact_table.specs.Books.{Pair, bare_of, firsts_of}
-use Rattle.house_model.specs.Fitting.{AreShortAddresses, IsShortAddress, IsShortScene}
-use Rattle.house_model.specs.Steps.{effect_of}
+use Rattle.house_model.specs.Fitting.{AreShortAddresses, AreShortRooms, IsShortAddress, IsShortScene}
+use Rattle.house_world.specs.Hosting.{but_rooms, but_rooms_of}
 use Rattle.house_world.specs.declared.world.World as code
 use Rattle.house_world.specs.Readiness.{AreReady, needed, needed_by}
 use Rattle.house_world.specs.Views.{session_by}
@@ -69,14 +69,16 @@ asking_short domain own (p ∷ ps) small short = by (bytes_eq p.b own) (asking_s
     by false rest = rest
 
 pub scene_short : (a : code.World) (domain : List ℕ) (users : List (List ℕ)) → IsTied a.table → length domain ≤ 1023
-    → AreShortNames a.book.book.asked → AreKept domain a.book.book → IsShortScene (record { domain = domain; users = users; world = seen a })
-scene_short a domain users tied small names kept = record {
+    → AreShortNames a.book.book.asked → AreKept domain a.book.book → AreShortRooms a.rooms
+    → IsShortScene (record { domain = domain; users = users; world = seen a })
+scene_short a domain users tied small names kept rooms = record {
   domain = small;
   addresses = addresses_short a tied;
   asking = λ own. asking_short domain own a.book.book.asked small names;
   presences = λ s. presence_by (session_of s a.table) (λ x at. (tied.each s x at).shown);
   rosters = λ own. (kept own).small;
   pushes = λ s. pushes_by (session_of s a.table) (λ x at. (tied.each s x at).pushes);
+  rooms = rooms;
 }
   where
     pushes_by : (o : Option SessionRecord) → ((x : SessionRecord) → o ≡ Some x → x.pushes < 2 ^ 64)
@@ -216,10 +218,10 @@ ready_rest e more old new ready left = λ s x at.
 
 -- an effect was applied, and those after it go on from there
 pub applied_first : (e : Effect) (more all : List Effect) (a b c : code.World) → all ≡ e ∷ more
-    → Did (effect_of e ∷ []) 0 a b → Did (map effect_of more) 0 b c → Did (map effect_of all) 0 a c
+    → Did (but_rooms_of e) 0 a b → Did (but_rooms more) 0 b c → Did (but_rooms all) 0 a c
 applied_first e more all a b c is one rest =
-    subst (λ (es : List Effect). Did (map effect_of es) 0 a c) (sym is)
-    (did_then (effect_of e ∷ []) (map effect_of more) 0 0 a b c one rest)
+    subst (λ (es : List Effect). Did (but_rooms es) 0 a c) (sym is)
+    (did_then (but_rooms_of e) (but_rooms more) 0 0 a b c one rest)
 
 -- any stanza, where it does not matter which
 abbrev pub some_stanza : Stanza

@@ -5,3 +5,4 @@ pub mod Worlds
 pub mod Keeping
 pub mod Marks
 pub mod Readiness
+pub mod Hosting

@@ -1,10 +1,11 @@
--- What effects set of sessions.
-use Rattle.std.specs.Prelude.{ℕ, pos, true, Option, Some, None}
+-- What effects set of sessions, of users, or of rooms.
+use Rattle.std.specs.Prelude.{ℕ, pos, Bool, true, false, not, ◌||◌, Option, Some, None, is_some}
 use Rattle.stanza_model.specs.declared.effect.Change.{Change}
 use Rattle.stanza_model.specs.declared.effect.Change.TheVariants.{WantsRoster, Pushed, Available, Unavailable, Directed}
+use Rattle.stanza_model.specs.declared.effect.Change.TheVariants.{Contact, NoContact, Sees, Asked}
 use Rattle.session_table.specs.Sessions.{SessionRecord}
 
--- the number of the session that a change is of; some are of no session, but of what is kept of users
+-- the number of the session that a change is of; some are of no session, but of what is kept of users, or of rooms
 abbrev pub named_by : Change → Option ℕ
 named_by (WantsRoster s) = Some s
 named_by (Pushed s pushes) = Some s
@@ -21,3 +22,15 @@ set_by (Available s stanza priority) x = record x { presence = Some stanza; prio
 set_by (Unavailable s) x = record x { presence = None; priority = pos 0 }
 set_by (Directed s addresses) x = record x { directed = addresses }
 set_by change x = x
+
+-- whether a change is of what is kept of users
+abbrev pub is_of_users : Change → Bool
+is_of_users (Contact user address name groups) = true
+is_of_users (NoContact user address) = true
+is_of_users (Sees a b on) = true
+is_of_users (Asked a b on) = true
+is_of_users change = false
+
+-- all others are of rooms
+abbrev pub is_of_rooms : Change → Bool
+is_of_rooms change = not (is_some (named_by change) || is_of_users change)

@@ -1,15 +1,15 @@
 -- Whether there is room for what effects queue.
-use Rattle.std.specs.Prelude.{ℕ, ◌+◌, ◌≤◌, ◌==◌, List, [], ◌∷◌, count_by, is_some, if◌then◌else◌}
+use Rattle.std.specs.Prelude.{ℕ, ◌+◌, ◌≤◌, ◌==◌, List, [], ◌∷◌, count_by, if◌then◌else◌}
 use Rattle.stanza_model.specs.declared.effect.Effect.{Effect}
 use Rattle.stanza_model.specs.declared.effect.Effect.TheVariants.{Queue, Set}
 use Rattle.contact_table.specs.Tables as book
 use Rattle.session_table.specs.Tables.{TableRecord}
-use Rattle.house_world.specs.Marks.{named_by}
+use Rattle.house_world.specs.Marks.{is_of_users}
 use Rattle.house_world.specs.Wholes.{HasSpare}
 
 abbrev pub needed_by : ℕ → Effect → ℕ
 needed_by s (Queue r to rest origin) = if s == r then 1 else 0
-needed_by s (Set change) = 0
+needed_by s e = 0
 
 -- how many stanzas effects queue for session s
 abbrev pub needed : ℕ → List Effect → ℕ
@@ -20,7 +20,7 @@ needed s (e ∷ more) = needed_by s e + needed s more
 abbrev pub queued_for : List Effect → List ℕ
 queued_for [] = []
 queued_for (Queue s to rest origin ∷ more) = s ∷ queued_for more
-queued_for (Set change ∷ more) = queued_for more
+queued_for (e ∷ more) = queued_for more
 
 -- how often a number is in a list
 abbrev pub times : ℕ → List ℕ → ℕ
@@ -33,8 +33,8 @@ AreReady effects t = (s : ℕ) → HasSpare (needed s effects) s t
 -- how many changes of a user are noted
 
 abbrev pub notes_by : (user : List ℕ) → Effect → ℕ
-notes_by user (Queue s to rest origin) = 0
 notes_by user (Set change) = book.needed user change
+notes_by user e = 0
 
 abbrev pub notes : (user : List ℕ) → List Effect → ℕ
 notes user [] = 0
@@ -43,8 +43,8 @@ notes user (e ∷ more) = notes_by user e + notes user more
 -- how many changes are noted, whoever's
 abbrev pub changes_in : List Effect → ℕ
 changes_in [] = 0
-changes_in (Queue s to rest origin ∷ more) = changes_in more
-changes_in (Set change ∷ more) = (if is_some (named_by change) then 0 else 1) + changes_in more
+changes_in (Set change ∷ more) = (if is_of_users change then 1 else 0) + changes_in more
+changes_in (e ∷ more) = changes_in more
 
 -- there is room for all of them
 abbrev pub AreNotable : List Effect → book.BookRecord → Type 0

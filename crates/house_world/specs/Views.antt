@@ -8,6 +8,7 @@ use Rattle.session_table.specs.Sessions.{SessionRecord}
 use Rattle.session_table.specs.Tables.{TableRecord, conn_of, line_of, session_of}
 use Rattle.house_model.specs.declared.answer.Answer.{Answer}
 use Rattle.contact_table.specs.Books.{Book}
+use Rattle.muc_service.specs.Rooms.{Rooms}
 use Rattle.house_model.specs.Sessions.{Hold, Held, Away, Ended, Rest, Session, session, gone}
 use Rattle.house_model.specs.Traffic.{KeptTraffic, nothing_kept}
 use Rattle.house_model.specs.States.{Line, World}
@@ -48,5 +49,6 @@ sessions_of t s = session_by t.lines (session_of s t)
 abbrev pub lines_of : TableRecord → List (List Answer) → ℕ → Line
 lines_of t answers w = record { stage = line_of w t; answers = slice_index_or answers w [] }
 
-abbrev pub world_of : TableRecord → List (List Answer) → Book → World KeptTraffic
-world_of t answers k = record { opened = t.opened; lines = lines_of t answers; made = t.made; sessions = sessions_of t; book = k }
+abbrev pub world_of : TableRecord → List (List Answer) → Book → Rooms → World KeptTraffic
+world_of t answers k rooms =
+    record { opened = t.opened; lines = lines_of t answers; made = t.made; sessions = sessions_of t; book = k; rooms = rooms }

@@ -20,7 +20,7 @@ use Rattle.house_world.specs.Wholes.{IsHeldBy, IsTied, IsFew, AreUsers}
 use Rattle.session_table.specs.Tables.{TableRecord, is_there, line_of, session_of}
 
 abbrev pub seen : code.World → World KeptTraffic
-seen x = world_of x.table x.answers.items x.book.book
+seen x = world_of x.table x.answers.items x.book.book x.rooms
 
 -- session s is held at some line
 abbrev pub IsHeld : ℕ → TableRecord → Type 0

@@ -105,6 +105,7 @@ impl World {
         requires small { IsFew (2 ^ 64 - 2) self.old.table }
         ensures did { (stanza : Stanza) → Did (On s (Act stanza) ∷ []) 1 self.old self.new }
         ensures book { self.new.book ≡ self.old.book }
+        ensures rooms { self.new.rooms ≡ self.old.rooms }
         ensures room { (n r : ℕ) → HasSpare n r self.old.table → HasSpare n r self.new.table }
     {
         if let Some(session) = self.table.session_mut(s) {

@@ -26,6 +26,7 @@ impl World {
         ensures did { Did (On s (End cause) ∷ []) 0 self.old self.new }
         ensures free { IsFreeLine w self.new.table }
         ensures book { self.new.book ≡ self.old.book }
+        ensures rooms { self.new.rooms ≡ self.old.rooms }
         ensures room { self.new.table.spare ≡ self.old.table.spare }
         ensures queues { (n r : ℕ) → HasSpare n r self.old.table → HasSpare n r self.new.table }
     {
@@ -42,6 +43,7 @@ impl World {
         ensures table { self.new.table ≡ changed s (released moment) self.old.table }
         ensures answers { self.new.answers ≡ self.old.answers }
         ensures book { self.new.book ≡ self.old.book }
+        ensures rooms { self.new.rooms ≡ self.old.rooms }
     {
         let Some(session) = self.table.session(s) else {
             return;

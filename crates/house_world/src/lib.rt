@@ -1,8 +1,9 @@
-//! The world of the house: lines, sessions and their queues, the answers that wait, and what is kept of users; and how each effect changes it.
+//! The world of the house: lines, sessions and their queues, the answers that wait, what is kept of users, and rooms; and how each effect changes it.
 #![tactic(auto)]
 
 mod answers;
 mod applying;
+mod casting;
 mod deeds;
 mod free;
 mod leaving;
@@ -14,6 +15,7 @@ mod stirring;
 mod world;
 
 pub use answers::{Answers, MOST_ANSWERS, MOST_FRAME, push_request};
+pub use casting::Cast;
 pub use deeds::{given, inward};
 pub use lengths::{know_part, know_to};
 pub use stirring::{LINES_A_WORD, STIRRED_WORDS, Stirred};

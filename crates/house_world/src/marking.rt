@@ -1,11 +1,12 @@
-//! What is kept of what a session's client told of itself, and was told of its roster (RFC 6121, 2.1.6, 4.2 and 4.6).
+//! What is kept of what a session's client told of itself, and was told of its roster (RFC 6121, 2.1.6, 4.2 and 4.6), and of users.
 ghost use Rattle.std.specs.Prelude.{◌≡◌, ◌<◌, ◌+◌, ◌^◌, ◌≤◌, ℕ, List, [], ◌∷◌, pos, true, Some, None};
 ghost use Rattle.stanza_model.specs.declared.effect.Effect.{Effect};
 ghost use Rattle.contact_table.specs.Tables.{needed, spare};
 ghost use Rattle.house_world.specs.Keeping.{IsShortChange};
 ghost use Rattle.house_model.specs.Fitting.{IsSmall};
 ghost use Rattle.house_model.specs.Steps.{set};
-ghost use Rattle.house_world.specs.Marks.{named_by, set_by};
+ghost use Rattle.house_world.specs.Hosting.{but_rooms_of};
+ghost use Rattle.house_world.specs.Marks.{is_of_rooms, is_of_users, named_by, set_by};
 ghost use Rattle.house_world.specs.Wholes.{HasSpare, IsTied};
 ghost use Rattle.house_world.specs.Worlds.{Did, Stays};
 
@@ -68,6 +69,26 @@ pub(crate) fn named_by(change: &Change) -> Option<u64>
     }
 }
 
+/// Whether a change is of what is kept of users.
+pub(crate) fn is_of_users(change: &Change) -> bool
+    ensures { result ≡ is_of_users change.now }
+{
+    match change {
+        Change::Contact { .. }
+        | Change::NoContact { .. }
+        | Change::Sees { .. }
+        | Change::Asked { .. } => true,
+        _ => false,
+    }
+}
+
+/// Whether a change is of rooms.
+pub(crate) fn is_of_rooms(change: &Change) -> bool
+    ensures { result ≡ is_of_rooms change.now }
+{
+    !(named_by(change).is_some() || is_of_users(change))
+}
+
 /// A change is made of its session.
 fn mark(session: &mut Session, change: Change)
     ensures { session.new ≡ set_by change session.old }
@@ -122,7 +143,7 @@ impl World {
     /// A change of contacts, or of who sees whom, is noted. There is room for it.
     fn note(&mut self, change: Change)
         requires tied { IsTied self.old.table }
-        requires unnamed { named_by change ≡ None }
+        requires users { is_of_users change ≡ true }
         requires places { (user : List ℕ) → needed user change ≤ spare user self.old.book }
         ensures did { Did (set change ∷ []) 0 self.old self.new }
         ensures stays { Stays self.old self.new }
@@ -133,19 +154,22 @@ impl World {
         self.book.apply(change);
     }
 
-    /// A change is made of a session, or noted.
+    /// A change is made of a session, or noted. One of rooms does nothing here.
     pub(crate) fn set(&mut self, change: Change)
         requires tied { IsTied self.old.table }
         requires short { IsSmall (Effect.Set change) }
         requires places { (user : List ℕ) → needed user change ≤ spare user self.old.book }
-        ensures did { Did (set change ∷ []) 0 self.old self.new }
+        ensures did { Did (but_rooms_of (Effect.Set change)) 0 self.old self.new }
         ensures stays { Stays self.old self.new }
         ensures room { (n s : ℕ) → HasSpare n s self.old.table → HasSpare n s self.new.table }
         ensures places { (user : List ℕ) → spare user self.old.book ≤ spare user self.new.book + needed user change }
     {
-        match named_by(&change) {
-            Some(s) => self.set_session(s, change),
-            None => self.note(change),
+        if is_of_users(&change) {
+            self.note(change);
+            return;
+        }
+        if let Some(s) = named_by(&change) {
+            self.set_session(s, change);
         }
     }
 }

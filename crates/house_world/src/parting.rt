@@ -1,5 +1,5 @@
 //! How sessions begin, go on at another line, are pushed to, end and depart.
-ghost use Rattle.std.specs.Prelude.{◌≡◌, ℕ, ◌+◌, ◌-◌, ◌^◌, ◌<◌, ◌≤◌, ◌==◌, [], ◌∷◌, length, true, Some, slice_index_or, if◌then◌else◌};
+ghost use Rattle.std.specs.Prelude.{◌≡◌, ℕ, ◌+◌, ◌-◌, ◌^◌, ◌<◌, ◌≤◌, ◌==◌, [], ◌∷◌, length, true, Some, slice_index_or, unwrap_or, if◌then◌else◌};
 ghost use Rattle.stanza_tree.specs.Entries.{frame};
 ghost use Rattle.sm_queue.specs.Queues.{acknowledged, has_room, pushed, spare};
 ghost use Rattle.session_table.specs.Sessions.{SessionRecord};
@@ -10,10 +10,12 @@ ghost use Rattle.house_model.specs.Routing.{departure};
 ghost use Rattle.house_model.specs.Sessions.{End, Part, Push, Resume};
 ghost use Rattle.house_model.specs.Steps.{departs};
 ghost use Rattle.house_model.specs.Traffic.{kept_inward};
+ghost use Rattle.house_world.specs.Hosting.{IsCast};
 ghost use Rattle.house_world.specs.Readiness.{AreNotable, AreReady};
 ghost use Rattle.house_world.specs.Wholes.{HasSpare, IsFew, IsTied};
 ghost use Rattle.house_world.specs.Worlds.{Counts, Did, Handles, IsOver, KeepsLogged, Stays, rewound_to, seen};
 
+use crate::casting::Cast;
 use crate::deeds::inward;
 use crate::lengths::know_short;
 use crate::world::World;
@@ -21,7 +23,6 @@ use jid_core::Jid;
 use session_table::{Life, Session};
 use sm_counters::Count;
 use sm_resume::Cause;
-use stanza_model::Effect;
 use stanza_tree::Entry;
 
 // The client handled the first n stanzas that were given; the others are given again.
@@ -58,6 +59,7 @@ impl World {
         ensures did { Did (On s (End cause) ∷ []) 0 self.old self.new }
         ensures stays { Stays self.old self.new }
         ensures book { self.new.book ≡ self.old.book }
+        ensures rooms { self.new.rooms ≡ self.old.rooms }
         ensures queues { (n r : ℕ) → HasSpare n r self.old.table → HasSpare n r self.new.table }
     {
         let Some(session) = self.table.session(s) else {
@@ -75,22 +77,23 @@ impl World {
         }
     }
 
-    /// The session ends, others are told, and it is there no more. Costs what they are told. Takes no memory.
-    pub fn depart(&mut self, s: u64, cause: Cause, told: Vec<Effect>)
+    /// The session ends, others are told, it leaves its rooms, and it is there no more. Costs what is told. Takes no memory.
+    pub fn depart(&mut self, s: u64, cause: Cause, told: Cast)
         requires answered { length self.old.answers.items ≡ length self.old.table.lines }
         requires tied { IsTied self.old.table }
         requires small { IsFew (2 ^ 64 - 5001) self.old.table }
         requires there { is_there s self.old.table ≡ true }
-        requires told { told.items ≡ departure (seen self.old) s }
-        requires ready { AreReady told.items self.old.table }
-        requires short { AreSmall told.items }
-        requires places { AreNotable told.items self.old.book }
+        requires told { IsCast (departure (seen self.old) s) self.old.rooms told }
+        requires ready { AreReady told.effects.items self.old.table }
+        requires short { AreSmall told.effects.items }
+        requires places { AreNotable told.effects.items self.old.book }
         ensures did { Did (departs (seen self.old) s cause) 0 self.old self.new }
+        ensures rooms { self.new.rooms ≡ unwrap_or told.rooms self.old.rooms }
         ensures others { KeepsLogged self.old self.new }
         ensures room { self.old.table.spare ≤ self.new.table.spare }
     {
         self.end(s, cause);
-        self.apply_all(told);
+        self.run(told);
         self.remove(s);
     }
 
@@ -99,6 +102,7 @@ impl World {
         requires tied { IsTied self.old.table }
         requires over { IsOver s self.old.table }
         ensures did { Did (On s Part ∷ []) 0 self.old self.new }
+        ensures rooms { self.new.rooms ≡ self.old.rooms }
         ensures others { KeepsLogged self.old self.new }
         ensures room { self.old.table.spare ≤ self.new.table.spare }
     {
@@ -194,6 +198,7 @@ impl World {
         ensures table { self.new.table ≡ changed s (rewound_to n) self.old.table }
         ensures answers { self.new.answers ≡ self.old.answers }
         ensures book { self.new.book ≡ self.old.book }
+        ensures rooms { self.new.rooms ≡ self.old.rooms }
     {
         if let Some(session) = self.table.session_mut(s) {
             rewind(session, h, n);

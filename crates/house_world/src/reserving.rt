@@ -7,7 +7,7 @@ ghost use Rattle.house_world.specs.Readiness.{AreNotable, AreReady, changes_in, 
 ghost use Rattle.house_world.specs.Wholes.{HasSpare, IsHeldBy, IsTied};
 ghost use Rattle.house_world.specs.Worlds.{Did};
 
-use crate::marking::named_by;
+use crate::marking::is_of_users;
 use crate::world::World;
 use contact_table::user_of;
 use jid_core::Part;
@@ -35,7 +35,7 @@ fn is_for(s: u64, effect: &Effect) -> bool
 {
     match effect {
         Effect::Queue { session, .. } => *session == s,
-        Effect::Set(_) => false,
+        _ => false,
     }
 }
 
@@ -72,7 +72,7 @@ fn changes_in(effects: &[Effect]) -> usize
     let mut count = 0;
     for effect in effects {
         if let Effect::Set(change) = effect {
-            if named_by(change).is_none() {
+            if is_of_users(change) {
                 count += 1;
             }
         }
@@ -106,7 +106,7 @@ impl World {
     {
         match effect {
             Effect::Queue { session, .. } => self.take_room(*session, needed(*session, effects)),
-            Effect::Set(_) => Ok(()),
+            _ => Ok(()),
         }
     }
 

@@ -1,4 +1,4 @@
-//! Lines, sessions and answers, and what an effect on a line does to them.
+//! Lines, sessions, answers, users and rooms, and what an effect on a line does to them.
 ghost use Rattle.std.specs.Prelude.{◌≡◌, ℕ, ◌+◌, ◌<◌, ◌≤◌, [], ◌∷◌, length, true, slice_index_or};
 ghost use Rattle.session_table.specs.Tables.{is_fresh, line_of};
 ghost use Rattle.house_model.specs.Answers.{answer_text};
@@ -11,9 +11,10 @@ use crate::answers::Answers;
 use crate::stirring::Stirred;
 use contact_table::Book;
 use house_model::Answer;
+use muc_service::Rooms;
 use session_table::Table;
 
-/// Lines and sessions, the answers that wait at each line, and what is kept of users.
+/// Lines and sessions, the answers that wait at each line, what is kept of users, and the rooms.
 #[derive(Drop)]
 pub struct World {
     /// Lines and sessions.
@@ -22,6 +23,8 @@ pub struct World {
     pub answers: Vec<Answers>,
     /// What is kept of users.
     pub book: Book,
+    /// The rooms that are there.
+    pub rooms: Rooms,
     /// Lines that may have something to pull.
     pub stirred: Stirred,
 }
@@ -49,6 +52,7 @@ impl World {
         ensures few { (turns : ℕ) → IsFew turns self.old.table → IsFew turns self.new.table }
         ensures answered { self.new.answers.items ≡ self.old.answers.items }
         ensures book { self.new.book ≡ self.old.book }
+        ensures rooms { self.new.rooms ≡ self.old.rooms }
         ensures lines { length self.new.table.lines ≡ length self.old.table.lines }
     {
         self.table.login(w, user);

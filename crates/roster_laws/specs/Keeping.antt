@@ -27,4 +27,4 @@ AreKept domain k = (user : List ℕ) → IsRoster (contacts_of domain k user)
 abbrev pub noted_all : List Effect → Book → Book
 noted_all [] k = k
 noted_all (Set c ∷ more) k = noted_all more (noted c k)
-noted_all (Queue s to rest origin ∷ more) k = noted_all more k
+noted_all (e ∷ more) k = noted_all more k

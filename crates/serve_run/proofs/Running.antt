@@ -291,6 +291,44 @@ printed_nothing K old now (Ok done) others silent = tt
 printed_nothing K old now (Err s) (inl is) silent = λ other. absurd (other is)
 printed_nothing K old now (Err s) (inr is) silent = λ other. silent is
 
+-- statuses that differ
+
+pub write-accounts : (n : ℕ) → status.WriteFault ≡ status.Accounts n → ⊥
+write-accounts n is = absurd (let k : status.WriteFault ≡ status.Accounts n = is in cc)
+
+pub write-read : status.WriteFault ≡ status.ReadFault → ⊥
+write-read is = absurd (let k : status.WriteFault ≡ status.ReadFault = is in cc)
+
+pub write-listen : status.WriteFault ≡ status.ListenFault → ⊥
+write-listen is = absurd (let k : status.WriteFault ≡ status.ListenFault = is in cc)
+
+pub write-usage : status.WriteFault ≡ status.Usage → ⊥
+write-usage is = absurd (let k : status.WriteFault ≡ status.Usage = is in cc)
+
+pub write-done : status.WriteFault ≡ status.Done → ⊥
+write-done is = absurd (let k : status.WriteFault ≡ status.Done = is in cc)
+
+pub write-script : (n : ℕ) → status.WriteFault ≡ status.Script n → ⊥
+write-script n is = absurd (let k : status.WriteFault ≡ status.Script n = is in cc)
+
+pub memory-accounts : (n : ℕ) → status.NoMemory ≡ status.Accounts n → ⊥
+memory-accounts n is = absurd (let k : status.NoMemory ≡ status.Accounts n = is in cc)
+
+pub memory-read : status.NoMemory ≡ status.ReadFault → ⊥
+memory-read is = absurd (let k : status.NoMemory ≡ status.ReadFault = is in cc)
+
+pub memory-listen : status.NoMemory ≡ status.ListenFault → ⊥
+memory-listen is = absurd (let k : status.NoMemory ≡ status.ListenFault = is in cc)
+
+pub memory-usage : status.NoMemory ≡ status.Usage → ⊥
+memory-usage is = absurd (let k : status.NoMemory ≡ status.Usage = is in cc)
+
+pub memory-done : status.NoMemory ≡ status.Done → ⊥
+memory-done is = absurd (let k : status.NoMemory ≡ status.Done = is in cc)
+
+pub memory-script : (n : ℕ) → status.NoMemory ≡ status.Script n → ⊥
+memory-script n is = absurd (let k : status.NoMemory ≡ status.Script n = is in cc)
+
 -- printing fails by the sink or by memory alone
 pub by_printing : (r : Result (Unit {0}) Status) (Y : Status → Type 0) → IfErr r (λ s. (s ≡ status.WriteFault) ⊎ (s ≡ status.NoMemory)) → Y status.WriteFault
     → Y status.NoMemory → IfErr r Y

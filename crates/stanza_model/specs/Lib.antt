@@ -4,6 +4,7 @@ pub mod Forms
 pub mod Kinds
 pub mod Nonzas
 pub mod Replies
+pub mod Rooms
 pub mod RosterLimits
 pub mod Rosters
 pub mod Stanzas

@@ -11,6 +11,7 @@ pub mod limits;
 pub mod make;
 pub mod nonza;
 pub mod reply;
+pub mod room;
 pub mod roster;
 pub mod shared;
 pub mod stanza;
@@ -24,6 +25,9 @@ pub use kinds::{IqForm, Kind, MessageForm, PresenceForm};
 pub use limits::{MOST_CONTACTS, MOST_ROSTER_BYTES, counted};
 pub use nonza::Nonza;
 pub use reply::{error_of, may_be_answered, refuse, result_of, say_to};
+pub use room::{
+    Affiliated, Affiliation, Nicked, Occupant, Role, Room, RoomItem, Seat, Subject, Verdict,
+};
 pub use roster::{item, item_as, push_all, query_of, removed_item, roster_push};
 pub use shared::{Config, Contact, Outcome, Roster, Show, Shown, Side, Subscription};
 pub use stanza::{Stanza, StanzaFault};

@@ -4,12 +4,13 @@ ghost use Rattle.std.specs.Option.{option_copied};
 ghost use Rattle.stanza_tree.specs.Spelling.{text_under};
 ghost use Rattle.stanza_model.specs.Errors.{element_of};
 ghost use Rattle.stanza_model.specs.Replies.{may_be_answered};
-ghost use Rattle.stanza_router.specs.Discovery.{described, discovery, feature, fitting, found, identity, info_of, item, items_of, items_space};
-ghost use Rattle.stanza_router.specs.Discovery.{most_items, node_of, query_in, room_item, server_items, unless_node};
+ghost use Rattle.stanza_router.specs.Discovery.{described, described_as, discovery, feature, fitting, found, identity, info_of, item, items_of, items_space};
+ghost use Rattle.stanza_router.specs.Discovery.{listed_at, listed_under, most_items, no_items_if, node_of, query_in, room_item, server_items, unless_node};
 ghost use Rattle.stanza_router.specs.Places.{service_domain};
 
 use crate::listed::Listed;
 use crate::places::Place;
+use crate::room::info_if;
 use crate::routing::SERVICE_PREFIX;
 use jid_core::{Jid, Part};
 use stanza_model::make::{element_of, one_child, push_attr, text_of, written};
@@ -18,7 +19,7 @@ use stanza_tree::{Element, NoMemory, Node, Text, length};
 use std::alloc::Global;
 
 /// The namespace of who an entity is (XEP-0030, 3.1).
-const INFO_SPACE: &str = "http://jabber.org/protocol/disco#info";
+pub(crate) const INFO_SPACE: &str = "http://jabber.org/protocol/disco#info";
 
 /// The namespace of what items it has (XEP-0030, 4.1).
 const ITEMS_SPACE: &str = "http://jabber.org/protocol/disco#items";
@@ -27,16 +28,16 @@ const ITEMS_SPACE: &str = "http://jabber.org/protocol/disco#items";
 const PING_SPACE: &str = "urn:xmpp:ping";
 
 /// The namespace of rooms (XEP-0045).
-const ROOMS_SPACE: &str = "http://jabber.org/protocol/muc";
+pub(crate) const ROOMS_SPACE: &str = "http://jabber.org/protocol/muc";
 
 /// The most bytes of all items of an answer: so it fits a frame.
 const MOST_ITEMS: u64 = 196_608;
 
 /// What an entity answers, or why not.
-type Found = Result<Element, Condition>;
+pub(crate) type Found = Result<Element, Condition>;
 
 /// The reply to a request for what is known of a place, without its `to`. `rooms` are the rooms that aren't locked, in the order
-/// of making. No room is known as a place.
+/// of making; no other room is known.
 pub fn discover(
     alloc: Global,
     place: &Place,
@@ -75,7 +76,7 @@ fn found(
     ensures { IfOk result (λ answer. answer ≡ found place.now request.now rooms.now) }
 {
     if let Some(query) = query_in(request, INFO_SPACE) {
-        return Ok(unless_node(query, info_of(alloc, place)?));
+        return Ok(unless_node(query, info_of(alloc, place, request.to(), rooms)?));
     }
     match query_in(request, ITEMS_SPACE) {
         Some(query) => Ok(unless_node(query, items_of(alloc, place, request.to(), rooms)?)),
@@ -93,9 +94,30 @@ fn unless_node(query: &Element, found: Found) -> Found
     }
 }
 
-/// The identity and the features of a place.
-fn info_of(alloc: Global, place: &Place) -> Result<Found, NoMemory>
-    ensures { IfOk result (λ answer. answer ≡ info_of place.now) }
+fn listed_under<'a>(to: &Jid, rooms: &'a [Listed]) -> Option<&'a Listed>
+    ensures { option_copied result ≡ listed_under to.now rooms.entry.now }
+{
+    rooms.iter().find(|room| room.address.is_same_bare(to))
+}
+
+/// The room of an address, among those that are listed.
+fn listed_at<'a>(to: Option<&Jid>, rooms: &'a [Listed]) -> Option<&'a Listed>
+    ensures { option_copied result ≡ listed_at (option_copied to.entry) rooms.entry.now }
+{
+    match to {
+        Some(to) => listed_under(to, rooms),
+        None => None,
+    }
+}
+
+/// The identity and the features of a place. `to` is the address of the request.
+fn info_of(
+    alloc: Global,
+    place: &Place,
+    to: Option<&Jid>,
+    rooms: &[Listed],
+) -> Result<Found, NoMemory>
+    ensures { IfOk result (λ answer. answer ≡ info_of place.now (option_copied to.entry) rooms.now) }
 {
     let described = match place {
         Place::Server => described(
@@ -111,6 +133,7 @@ fn info_of(alloc: Global, place: &Place) -> Result<Found, NoMemory>
             "text",
             &[INFO_SPACE, ITEMS_SPACE, ROOMS_SPACE],
         ),
+        Place::Room(_) => return info_if(alloc, listed_at(to, rooms)),
         _ => return Ok(Err(Condition::ItemNotFound)),
     };
     Ok(Ok(described?))
@@ -124,7 +147,18 @@ fn described(
 ) -> Result<Element, NoMemory>
     ensures { IfOk result (λ e. e ≡ described category.now form.now (map (λ f. f.now) features.now)) }
 {
-    let mut nodes = one_child(alloc, identity(alloc, category, form)?)?;
+    described_as(alloc, identity(alloc, category, form)?, features)
+}
+
+/// An identity, and these features.
+pub(crate) fn described_as(
+    alloc: Global,
+    identity: Element,
+    features: &[&str],
+) -> Result<Element, NoMemory>
+    ensures { IfOk result (λ e. e ≡ described_as identity (map (λ f. f.now) features.now)) }
+{
+    let mut nodes = one_child(alloc, identity)?;
     for var in features {
         nodes.push(Node::Child(feature(alloc, var)?))?;
     }
@@ -148,6 +182,22 @@ fn feature(alloc: Global, var: &str) -> Result<Element, NoMemory>
     element_of(alloc, INFO_SPACE, "feature", attrs, Vec::new(alloc))
 }
 
+/// Who is in a room is not told.
+fn no_items_if(alloc: Global, room: Option<&Listed>) -> Result<Found, NoMemory>
+    ensures { IfOk result (λ answer. answer ≡ no_items_if (option_copied room.entry)) }
+{
+    match room {
+        Some(_) => Ok(Ok(element_of(
+            alloc,
+            ITEMS_SPACE,
+            "query",
+            Vec::new(alloc),
+            Vec::new(alloc),
+        )?)),
+        None => Ok(Err(Condition::ItemNotFound)),
+    }
+}
+
 /// The items of a place. `to` is the address of the request.
 fn items_of(
     alloc: Global,
@@ -161,6 +211,7 @@ fn items_of(
         Place::Server => server_items(alloc, to)?,
         Place::Account => Vec::new(alloc),
         Place::Service => room_items(alloc, rooms)?,
+        Place::Room(_) => return no_items_if(alloc, listed_at(to, rooms)),
         _ => return Ok(Err(Condition::ItemNotFound)),
     };
     Ok(Ok(element_of(alloc, ITEMS_SPACE, "query", Vec::new(alloc), nodes)?))

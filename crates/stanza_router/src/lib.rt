@@ -5,6 +5,7 @@ pub mod discovery;
 pub mod listed;
 pub mod message;
 pub mod places;
+pub mod room;
 pub mod routing;
 
 pub use discovery::discover;

@@ -13,7 +13,7 @@ use lib.Utf8.{encode, scalars}
 use Rattle.stanza_tree.specs.declared.node.Attr.{Attr}
 use Rattle.stanza_tree.specs.declared.node.Name.{Name}
 use Rattle.stanza_tree.specs.Attributes.{is_named}
-use Rattle.stanza_tree.specs.Spelling.{escaped_in_words, escaped_in_value, words_text, value_text, assigned, needs_prefix, prefix}
+use Rattle.stanza_tree.specs.Spelling.{escaped_in_words, escaped_in_value, words_text, value_text, assigned, needs_prefix, prefix, text_with}
 use Rattle.stanza_tree.specs.Spelling.{declaration, declarations, prefixed, unprefixed, attributes, default_space, named, opened}
 use Rattle.stanza_tree.specs.Spelling.{closed, client_space, text_under, texts_under, text}
 use Rattle.stanza_tree.specs.Utf8.{NameIsUtf8, AttrsAreUtf8}
@@ -200,6 +200,15 @@ element-utf8 parent e few n a c =
     subst IsUtf8 (sym (text_under-parts parent e))
     (join (opened parent e.name e.attrs) (closed e.name.local (texts_under e.name.space e.children)) tag
     (closed-utf8 e.name.local (texts_under e.name.space e.children) n.1 c))
+
+-- and so is one whose children are spelt already
+pub with-utf8 : (e : Element) (content : List ℕ) → length e.attrs < 2 ^ 64 → NameIsUtf8 e.name → AttrsAreUtf8 e.attrs → IsUtf8 content
+    → IsUtf8 (text_with e content)
+unfolding opened
+with-utf8 e content few n a c =
+    let start = join (named client_space e.name) (declarations 0 e.attrs) (named-utf8 client_space e.name n) (declarations-utf8 0 e.attrs (omega arith) a) in
+    let tag = join (named client_space e.name ++ declarations 0 e.attrs) (attributes 0 e.attrs) start (attributes-utf8 0 e.attrs (omega arith) a) in
+    join (opened client_space e.name e.attrs) (closed e.name.local content) tag (closed-utf8 e.name.local content n.1 c)
 
 -- and so is a stanza that it is sent as
 pub sent-utf8 : (from : List ℕ) (e : Element) → length e.attrs < 2 ^ 64 → IsUtf8 from → NameIsUtf8 e.name → AttrsAreUtf8 e.attrs

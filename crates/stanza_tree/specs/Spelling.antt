@@ -109,3 +109,7 @@ client_space = codes "jabber:client"
 -- the canonical spelling of a top element
 abbrev pub text : Element → List ℕ
 text e = text_under client_space e
+
+-- that of one whose children spell this
+abbrev pub text_with : Element → List ℕ → List ℕ
+text_with e content = opened client_space e.name e.attrs ++ closed e.name.local content

@@ -14,6 +14,6 @@ pub use frame::{Entry, Origin, append, append_value, append_words, frame_length,
 pub use measure::{is_longer, length};
 pub use node::{Attr, Element, Name, Node};
 pub use several::Several;
-pub use spell::write;
+pub use spell::{write, write_nodes, write_with};
 pub use stamp::{sent_length, sent_text, write_sent};
 pub use text::{NoMemory, Text, TextFault};

@@ -5,7 +5,7 @@ ghost use Rattle.std.specs.Fmt.{decimal};
 ghost use Rattle.stanza_tree.specs.Utf8.{NameIsUtf8, AttrsAreUtf8};
 ghost use Rattle.stanza_tree.specs.Spelling.{escaped_in_words, escaped_in_value, words_text, value_text, assigned};
 ghost use Rattle.stanza_tree.specs.Spelling.{needs_prefix, declaration, declarations, prefixed, unprefixed, attributes};
-ghost use Rattle.stanza_tree.specs.Spelling.{named, opened, closed, text_under, texts_under, text};
+ghost use Rattle.stanza_tree.specs.Spelling.{client_space, named, opened, closed, text_under, text_with, texts_under, text};
 
 use crate::node::{Attr, Element, Name, Node};
 use crate::text::NoMemory;
@@ -332,6 +332,54 @@ pub(crate) fn push_content(
     out.extend_from_slice(b">")?;
     push_nodes(children, name.space.bytes(), out)?;
     push_end_tag(name.local.bytes(), out)
+}
+
+/// Appends the canonical spellings of children of a top element, one after another, whole or not at all. Costs their length.
+pub fn write_nodes(nodes: &[Node], out: &mut Vec<u8>) -> Result<(), NoMemory>
+    ensures ok { OnOk result (out.new.items ≡ out.old.items ++ texts_under client_space nodes.now) }
+    ensures utf8 { OnOk result (IsUtf8 (texts_under client_space nodes.now)) }
+    ensures err { OnErr result (out.new.items ≡ out.old.items) }
+{
+    let before = out.len();
+    let done = push_nodes(nodes, CLIENT_SPACE, out);
+    if done.is_err() {
+        out.truncate(before);
+    }
+    done
+}
+
+/// Appends the spelling of a top element whose children are spelt already.
+#[tactic(auto, unfolding(crate::specs::Spelling::closed))]
+fn push_with(element: &Element, content: &[u8], out: &mut Vec<u8>) -> Result<(), NoMemory>
+    requires { IsUtf8 content.now }
+    ensures ok { OnOk result (out.new.items ≡ out.old.items ++ text_with element.now content.now) }
+    ensures utf8 { OnOk result (IsUtf8 (text_with element.now content.now)) }
+    ensures kept { Keeps out.old out.new }
+{
+    know_utf8(&element.name, element.attrs.slice());
+    push_opened(CLIENT_SPACE, &element.name, element.attrs.slice(), out)?;
+    if content.is_empty() {
+        return out.extend_from_slice(b"/>");
+    }
+    out.extend_from_slice(b">")?;
+    out.extend_from_slice(content)?;
+    push_end_tag(element.name.local.bytes(), out)
+}
+
+/// Appends the spelling of a top element whose children are spelt already, whole or not at all. Its own children are left out. Costs
+/// the length.
+pub fn write_with(element: &Element, content: &[u8], out: &mut Vec<u8>) -> Result<(), NoMemory>
+    requires { IsUtf8 content.now }
+    ensures ok { OnOk result (out.new.items ≡ out.old.items ++ text_with element.now content.now) }
+    ensures utf8 { OnOk result (IsUtf8 (text_with element.now content.now)) }
+    ensures err { OnErr result (out.new.items ≡ out.old.items) }
+{
+    let before = out.len();
+    let done = push_with(element, content, out);
+    if done.is_err() {
+        out.truncate(before);
+    }
+    done
 }
 
 /// Appends the canonical spelling of a top element, whole or not at all. Costs its length.

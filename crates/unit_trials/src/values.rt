@@ -148,7 +148,7 @@ fn a_contact_is_pushed(rt: HostRuntime) -> Result<(), Fail> {
         Effect::Queue { session, rest, .. } => {
             assert!(rt; session == 7 && rest.bytes() == want);
         }
-        Effect::Set(_) => assert!(rt; false),
+        _ => assert!(rt; false),
     }
     Ok(())
 }

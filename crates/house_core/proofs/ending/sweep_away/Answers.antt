@@ -1,10 +1,12 @@
-use Rattle.std.proofs.Common.{[], sym, ap, subst, arith, ◌∙◌}
+use Rattle.std.proofs.Common.{[], refl, sym, ap, subst, arith}
 use Rattle.sm_resume.specs.declared.decision.Cause.TheVariants.{Lost}
 use Rattle.house_model.specs.Routing.{departure}
 use Rattle.house_model.specs.States.{World}
 use Rattle.house_model.specs.Steps.{departs}
 use Rattle.house_model.specs.Traffic.{KeptTraffic}
+use Rattle.house_world.specs.Hosting.{IsCast}
 use Rattle.house_world.specs.Worlds.{Did, seen}
+use Rattle.house_world.proofs.CastLemmas.{hosts_by}
 use Rattle.house_world.proofs.DidLemmas.{did_then}
 use Rattle.house_world.proofs.StayLemmas.{there_kept}
 use Rattle.house_world.proofs.WorldLemmas.{few_later}
@@ -20,7 +22,8 @@ depart-requires-clause-there c =
 
 pub depart-requires-clause-told : goal.depart-requires-clause-told
 depart-requires-clause-told c =
-    c.in_ok-told.ensures.effects ∙ ap (λ (x : World KeptTraffic). departure x c.args.s) (sym c.prepare.ensures.same.world)
+    subst (λ (x : World KeptTraffic). IsCast (departure x c.args.s) x.rooms c.in_ok-told.told) (sym c.prepare.ensures.same.world)
+    c.in_ok-told.ensures.effects
 
 pub returns-clause-did : goal.returns-clause-did
 returns-clause-did c =
@@ -28,3 +31,8 @@ returns-clause-did c =
     let b = c.prepare.new.self in
     did_then [] (departs (seen a) c.args.s Lost) 0 0 a b c.depart.new.self c.prepare.ensures.same
     (subst (λ (x : World KeptTraffic). Did (departs x c.args.s Lost) 0 b c.depart.new.self) c.prepare.ensures.same.world c.depart.ensures.did)
+
+pub returns-clause-hosts : goal.returns-clause-hosts
+returns-clause-hosts c =
+    hosts_by c.args.world.now.rooms c.args.world.now.rooms c.prepare.new.self.rooms c.depart.new.self.rooms c.in_ok-told.told.rooms refl
+    (ap (λ (x : World KeptTraffic). x.rooms) c.prepare.ensures.same.world) c.depart.ensures.rooms c.in_ok-told.ensures.hosts

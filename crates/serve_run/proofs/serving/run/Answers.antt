@@ -1,7 +1,8 @@
 use Rattle.std.proofs.Common.{◌≡◌}
-use Rattle.script_play.specs.declared.status.Status.TheVariants as status
 use Rattle.serve_run.specs.Services.{tally}
-use Rattle.serve_run.proofs.Running.{by_printing, given_printed, printed, printed_front, printed_nothing, run_served}
+use Rattle.serve_run.proofs.Running.{by_printing, given_printed, memory-accounts, memory-done, memory-listen, memory-read, memory-script, memory-usage}
+use Rattle.serve_run.proofs.Running.{printed, printed_front, printed_nothing, run_served, write-accounts, write-done, write-listen, write-read, write-script}
+use Rattle.serve_run.proofs.Running.{write-usage}
 use Rattle.serve_run.proofs.serving.run.Goals as goal
 
 pub returns-clause-served : goal.returns-clause-served
@@ -43,27 +44,15 @@ returns-clause-given g c =
 
 pub returns-clause-accounts : goal.returns-clause-accounts
 returns-clause-accounts g c =
-    by_printing c.print_report.result _ c.print_report.ensures.others (λ n e. absurd (let k : status.WriteFault ≡ status.Accounts n = e in cc))
-    (λ n e. absurd (let k : status.NoMemory ≡ status.Accounts n = e in cc))
+    by_printing c.print_report.result _ c.print_report.ensures.others (λ n e. absurd (write-accounts n e)) (λ n e. absurd (memory-accounts n e))
 
 pub returns-clause-read : goal.returns-clause-read
-returns-clause-read g c =
-    by_printing c.print_report.result _ c.print_report.ensures.others (λ e. absurd (let k : status.WriteFault ≡ status.ReadFault = e in cc))
-    (λ e. absurd (let k : status.NoMemory ≡ status.ReadFault = e in cc))
+returns-clause-read g c = by_printing c.print_report.result _ c.print_report.ensures.others (λ e. absurd (write-read e)) (λ e. absurd (memory-read e))
 
 pub returns-clause-listened : goal.returns-clause-listened
 returns-clause-listened g c =
-    by_printing c.print_report.result _ c.print_report.ensures.others (λ e. absurd (let k : status.WriteFault ≡ status.ListenFault = e in cc))
-    (λ e. absurd (let k : status.NoMemory ≡ status.ListenFault = e in cc))
+    by_printing c.print_report.result _ c.print_report.ensures.others (λ e. absurd (write-listen e)) (λ e. absurd (memory-listen e))
 
 pub returns-clause-usage : goal.returns-clause-usage
 returns-clause-usage g c =
-    by_printing c.print_report.result _ c.print_report.ensures.others (
-      λ e. absurd (let k : status.WriteFault ≡ status.Usage = e in cc),
-      λ e. absurd (let k : status.WriteFault ≡ status.Done = e in cc),
-      λ n e. absurd (let k : status.WriteFault ≡ status.Script n = e in cc),
-    ) (
-      λ e. absurd (let k : status.NoMemory ≡ status.Usage = e in cc),
-      λ e. absurd (let k : status.NoMemory ≡ status.Done = e in cc),
-      λ n e. absurd (let k : status.NoMemory ≡ status.Script n = e in cc),
-    )
+    by_printing c.print_report.result _ c.print_report.ensures.others (write-usage, write-done, write-script) (memory-usage, memory-done, memory-script)

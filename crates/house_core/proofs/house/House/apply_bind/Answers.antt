@@ -9,7 +9,10 @@ use Rattle.house_model.specs.Histories.{kept_step, passed}
 use Rattle.house_model.specs.Steps.{resource_or, turn}
 use Rattle.house_world.specs.declared.world.World as code
 use Rattle.house_core.specs.Houses.{HouseRecord, held}
+use Rattle.muc_service.specs.Rooms.{Rooms}
+use Rattle.house_world.specs.Hosting.{AreHosted, Hosts}
 use Rattle.house_world.specs.Worlds.{Did, seen}
+use Rattle.house_world.proofs.CastLemmas.{hosted_later, hosts_same}
 use Rattle.house_core.proofs.BoundLemmas.{all_at, bind_ends, bound_is, on_err, other_ends, passed_is, same_did}
 use Rattle.house_core.proofs.CallLemmas.{house, later_passed, state_ends, whole_ends, whole_is}
 use Rattle.house_core.proofs.EndsLemmas.{stop_ends}
@@ -42,7 +45,8 @@ invariant_of-self-in_err-address-in-Knows c =
     let k = turn (Bind c.args.w c.args.id.now (option_copied c.args.resource) c.args.t c.args.dice)
     (held (house h.domain h.users.items h.turns h.moment h.world)) in
     let same = (c.in-Knows.ensures.passes k refl (sym c.later-moment.ensures)).1 in
-    whole_is h.users.items h.turns h.moment h.moment h.world c.check.new.world [] 0 c.self.invariant c.self.invariant.passed (omega arith) (λ world. refl)
+    whole_is h.users.items h.turns h.moment h.moment h.world c.check.new.world [] 0 c.self.invariant c.self.invariant.passed (omega arith)
+    (λ world. (refl, refl))
     (same_did h.world c.check.new.world c.check.ensures.tied same)
 
 pub returns-in_err-address-in-Knows-clause-refused : goal.returns-in_err-address-in-Knows-clause-refused
@@ -62,6 +66,13 @@ bind-requires-clause-small c =
     few_later h.turns 18446744073709546615 c.check.new.world.table (c.check.ensures.few h.turns c.self.invariant.counted)
     (omega (arith, turns, c.requires.turns))
 
+pub bind-requires-clause-hosted : goal.bind-requires-clause-hosted
+bind-requires-clause-hosted c =
+    let h = c.self.inside in
+    let turns : h.turns ≡ c.args.self.now.turns = ap (λ (x : HouseRecord). x.turns) c.self.view_is in
+    hosted_later h.turns 13835058055282163712 c.check.new.world.rooms (omega (arith, turns, c.requires.turns))
+    (subst (λ (r : Rooms). AreHosted h.turns r) (sym c.check.ensures.rooms) c.self.invariant.hosted)
+
 pub invariant_of-self-in_default : goal.invariant_of-self-in_default
 invariant_of-self-in_default c =
     let h = c.self.inside in
@@ -72,6 +83,7 @@ invariant_of-self-in_default c =
     c.check.ensures.tied c.in_default.not-Stop c.in_default.not-Knows (c.check.ensures.passes k refl (sym c.later-moment.ensures)) in
     whole_ends h.domain h.users.items h.turns h.moment now 0 h.world c.check.new.world e Unready c.self.invariant
     (later_passed h.moment c.args.t now c.self.invariant.passed c.later-moment.ensures) (omega arith) ends
+    (hosts_same h.world.rooms c.check.new.world.rooms c.check.ensures.rooms)
 
 pub returns-in_default-clause-state : goal.returns-in_default-clause-state
 returns-in_default-clause-state c =
@@ -102,6 +114,7 @@ invariant_of-self-in-Stop c =
     let ends = stop_ends k e (gate k e) c.in-Stop.reply h.world c.check.new.world (c.in-Stop.ensures.passes k refl (sym c.later-moment.ensures)) in
     whole_ends h.domain h.users.items h.turns h.moment now 0 h.world c.check.new.world e c.in-Stop.reply c.self.invariant
     (later_passed h.moment c.args.t now c.self.invariant.passed c.later-moment.ensures) (omega arith) ends
+    (hosts_same h.world.rooms c.check.new.world.rooms c.check.ensures.rooms)
 
 pub returns-in-Stop-clause-state : goal.returns-in-Stop-clause-state
 returns-in-Stop-clause-state c =
@@ -127,7 +140,8 @@ invariant_of-self-in_err-reply-in-Knows c =
     let e = Bind c.args.w c.args.id.now (option_copied c.args.resource) c.args.t c.args.dice in
     let k = turn e (held (house h.domain h.users.items h.turns h.moment h.world)) in
     let same = (c.in-Knows.ensures.passes k refl (sym c.later-moment.ensures)).1 in
-    whole_is h.users.items h.turns h.moment h.moment h.world c.bind.new.world [] 0 c.self.invariant c.self.invariant.passed (omega arith) (λ world. refl)
+    whole_is h.users.items h.turns h.moment h.moment h.world c.bind.new.world [] 0 c.self.invariant c.self.invariant.passed (omega arith)
+    (λ world. (refl, refl))
     (subst (λ (x : code.World). Did [] 0 x c.bind.new.world) same c.in_err-reply-in-Knows.ensures.refused)
 
 pub returns-in_err-reply-in-Knows-clause-refused : goal.returns-in_err-reply-in-Knows-clause-refused
@@ -160,6 +174,7 @@ invariant_of-self-in-Knows c =
     (c.in_ok-reply-in-Knows.ensures.done k (ap seen (sym passes.1))) in
     whole_ends h.domain h.users.items h.turns h.moment now 1 h.world d e reply c.self.invariant
     (later_passed h.moment c.args.t now c.self.invariant.passed c.later-moment.ensures) (omega arith) ends
+    (subst (λ (r : Rooms). Hosts r d.rooms) c.check.ensures.rooms c.in_ok-reply-in-Knows.ensures.hosts)
 
 pub returns-in_ok-reply-in-Knows-clause-state : goal.returns-in_ok-reply-in-Knows-clause-state
 returns-in_ok-reply-in-Knows-clause-state c =

@@ -3,15 +3,15 @@ use Rattle.house_model.specs.declared.event.Event.TheVariants.{Enable}
 use Rattle.house_model.specs.Histories.{kept_step}
 use Rattle.house_model.specs.Steps.{turn}
 use Rattle.house_core.specs.Houses.{HouseRecord, held}
-use Rattle.house_core.proofs.CallLemmas.{house, state_ends, whole_ends}
+use Rattle.house_core.proofs.CallLemmas.{house, state_ends, whole_calm}
 use Rattle.house_core.proofs.house.House.apply_enable.Goals as goal
 
 pub invariant_of-self : goal.invariant_of-self
 invariant_of-self c =
     let h = c.self.inside in
     let k = turn (Enable c.args.w c.args.resume c.args.dice) (held (house h.domain h.users.items h.turns h.moment h.world)) in
-    whole_ends h.domain h.users.items h.turns h.moment h.moment 0 h.world c.manage.new.world (Enable c.args.w c.args.resume c.args.dice) c.manage.result
-    c.self.invariant (c.self.invariant.passed) (omega arith) (c.manage.ensures k refl refl)
+    whole_calm h.domain h.users.items h.turns h.moment h.moment 0 h.world c.manage.new.world (Enable c.args.w c.args.resume c.args.dice) c.manage.result
+    c.self.invariant (c.self.invariant.passed) (omega arith) (c.manage.ensures k refl refl) tt
 
 pub returns-clause-state : goal.returns-clause-state
 returns-clause-state c =

@@ -15,7 +15,7 @@ invariant_of-self c =
     let k = turn e (held (house h.domain h.users.items h.turns h.moment h.world)) in
     let enters = subst (λ (us : List (List ℕ)). Enters (verdict k e) (length us) c.login.result h.world c.login.new.world) c.as_slice.ensures.value
     (c.login.ensures k refl refl (sym c.as_slice.ensures.value)) in
-    whole_enters h.domain h.users.items h.turns h.moment h.world c.login.new.world e c.login.result c.self.invariant enters
+    whole_enters h.domain h.users.items h.turns h.moment h.world c.login.new.world e c.login.result c.self.invariant enters tt
 
 pub returns-clause-state : goal.returns-clause-state
 returns-clause-state c =

@@ -4,7 +4,7 @@ use Rattle.house_model.specs.declared.event.Event.TheVariants.{Resume}
 use Rattle.house_model.specs.Histories.{kept_step}
 use Rattle.house_model.specs.Steps.{turn}
 use Rattle.house_core.specs.Houses.{HouseRecord, held}
-use Rattle.house_core.proofs.CallLemmas.{house, later_passed, state_ends, whole_ends}
+use Rattle.house_core.proofs.CallLemmas.{house, later_passed, state_ends, whole_calm}
 use Rattle.house_core.proofs.house.House.apply_resume.Goals as goal
 
 pub invariant_of-self-2 : goal.invariant_of-self-2
@@ -13,9 +13,9 @@ invariant_of-self-2 c =
     let now = c.later-self-inside.result in
     let e = Resume c.args.w (option_copied c.args.id) c.args.h c.args.t in
     let k = turn e (held (house h.domain h.users.items h.turns h.moment h.world)) in
-    whole_ends h.domain h.users.items h.turns h.moment now 0 h.world c.go_on.new.world e c.go_on.result
+    whole_calm h.domain h.users.items h.turns h.moment now 0 h.world c.go_on.new.world e c.go_on.result
     c.self.invariant (later_passed h.moment c.args.t now c.self.invariant.passed c.later-self-inside.ensures) (omega arith)
-    (c.go_on.ensures k refl (sym c.later-self-inside.ensures) (sym c.as_slice.ensures.value) refl c.args.t)
+    (c.go_on.ensures k refl (sym c.later-self-inside.ensures) (sym c.as_slice.ensures.value) refl c.args.t) tt
 
 pub returns-clause-state : goal.returns-clause-state
 returns-clause-state c =

@@ -1,8 +1,8 @@
-use Rattle.std.proofs.Common.{◌≡◌, List, [], map, sym, subst, ◌∙◌, arith}
+use Rattle.std.proofs.Common.{◌≡◌, List, [], sym, subst, ◌∙◌, arith}
 use Rattle.std.proofs.lemmas.List.{nil_from_length}
 use Rattle.stanza_model.specs.declared.effect.Effect.{Effect}
 use Rattle.house_model.specs.Fitting.{AreSmall}
-use Rattle.house_model.specs.Steps.{effect_of}
+use Rattle.house_world.specs.Hosting.{but_rooms}
 use Rattle.house_world.specs.Readiness.{AreNotable, AreReady}
 use Rattle.house_world.specs.Worlds.{Did}
 use Rattle.house_world.proofs.DidLemmas.{did_none}
@@ -56,4 +56,4 @@ returns-clause-did c =
     let rest = c.loop-effect.effect-iterator.rest in
     let done : rest.items ≡ [] = nil_from_length rest.items (sym rest.ok.0 ∙ c.in-None.ensures.steps.0) in
     c.loop-effect.invariant.all b
-    (subst (λ (es : List Effect). Did (map effect_of es) 0 b b) (sym done) (did_none b c.loop-effect.invariant.tied))
+    (subst (λ (es : List Effect). Did (but_rooms es) 0 b b) (sym done) (did_none b c.loop-effect.invariant.tied))

@@ -1,6 +1,6 @@
-use Rattle.std.proofs.Common.{◌≡◌, ◌-◌, ◌^◌, length, map}
+use Rattle.std.proofs.Common.{◌≡◌, ◌-◌, ◌^◌, length}
 use Rattle.house_model.specs.Fitting.{AreSmall}
-use Rattle.house_model.specs.Steps.{effect_of}
+use Rattle.house_world.specs.Hosting.{but_rooms}
 use Rattle.house_world.specs.declared.world.World as code
 use Rattle.house_world.specs.Readiness.{AreNotable, AreReady}
 use Rattle.house_world.specs.Wholes.{IsFew, IsTied}
@@ -18,6 +18,6 @@ invariant-loop-effect l = record {
   short : AreSmall l.effect-iterator.rest.items;
   places : AreNotable l.effect-iterator.rest.items l.self.book;
   stays : Stays l.fn.self l.self;
-  all : (b : code.World) → Did (map effect_of l.effect-iterator.rest.items) 0 l.self b
-      → Did (map effect_of l.fn.effects.items) 0 l.fn.self b;
+  all : (b : code.World) → Did (but_rooms l.effect-iterator.rest.items) 0 l.self b
+      → Did (but_rooms l.fn.effects.items) 0 l.fn.self b;
 }

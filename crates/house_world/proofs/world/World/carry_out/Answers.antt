@@ -1,4 +1,7 @@
-use Rattle.std.proofs.Common.{[], ◌∷◌, map, sym, ◌∙◌}
+use Rattle.std.proofs.Common.{◌≡◌, [], ◌∷◌, map, sym, ap, subst, ◌∙◌}
+use Rattle.std.specs.Prelude.{unwrap_or}
+use Rattle.muc_service.specs.Casting.{after}
+use Rattle.muc_service.specs.Rooms.{Rooms}
 use Rattle.house_model.specs.Effects.{On}
 use Rattle.house_model.specs.Sessions.{Act}
 use Rattle.house_model.specs.Steps.{effect_of}
@@ -7,21 +10,28 @@ use Rattle.house_world.proofs.DidLemmas.{did_then}
 use Rattle.house_world.proofs.ReadyLemmas.{some_stanza}
 use Rattle.house_world.proofs.world.World.carry_out.Goals as goal
 
-pub apply_all-requires-clause-answered : goal.apply_all-requires-clause-answered
-apply_all-requires-clause-answered c =
+pub run-requires-clause-answered : goal.run-requires-clause-answered
+run-requires-clause-answered c =
     let did = c.act.ensures.did some_stanza in
     did.answered ∙ (c.requires.answered ∙ sym did.lines)
 
-pub apply_all-requires-clause-tied : goal.apply_all-requires-clause-tied
-apply_all-requires-clause-tied c = (c.act.ensures.did some_stanza).tied
+pub run-requires-clause-tied : goal.run-requires-clause-tied
+run-requires-clause-tied c = (c.act.ensures.did some_stanza).tied
 
-pub apply_all-requires-clause-small : goal.apply_all-requires-clause-small
-apply_all-requires-clause-small c = (c.act.ensures.did some_stanza).few 18446744073709546614 c.requires.small
+pub run-requires-clause-small : goal.run-requires-clause-small
+run-requires-clause-small c = (c.act.ensures.did some_stanza).few 18446744073709546614 c.requires.small
 
-pub apply_all-requires-clause-ready : goal.apply_all-requires-clause-ready
-apply_all-requires-clause-ready c = λ s. c.act.ensures.room (needed s c.args.effects.items) s (c.requires.ready s)
+pub run-requires-clause-ready : goal.run-requires-clause-ready
+run-requires-clause-ready c = λ s. c.act.ensures.room (needed s c.args.cast.effects.items) s (c.requires.ready s)
 
-pub returns : goal.returns
-returns c = λ stanza.
-    did_then (On c.args.s (Act stanza) ∷ []) (map effect_of c.args.effects.items) 1 0
-    c.args.self.now c.act.new.self c.apply_all.new.self (c.act.ensures.did stanza) c.apply_all.ensures.did
+pub run-requires-clause-rooms : goal.run-requires-clause-rooms
+run-requires-clause-rooms c =
+    subst (λ (r : Rooms). unwrap_or c.args.cast.rooms r ≡ after r c.args.cast.effects.items) (sym c.act.ensures.rooms) c.requires.rooms
+
+pub returns-clause-did : goal.returns-clause-did
+returns-clause-did c = λ stanza.
+    did_then (On c.args.s (Act stanza) ∷ []) (map effect_of c.args.cast.effects.items) 1 0
+    c.args.self.now c.act.new.self c.run.new.self (c.act.ensures.did stanza) c.run.ensures.did
+
+pub returns-clause-rooms : goal.returns-clause-rooms
+returns-clause-rooms c = c.run.ensures.rooms ∙ ap (λ (r : Rooms). unwrap_or c.args.cast.rooms r) c.act.ensures.rooms

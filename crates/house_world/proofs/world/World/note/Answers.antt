@@ -3,7 +3,7 @@ use Rattle.house_world.proofs.world.World.note.Goals as goal
 
 pub returns-clause-did : goal.returns-clause-did
 returns-clause-did c =
-    note_did c.args.self.now c.args.change c.apply.new.self c.requires.tied c.requires.unnamed c.know_change.ensures c.apply.ensures.book
+    note_did c.args.self.now c.args.change c.apply.new.self c.requires.tied c.requires.users c.know_change.ensures c.apply.ensures.book
     c.apply.ensures.domain
 
 pub returns-clause-stays : goal.returns-clause-stays

@@ -1,0 +1,3 @@
+mod CastLemmas
+mod PlaceLemmas
+pub mod RoomLemmas

@@ -1,0 +1,4 @@
+pub mod Casting
+pub mod Changing
+pub mod Numbering
+pub mod Rooms
