@@ -81,7 +81,7 @@ def many_rooms():
     script.enter(6, "room255", "m")
     script.pull(6, 4)
     own = "<item affiliation='none' jid='u6@example.org/r6' role='participant'/><status code='110'/><status code='170'/>"
-    expect("the 256th room can be entered", script.play()[-2],
+    expect("the 256th room can be entered", script.play()[-3],
            "frame <presence to='u6@example.org/r6' from='room255@rooms.example.org/m'><x xmlns='http://jabber.org/protocol/muc#user'>" + own + "</x></presence>")
 
 
