@@ -31,9 +31,9 @@ use Rattle.muc_room.specs.Renaming.{rename, renames_by}
 use Rattle.muc_room.specs.Seats.{has_nick, holder_of, occupant_of}
 use Rattle.muc_room.specs.Views.{shown_children}
 use Rattle.muc_room.specs.declared.entering.Numbers.{Numbers}
-use Rattle.muc_admin.specs.Inviting.{invite}
+use Rattle.muc_owner.specs.Inviting.{invite}
 use Rattle.muc_admin.specs.Items.{admin_space}
-use Rattle.muc_admin.specs.Owning.{owner_space}
+use Rattle.muc_owner.specs.Owning.{owner_space}
 use Rattle.muc_service.specs.Changing.{begins, begun_by, made_by, makes}
 use Rattle.muc_service.specs.Rooms.{Hosted, Rooms, is_in}
 use Rattle.house_model.specs.Lookups.{here, sessions_of}

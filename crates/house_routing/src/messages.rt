@@ -2,7 +2,7 @@
 ghost use Rattle.std.specs.Prelude.{◌≡◌, ℕ, List, Some, IfOk};
 ghost use Rattle.std.specs.List.{filter};
 ghost use Rattle.std.specs.Option.{option_copied};
-ghost use Rattle.muc_admin.specs.Inviting.{invite};
+ghost use Rattle.muc_owner.specs.Inviting.{invite};
 ghost use Rattle.house_model.specs.RoomLookups.{called};
 ghost use Rattle.house_model.specs.Routing.{choosable, chosen, delivered, has_account, is_invitation, message, receivers, to_all_in, to_no_room};
 ghost use Rattle.house_model.specs.Routing.{to_one_in, to_users, user_in};
@@ -17,7 +17,7 @@ use crate::users::place_among;
 use house_model::{MessageForm, Stanza};
 use house_world::World;
 use jid_core::Part;
-use muc_admin::invite;
+use muc_owner::invite;
 use muc_room::{direct, say};
 use muc_service::Hosted;
 use stanza_model::{Condition, Effect, Here, refuse};

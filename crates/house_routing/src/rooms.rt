@@ -2,7 +2,7 @@
 ghost use Rattle.std.specs.Prelude.{◌≡◌, ◌^◌, ◌+◌, IfOk, OnOk};
 ghost use Rattle.std.specs.Option.{option_and_then, option_copied};
 ghost use Rattle.contact_table.specs.Books.{local_user};
-ghost use Rattle.muc_admin.specs.Invitations.{invitation_of};
+ghost use Rattle.muc_owner.specs.Invitations.{invitation_of};
 ghost use Rattle.muc_room.specs.Seats as muc;
 ghost use Rattle.muc_service.specs.Rooms.{is_in};
 ghost use Rattle.house_model.specs.Presences.{available_of};
@@ -16,7 +16,7 @@ use crate::listing::sessions_of;
 use contact_table::local_user;
 use house_world::World;
 use jid_core::{Jid, Part};
-use muc_admin::{invitation_of, x_in};
+use muc_owner::{invitation_of, x_in};
 use muc_room::{Numbers, copy_config, occupant_of};
 use muc_service::Hosted;
 use stanza_model::{Here, Seat};

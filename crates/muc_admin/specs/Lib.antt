@@ -1,12 +1,7 @@
 pub mod Administration
 pub mod Afterwards
-pub mod Drafts
-pub mod Invitations
-pub mod Inviting
 pub mod Items
 pub mod Listings
-pub mod Owning
 pub mod Refusals
 pub mod Sets
-pub mod Settings
 pub mod Telling

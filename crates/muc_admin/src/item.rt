@@ -63,7 +63,7 @@ pub(crate) fn only_item(query: &Element) -> Option<&Element>
 }
 
 /// The address in an attribute, where that can be read.
-pub(crate) fn address_at(alloc: Global, e: &Element, local: &[u8]) -> Result<Option<Jid>, NoMemory>
+pub fn address_at(alloc: Global, e: &Element, local: &[u8]) -> Result<Option<Jid>, NoMemory>
     ensures { IfOk result (λ a. a ≡ address_at local.now e.now) }
 {
     let Some(value) = e.attr(local) else {

@@ -100,7 +100,7 @@ fn verdict_on(room: &Room, who: &Here, address: &Jid, affiliation: Affiliation) 
 }
 
 /// Whether there is no room for the affiliation of one more.
-pub(crate) fn too_large(
+pub fn too_large(
     alloc: Global,
     address: &Jid,
     affiliation: Affiliation,

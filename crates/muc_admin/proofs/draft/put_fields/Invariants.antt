@@ -1,6 +1,0 @@
-use Rattle.std.proofs.Common.{◌≡◌, drop}
-use Rattle.muc_admin.specs.Drafts.{put_all}
-use Rattle.muc_admin.proofs.draft.put_fields.Given as goal
-
-abbrev pub invariant-loop-field : goal.invariant-loop-field
-invariant-loop-field l = put_all (drop l.field-index l.fields) l.draft ≡ put_all l.fn.fields l.fn.draft

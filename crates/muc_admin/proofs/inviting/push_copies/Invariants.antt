@@ -1,7 +1,0 @@
-use Rattle.std.proofs.Common.{◌≡◌, ◌++◌, drop}
-use Rattle.muc_admin.specs.Inviting.{copies}
-use Rattle.muc_admin.proofs.inviting.push_copies.Given as goal
-
-abbrev pub invariant-loop-receiver : goal.invariant-loop-receiver
-invariant-loop-receiver l =
-    l.effects.items ++ copies l.fn.rest (drop l.receiver-index l.receivers) ≡ l.fn.effects.items ++ copies l.fn.rest l.fn.receivers

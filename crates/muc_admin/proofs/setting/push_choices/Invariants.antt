@@ -1,8 +1,0 @@
-use Rattle.std.proofs.Common.{◌≡◌, ◌++◌, drop, map}
-use Rattle.muc_admin.specs.Settings.{choice_node}
-use Rattle.muc_admin.proofs.setting.push_choices.Given as goal
-
-abbrev pub invariant-loop-value : goal.invariant-loop-value
-invariant-loop-value l =
-    l.nodes.items ++ map choice_node (map (λ v. v.now) (drop l.value-index l.values))
-    ≡ l.fn.nodes.items ++ map choice_node (map (λ v. v.now) l.fn.values)

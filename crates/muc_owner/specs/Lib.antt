@@ -1,0 +1,3 @@
+pub mod Invitations
+pub mod Inviting
+pub mod Owning
