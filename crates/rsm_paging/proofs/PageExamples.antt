@@ -1,6 +1,6 @@
 -- Pages of five rows, and of six (XEP-0059, 2.1 to 2.5).
 use Rattle.std.proofs.Common.{◌≡◌, ℕ, List, [], ◌∷◌, map, codes, refl}
-use Rattle.std.specs.Prelude.{Option, Some, None}
+use Rattle.std.specs.Prelude.{Some, None}
 use Rattle.jid_core.specs.Addresses.{Address}
 use Rattle.rsm_paging.specs.Pages.{first_page, id_of, index_of, last_page, row_numbered, those_after, those_before}
 use Rattle.rsm_paging.specs.declared.ask.Row.{Row}

@@ -1,15 +1,15 @@
 -- The page of what a page needs of the rows is the page of the rows.
-use Rattle.std.proofs.Common.{◌≡◌, ℕ, zero, suc, ◌+◌, ◌-◌, ◌≤◌, ◌==◌, min, nat_le, nat_lt, List, [], ◌∷◌, ◌++◌, take, drop, reverse, map, length, Bool, true, false, refl}
+use Rattle.std.proofs.Common.{◌≡◌, ℕ, zero, suc, ◌+◌, ◌-◌, ◌≤◌, ◌==◌, nat_le, List, [], ◌∷◌, ◌++◌, take, drop, reverse, map, length, Bool, true, false, refl}
 use Rattle.std.proofs.Common.{ap, sym, ◌∙◌, subst, arith, if◌then◌else◌, length-append}
 use Rattle.std.specs.Prelude.{◌||◌, Option, Some, None, is_some, Result, Ok, Err, IfOk, OnOk}
-use Rattle.std.specs.List.{filter, find, list_any}
+use Rattle.std.specs.List.{find, list_any}
 use Rattle.std.specs.Option.{option_map}
 use Rattle.std.proofs.lemmas.Bool.{eqb-true}
 use Rattle.std.proofs.lemmas.Grind.{common_steps}
-use Rattle.std.proofs.lemmas.List.{take-map, drop-map, length-map, length-reverse, length-take, length-take-le, reverse-append, reverse-reverse, take-append-drop}
+use Rattle.std.proofs.lemmas.List.{take-map, drop-map, length-map, length-reverse, length-take-le, reverse-append, reverse-reverse, take-append-drop}
 use Rattle.std.proofs.lemmas.List.{take-append-le, drop-append-le}
 use Rattle.rsm_paging.specs.Matches.{IsFirst, IsFirstAfter, IsLast, IsLastBefore, IsMatched, below, fit_beside, how_many, ids, index_if, match_of, shown_of, up_to}
-use Rattle.rsm_paging.specs.Pages.{IsPageBy, IsPageOf, Rises, as_fit, asked_id, first_fit, id_of, index_of, is_known, is_past, most_rows, row_named, those_after, those_before}
+use Rattle.rsm_paging.specs.Pages.{IsPageBy, IsPageOf, Rises, as_fit, asked_id, first_fit, id_of, index_of, is_known, most_rows, row_named, those_after, those_before}
 use Rattle.rsm_paging.specs.declared.ask.Page.{Page}
 use Rattle.rsm_paging.specs.declared.ask.Row.{Row}
 use Rattle.rsm_paging.specs.declared.matching.Match.{Match}
@@ -21,17 +21,17 @@ both : {A B C : Type 0} (f : A → B) (g : B → C) (xs : List A) → map g (map
 both f g [] = refl
 both f g (x ∷ xs) = ap (λ l. g (f x) ∷ l) (both f g xs)
 
-map-append : {A B : Type 0} (f : A → B) (xs ys : List A) → map f (xs ++ ys) ≡ map f xs ++ map f ys
+pub map-append : {A B : Type 0} (f : A → B) (xs ys : List A) → map f (xs ++ ys) ≡ map f xs ++ map f ys
 map-append f [] ys = refl
 map-append f (x ∷ xs) ys = ap (λ l. f x ∷ l) (map-append f xs ys)
 
-reverse-map : {A B : Type 0} (f : A → B) (xs : List A) → map f (reverse xs) ≡ reverse (map f xs)
+pub reverse-map : {A B : Type 0} (f : A → B) (xs : List A) → map f (reverse xs) ≡ reverse (map f xs)
 reverse-map f [] = refl
 reverse-map f (x ∷ xs) =
     ap (map f) (reverse-append (x ∷ []) xs) ∙ map-append f (reverse xs) (x ∷ [])
     ∙ ap (λ l. l ++ f x ∷ []) (reverse-map f xs) ∙ sym (reverse-append (f x ∷ []) (map f xs))
 
-drop-whole : {A : Type 0} (xs : List A) → drop (length xs) xs ≡ []
+pub drop-whole : {A : Type 0} (xs : List A) → drop (length xs) xs ≡ []
 drop-whole [] = refl
 drop-whole (x ∷ xs) = drop-whole xs
 
@@ -40,7 +40,7 @@ drop-past n xs ys is =
     drop-append-le n xs ys (omega (arith, is)) ∙ ap (λ l. l ++ ys) (ap (λ k. drop k xs) is ∙ drop-whole xs)
 
 -- the last k of a list are the first k of it reversed
-last-of : {A : Type 0} (k : ℕ) (xs : List A) → k ≤ length xs → reverse (take k (reverse xs)) ≡ drop (length xs - k) xs
+pub last-of : {A : Type 0} (k : ℕ) (xs : List A) → k ≤ length xs → reverse (take k (reverse xs)) ≡ drop (length xs - k) xs
 last-of k xs few =
     let front = reverse (drop k (reverse xs)) in
     let back = reverse (take k (reverse xs)) in
@@ -59,7 +59,7 @@ last-of k xs few =
     ) in
     sym (ap (drop (length xs - k)) whole ∙ drop-past (length xs - k) front back wide)
 
-take-twice : {A : Type 0} (k n : ℕ) (xs : List A) → k ≤ length (take n xs) → take k xs ≡ take k (take n xs)
+pub take-twice : {A : Type 0} (k n : ℕ) (xs : List A) → k ≤ length (take n xs) → take k xs ≡ take k (take n xs)
 take-twice k n xs few = ap (take k) (sym (take-append-drop n xs)) ∙ take-append-le k (take n xs) (drop n xs) few
 
 one-more : (n : ℕ) → 1 + n ≡ suc n
@@ -77,14 +77,14 @@ beside b (r ∷ rows) = by (nat_le (b + length r.text) 262144) (beside (b + leng
       ap (λ (l : List Row). r ∷ l) rest ∙ sym (ap (λ (k : ℕ). take k (r ∷ rows)) (one-more (fit_beside (b + length r.text) (map match_of rows))))
   by false rest = refl
 
-beside-le : (b : ℕ) (ms : List Match) → fit_beside b ms ≤ length ms
+pub beside-le : (b : ℕ) (ms : List Match) → fit_beside b ms ≤ length ms
 beside-le b [] = omega arith
 beside-le b (m ∷ ms) = by (nat_le (b + m.bytes) 262144) (beside-le (b + m.bytes) ms) where
   by : (c : Bool) → fit_beside (b + m.bytes) ms ≤ length ms → (if c then 1 + fit_beside (b + m.bytes) ms else 0) ≤ suc (length ms)
   by true rest = omega (arith, rest)
   by false rest = omega arith
 
-many-le : (ms : List Match) → how_many ms ≤ length ms
+pub many-le : (ms : List Match) → how_many ms ≤ length ms
 many-le [] = omega arith
 many-le (m ∷ ms) = omega (arith, beside-le m.bytes ms)
 
@@ -234,3 +234,7 @@ page-is rows asked rises max None None page known is = first-page-is asked rises
 pub both-ok : {A E : Type 0} {P Q : A → Type 0} {K : Type 0} (r : Result A E) → IfOk r P → OnOk r K → ((a : A) → K → P a → Q a) → IfOk r Q
 both-ok (Ok a) p k f = f a k p
 both-ok (Err e) p k f = tt
+
+pub ok-then : {A E : Type 0} {P Q : A → Type 0} (r : Result A E) → IfOk r P → ((a : A) → P a → Q a) → IfOk r Q
+ok-then (Ok a) p f = f a p
+ok-then (Err e) p f = tt

@@ -1,33 +1,31 @@
 -- Rows whose ids rise: those before one, those after an id, and those below one.
-use Rattle.std.proofs.Common.{◌≡◌, ℕ, zero, suc, ◌+◌, ◌<◌, ◌≤◌, nat_lt, nat_le, List, [], ◌∷◌, take, drop, map, length, Bool, true, false, refl, ap, sym, ◌∙◌, subst}
+use Rattle.std.proofs.Common.{◌≡◌, ℕ, zero, suc, ◌<◌, ◌≤◌, nat_lt, nat_le, List, [], ◌∷◌, take, drop, map, length, Bool, true, false, refl, ap, sym, subst}
 use Rattle.std.proofs.Common.{arith, if◌then◌else◌}
-use Rattle.std.specs.Prelude.{⊤}
 use Rattle.std.proofs.lemmas.Grind.{common_steps}
 use Rattle.std.specs.List.{AllByRecursion, filter}
 use Rattle.rsm_paging.specs.Matches.{below, match_of, up_to}
 use Rattle.rsm_paging.specs.Pages.{Rises, is_past}
 use Rattle.rsm_paging.specs.declared.ask.Row.{Row}
-use Rattle.rsm_paging.specs.declared.matching.Match.{Match}
 
-lt-true : (a b : ℕ) → a < b → nat_lt a b ≡ true
+pub lt-true : (a b : ℕ) → a < b → nat_lt a b ≡ true
 lt-true a b is = grind (arith, common_steps)
 
-lt-false : (a b : ℕ) → b ≤ a → nat_lt a b ≡ false
+pub lt-false : (a b : ℕ) → b ≤ a → nat_lt a b ≡ false
 lt-false a b is = grind (arith, common_steps)
 
-le-false : (a b : ℕ) → b < a → nat_le a b ≡ false
+pub le-false : (a b : ℕ) → b < a → nat_le a b ≡ false
 le-false a b is = grind (arith, common_steps)
 
-le-true : (a b : ℕ) → a ≤ b → nat_le a b ≡ true
+pub le-true : (a b : ℕ) → a ≤ b → nat_le a b ≡ true
 le-true a b is = grind (arith, common_steps)
 
-le-of : (a b : ℕ) → nat_le a b ≡ true → a ≤ b
+pub le-of : (a b : ℕ) → nat_le a b ≡ true → a ≤ b
 le-of a b is = grind (arith, common_steps)
 
-lt-of : (a b : ℕ) → nat_le a b ≡ false → b < a
+pub lt-of : (a b : ℕ) → nat_le a b ≡ false → b < a
 lt-of a b is = grind (arith, common_steps)
 
-choose-le : {P : Type 0} (a b : ℕ) → (a ≤ b → P) → (b < a → P) → P
+pub choose-le : {P : Type 0} (a b : ℕ) → (a ≤ b → P) → (b < a → P) → P
 choose-le {P = P} a b up down = by (nat_le a b) refl where
   by : (c : Bool) → nat_le a b ≡ c → P
   by true is = up (le-of a b is)
@@ -43,11 +41,11 @@ none-up-to : (a : ℕ) (rows : List Row) → AllByRecursion (λ l. a < l.id) row
 none-up-to a [] all = refl
 none-up-to a (r ∷ rows) all = rw (le-false r.id a all.0) (none-up-to a rows all.1)
 
-further : (a b : ℕ) (rows : List Row) → a < b → AllByRecursion (λ l. b < l.id) rows → AllByRecursion (λ l. a < l.id) rows
+pub further : (a b : ℕ) (rows : List Row) → a < b → AllByRecursion (λ l. b < l.id) rows → AllByRecursion (λ l. a < l.id) rows
 further a b [] less all = tt
 further a b (r ∷ rows) less all = (let is = all.0 in omega (arith, less, is), further a b rows less all.1)
 
-at-least : (b x : ℕ) (rows : List Row) → b ≤ x → AllByRecursion (λ l. x < l.id) rows → AllByRecursion (λ l. b ≤ l.id) rows
+pub at-least : (b x : ℕ) (rows : List Row) → b ≤ x → AllByRecursion (λ l. x < l.id) rows → AllByRecursion (λ l. b ≤ l.id) rows
 at-least b x [] less all = tt
 at-least b x (r ∷ rows) less all = (let is = all.0 in omega (arith, less, is), at-least b x rows less all.1)
 
@@ -61,7 +59,7 @@ none-matched b (r ∷ rows) all = rw (lt-false r.id b all.0) (none-matched b row
 
 -- what a test leaves of them
 
-kept-all : (P : Row → Type 0) (p : Row → Bool) (rows : List Row) → AllByRecursion P rows → AllByRecursion P (filter p rows)
+pub kept-all : (P : Row → Type 0) (p : Row → Bool) (rows : List Row) → AllByRecursion P rows → AllByRecursion P (filter p rows)
 kept-all P p [] all = tt
 kept-all P p (r ∷ rows) all = by (p r) (kept-all P p rows all.1) where
   by : (b : Bool) → AllByRecursion P (filter p rows) → AllByRecursion P (if b then r ∷ filter p rows else filter p rows)

@@ -1,13 +1,13 @@
 -- Pages that follow each other show each wanted row once, and in order.
 use Rattle.std.proofs.Common.{◌≡◌, ℕ, zero, suc, ◌+◌, ◌-◌, ◌<◌, ◌≤◌, ◌==◌, nat_lt, List, [], ◌∷◌, ◌++◌, take, drop, map, length, Bool, true, false, refl, ap, sym}
-use Rattle.std.proofs.Common.{◌∙◌, subst, arith, if◌then◌else◌, length-append}
+use Rattle.std.proofs.Common.{◌∙◌, subst, arith, if◌then◌else◌}
 use Rattle.std.specs.Prelude.{Option, Some, None}
 use Rattle.std.specs.List.{AllByRecursion, filter}
 use Rattle.std.proofs.lemmas.Bool.{eqb-true}
 use Rattle.std.proofs.lemmas.Grind.{common_steps}
-use Rattle.std.proofs.lemmas.List.{drop-append-le, take-append-drop}
-use Rattle.rsm_paging.specs.Pages.{IsPageOf, Rises, first_page, fits, id_of, is_past, matching, most_rows, those_after}
-use Rattle.rsm_paging.specs.Walks.{IsAmong, IsKept, IsStep, IsWalk, Step, come_last, kept_of, shown_by, wanted_of}
+use Rattle.std.proofs.lemmas.List.{take-append-drop}
+use Rattle.rsm_paging.specs.Pages.{Rises, first_page, fits, id_of, is_past, matching, most_rows, those_after}
+use Rattle.rsm_paging.specs.Walks.{IsAmong, IsWalk, Step, come_last, kept_of, shown_by, wanted_of}
 use Rattle.rsm_paging.specs.declared.ask.Filter.{Filter}
 use Rattle.rsm_paging.specs.declared.ask.Row.{Row}
 use Rattle.rsm_paging.proofs.PageLemmas.{shown, shown-rows}

@@ -1,3 +1,4 @@
 pub mod Matches
 pub mod Pages
+pub mod Places
 pub mod Walks

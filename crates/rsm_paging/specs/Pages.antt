@@ -1,8 +1,7 @@
 -- Which rows of an archive a request is answered with (XEP-0313, 4, and XEP-0059, 2).
 use Rattle.std.specs.Prelude.{ℕ, ◌+◌, ◌==◌, nat_lt, nat_le, min, List, [], ◌∷◌, take, reverse, map, length, Bool, true, false, ◌&&◌}
-use Rattle.std.specs.Prelude.{Option, Some, None, is_some, ⊤, ◌<◌, ◌≡◌, if◌then◌else◌}
+use Rattle.std.specs.Prelude.{Option, Some, None, is_some, ⊤, ◌<◌, ◌≤◌, ◌≡◌, if◌then◌else◌}
 use Rattle.std.specs.List.{AllByRecursion, filter, find}
-use Rattle.std.specs.Option.{option_map}
 use Rattle.jid_core.specs.Addresses.{Address, same_address, same_bare}
 use Rattle.sm_resume.specs.Spelling.{number_of}
 use Rattle.rsm_paging.specs.declared.ask.Row.{Row}
@@ -134,6 +133,20 @@ is_known rows (Some id) = is_some (row_named id rows)
 abbrev pub Rises : List Row → Type 0
 Rises [] = ⊤
 Rises (row ∷ more) = AllByRecursion (λ later. row.id < later.id) more × Rises more
+
+-- the ids follow each other, from this one on
+abbrev pub Follow : ℕ → List Row → Type 0
+Follow n [] = ⊤
+Follow n (row ∷ more) = (row.id ≡ n) × Follow (n + 1) more
+
+-- no stamp is below this one, nor below an earlier one
+abbrev pub StampsRise : ℕ → List Row → Type 0
+StampsRise stamp [] = ⊤
+StampsRise stamp (row ∷ more) = (stamp ≤ row.stamp) × StampsRise row.stamp more
+
+-- these are the ids of the rows of the peer that is asked for
+abbrev pub IsPicked : List ℕ → Filter → List Row → Type 0
+IsPicked picked f rows = picked ≡ map id_of (filter (λ row. fits_peer f.peer row.peer) rows)
 
 -- not both
 abbrev pub IsOneWay : (after before : Option (List ℕ)) → Type 0

@@ -5,6 +5,11 @@ pub mod ask;
 pub mod laws;
 pub mod matching;
 mod paging;
+mod picking;
+pub mod placing;
+mod spans;
 
 pub use ask::{Filter, Page, PageAsk, PageFault, Row};
 pub use paging::page;
+pub use picking::{page_of, page_of_all};
+pub use placing::row_of;

@@ -66,7 +66,7 @@ pub fn fits(filter: &Filter, row: &Row) -> bool
         && is_until(filter.end, row.stamp)
 }
 
-fn match_of(row: &Row) -> Match
+pub(crate) fn match_of(row: &Row) -> Match
     ensures { result ≡ match_of row.now }
 {
     Match {
@@ -111,7 +111,7 @@ fn fit_beside(mut bytes: u64, matches: &[Match]) -> usize
 }
 
 /// How many of the first of these are on a page, which has one at least.
-fn how_many(matches: &[Match]) -> usize
+pub(crate) fn how_many(matches: &[Match]) -> usize
     ensures count { result ≡ how_many matches.now }
     ensures bound { result ≤ length matches.now }
 {
@@ -122,7 +122,7 @@ fn how_many(matches: &[Match]) -> usize
 }
 
 /// The first of these, at most so many.
-fn first_of(matches: &[Match], max: usize) -> &[Match]
+pub(crate) fn first_of(matches: &[Match], max: usize) -> &[Match]
     ensures { result.now ≡ take max matches.now }
 {
     matches.get(..max).unwrap_or(matches)
@@ -154,17 +154,17 @@ pub(crate) fn below(matches: &[Match], id: u64) -> usize
     many
 }
 
-fn ids(alloc: Global, matches: &[Match]) -> Result<Vec<u64>, NoMemory>
+pub(crate) fn ids(alloc: Global, matches: &[Match]) -> Result<Vec<u64>, NoMemory>
     ensures { IfOk result (λ all. all.items ≡ ids matches.now) }
 {
-    let mut all = Vec::new(alloc);
+    let mut all = Vec::with_capacity(alloc, matches.len())?;
     for one in matches {
         all.push(one.id)?;
     }
     Ok(all)
 }
 
-fn index_if(many: usize, place: usize) -> u64
+pub(crate) fn index_if(many: usize, place: usize) -> u64
     ensures { result ≡ index_if many place }
 {
     if many == 0 { 0 } else { place as u64 }

@@ -12,7 +12,7 @@ use stanza_tree::{NoMemory, Text};
 use std::alloc::Global;
 
 /// The most rows of a page.
-const MOST_ROWS: u32 = 50;
+pub(crate) const MOST_ROWS: u32 = 50;
 
 /// The id that a text is of one of these rows.
 fn id_named(rows: &[Row], id: &[u8]) -> Option<u64>

@@ -1,4 +1,4 @@
-use Rattle.std.proofs.Common.{◌≡◌, ◌++◌, ◌+◌, ◌≤◌, drop}
+use Rattle.std.proofs.Common.{◌≡◌, ◌+◌, ◌≤◌, drop}
 use Rattle.rsm_paging.specs.Matches.{up_to}
 use Rattle.rsm_paging.proofs.matching.up_to.Given as goal
 

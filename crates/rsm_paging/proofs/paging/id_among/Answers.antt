@@ -1,4 +1,4 @@
-use Rattle.std.proofs.Common.{◌≡◌, ◌∙◌, ap, sym, Bool, Some, None, if◌then◌else◌}
+use Rattle.std.proofs.Common.{◌∙◌, ap, sym, Bool, Some, None, if◌then◌else◌}
 use Rattle.rsm_paging.proofs.PageLemmas.{found-id}
 use Rattle.rsm_paging.proofs.paging.id_among.Goals as goal
 

@@ -1,6 +1,6 @@
-use Rattle.std.proofs.Common.{◌≡◌, ℕ, List, IfOk, OnOk, subst}
+use Rattle.std.proofs.Common.{ℕ, List, subst}
 use Rattle.rsm_paging.specs.Matches.{IsMatched}
-use Rattle.rsm_paging.specs.Pages.{IsPage, fits, matching, most_rows}
+use Rattle.rsm_paging.specs.Pages.{fits, matching, most_rows}
 use Rattle.rsm_paging.specs.declared.matching.Match.{Match}
 use Rattle.rsm_paging.proofs.PageLemmas.{both-ok, page-is}
 use Rattle.rsm_paging.proofs.RiseLemmas.{rises-filter}

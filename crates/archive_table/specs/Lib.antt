@@ -1,0 +1,4 @@
+pub mod Archives
+pub mod Entries
+pub mod Pages
+pub mod Tables

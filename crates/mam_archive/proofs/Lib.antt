@@ -1,0 +1,5 @@
+pub mod LastLemmas
+pub mod ListLemmas
+pub mod PickedLemmas
+pub mod RoomLemmas
+pub mod SoundLemmas

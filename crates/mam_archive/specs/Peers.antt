@@ -1,0 +1,25 @@
+-- By what of their addresses peers are told apart, and the hashes by which their rows are found.
+use Rattle.std.specs.Prelude.{ℕ, List, [], ◌∷◌, Option, is_some, unwrap_or, if◌then◌else◌}
+use Rattle.std.specs.Hash.DefaultHasher as sip
+use Rattle.jid_core.specs.Addresses.{Address, bare}
+use Rattle.mam_archive.specs.declared.peers.Extent.{Extent}
+use Rattle.mam_archive.specs.declared.peers.Extent.TheVariants.{Bare, Full}
+
+-- XEP-0313, 4.1.1: a bare address is that of each peer with it, a full one of the equal peer alone
+abbrev pub extent_of : Address → Extent
+extent_of asked = if is_some asked.resource then Full else Bare
+
+abbrev pub face : Extent → Address → Address
+face Bare a = bare a
+face Full a = a
+
+-- SipHash-1-3 of the local part, the domain and the resource, a slash after each but the last
+unfoldable pub address_hash : Option (List ℕ) → List ℕ → List ℕ → ℕ
+address_hash local domain resource =
+    let first = sip.write (sip.write sip.initial (unwrap_or local [])) (47 ∷ []) in
+    let second = sip.write (sip.write first domain) (47 ∷ []) in
+    sip.finish (sip.write second resource)
+
+abbrev pub key : Extent → Address → ℕ
+key Bare a = address_hash a.local a.domain []
+key Full a = address_hash a.local a.domain (unwrap_or a.resource [])
