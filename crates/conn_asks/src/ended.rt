@@ -46,7 +46,7 @@ pub enum Ended {
     BadItem(ItemFault, u64),
     /// The third login on the connection failed.
     ThirdFailure,
-    /// Nothing was heard for an hour, at this moment.
+    /// Nothing was heard for an hour, or nobody logged in within a minute, at this moment.
     Idle(u64),
     /// The house ended the connection.
     Over(Cause),

@@ -18,7 +18,7 @@ use Rattle.conn_flow.specs.declared.phase.Phase.TheVariants.{LoggedIn, PullingOn
 use Rattle.conn_flow.specs.declared.talk.Talk.{Talk}
 use Rattle.conn_flow.specs.declared.want.Want.{Want}
 use Rattle.conn_flow.specs.declared.want.Want.TheVariants.{Say, Submit, NeedDice, Await, Finish}
-use Rattle.conn_flow.specs.Flows.{IsAfter, IsLoaded, IsThere, IsTold, IsToldAll, IsWish, Prepares, State, Takes, ToAwait, ToDraw}
+use Rattle.conn_flow.specs.Flows.{IsAfter, IsLoaded, IsThere, IsTold, IsToldAll, Prepares, State, Takes, ToAwait, ToDraw}
 use Rattle.conn_flow.specs.Flows.{ToFinish, ToSay, ToSubmit, Wants, Wish, asked_by, counted, drawn_if, event_wish, handled_phase}
 use Rattle.conn_flow.specs.Flows.{last_text, login_wish, parting_wish, wish, wish_of, wished}
 

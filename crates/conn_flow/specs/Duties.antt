@@ -1,5 +1,5 @@
 -- What is due on a connection: what its items make due, and what the replies of the house do.
-use Rattle.std.specs.Prelude.{◌≡◌, ℕ, ◌+◌, min, nat_lt, List, [], ◌∷◌, ◌++◌, take, Bool, true, false, Option, Some, None, if◌then◌else◌}
+use Rattle.std.specs.Prelude.{◌≡◌, ℕ, ◌+◌, min, nat_le, nat_lt, ◌&&◌, ◌||◌, List, [], ◌∷◌, ◌++◌, take, Bool, true, false, Option, Some, None, if◌then◌else◌}
 use Rattle.stream_grammar.specs.grammar.Bounds.{told_number}
 use Rattle.stream_grammar.specs.declared.item.Item.{Item}
 use Rattle.scram_core.specs.Exchange.{Exchange, challenge_of}
@@ -65,7 +65,8 @@ pub record Duty : Type 0 where
   -- the items so far, and the logins that failed, up to three
   pub number : ℕ
   pub failures : ℕ
-  -- the moment of the last reading that heard something, or of opening, and that of the last reading
+  -- the moment of opening, that of the last reading that heard something, or of opening, and that of the last reading
+  pub opened : ℕ
   pub heard : ℕ
   pub moment : ℕ
   -- what is due, in this order
@@ -98,6 +99,22 @@ end_due o v x = error_due o v (error_of x) x
 
 abbrev pub ends : Site → Duty → Ended → Duty
 ends o v x = record v { due = end_due o v x }
+
+-- How long a connection may take.
+
+-- nobody logged in yet
+abbrev pub is_unknown : Stage → Bool
+is_unknown (Login x) = true
+is_unknown (Logged user) = false
+is_unknown (Bound user) = false
+
+-- a client has a minute to log in
+abbrev pub is_overdue : Stage → (opened t : ℕ) → Bool
+is_overdue stage opened t = is_unknown stage && nat_le (opened + 60000) t
+
+-- after that, and after an hour without a byte, the connection is idle (RFC 6120, 4.6.4)
+abbrev pub is_idle : Stage → (opened heard t : ℕ) → Bool
+is_idle stage opened heard t = is_overdue stage opened t || nat_le (heard + 3600000) t
 
 -- What is due for what an item asks, and then for the rest.
 

@@ -1,5 +1,5 @@
 -- What a flow knows, what it wants, and what the answers to that make of it.
-use Rattle.std.specs.Prelude.{◌≡◌, ℕ, ◌+◌, min, nat_le, nat_lt, List, [], ◌++◌, take, length, Bool, true, false, Option, Some, None, if◌then◌else◌}
+use Rattle.std.specs.Prelude.{◌≡◌, ℕ, ◌+◌, min, nat_lt, List, [], ◌++◌, take, length, Bool, true, false, Option, Some, None, if◌then◌else◌}
 use Rattle.stream_frames.specs.Fed.{Fed}
 use Rattle.stream_grammar.specs.machine.Reading.{Reading, first_reading, handed, is_ready, reading_after, taken, waiting}
 use Rattle.stream_grammar.specs.grammar.Bounds.{told_number}
@@ -32,7 +32,7 @@ use Rattle.conn_flow.specs.declared.talk.Talk.{Talk}
 use Rattle.conn_flow.specs.declared.want.Want.{Want}
 use Rattle.conn_flow.specs.declared.want.Want.TheVariants.{Say, Submit, NeedDice, Await, Finish}
 use Rattle.stream_frames.specs.Limits.{limits}
-use Rattle.conn_flow.specs.Duties.{features_of, follows, id_of, stage_after, stage_for}
+use Rattle.conn_flow.specs.Duties.{features_of, follows, id_of, is_idle, is_overdue, stage_after, stage_for}
 
 -- a flow is what it reads and what it knows
 pub record State : Type 0 where
@@ -49,6 +49,7 @@ fresh_talk w domain id t = record {
   headed = false;
   number = 0;
   failures = 0;
+  opened = t;
   heard = t;
   moment = t;
   more = false;
@@ -107,7 +108,14 @@ hears s t piece =
     record { fed = read s.fed (take (taken_of s piece) piece); talk = heard_at s.talk t (taken_of s piece) (length piece) }
 
 abbrev pub waited : Talk → ℕ → Talk
-waited s t = record s { moment = t; phase = if nat_le (s.heard + 3600000) t then Parting (ended.Idle t) else Pulling }
+waited s t = record s { moment = t; phase = if is_idle s.stage s.opened s.heard t then Parting (ended.Idle t) else Pulling }
+
+-- bytes come too late for a login
+abbrev pub is_late : Talk → ℕ → Bool
+is_late s t = is_overdue s.stage s.opened t
+
+abbrev pub late_at : Talk → ℕ → Talk
+late_at s t = record s { moment = t; phase = Parting (ended.Idle t) }
 
 abbrev pub hung_at : Talk → ℕ → Talk
 hung_at s t = record s { moment = t; phase = Parting ended.Hung }

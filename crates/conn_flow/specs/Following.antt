@@ -1,5 +1,5 @@
 -- What a connection may say and enter: each move is the next thing that is due.
-use Rattle.std.specs.Prelude.{◌≡◌, ◌≢◌, ◌⊎◌, ℕ, ◌+◌, nat_le, List, [], ◌∷◌, ◌++◌, length, Bool, true, false, Option, Some, None, if◌then◌else◌}
+use Rattle.std.specs.Prelude.{◌≡◌, ◌≢◌, ◌⊎◌, ℕ, List, [], ◌∷◌, ◌++◌, length, Bool, true, false, Option, Some, None, if◌then◌else◌}
 use Rattle.outside.specs.Tapes.{Mark, Tells}
 use Rattle.house_model.specs.Histories.{Turn, Outcome, Made, Short}
 use Rattle.house_model.specs.declared.event.Event.{Event}
@@ -12,7 +12,7 @@ use Rattle.conn_asks.specs.declared.stage.Stage.TheVariants.{Login}
 use Rattle.conn_flow.specs.Streams.{cut}
 use Rattle.conn_flow.specs.Moves.{Move, Hears, Waits, Hangs, Fails, Takes, Says, Sends, Enters, Draws, Stops, marks, moments, turns, draws}
 use Rattle.conn_flow.specs.Duties.{Site, Due, Opens, Rest, Text, Id, Dice, Submits, LogsIn, PullsOnce, Pulls, Sweeps, Leaves, Left, Duty, AsksIf}
-use Rattle.conn_flow.specs.Duties.{ends, named, drew, answered, answered_login, pulled_once, pulled, swept, last_event}
+use Rattle.conn_flow.specs.Duties.{ends, is_idle, is_overdue, named, drew, answered, answered_login, pulled_once, pulled, swept, last_event}
 
 -- what is due after the items of some bytes: the items of the rest, and where there is none the pulls
 abbrev pub rest_due : List ℕ → List Due
@@ -27,9 +27,15 @@ abbrev pub TakesDue : Site → Duty → List Due → Duty → Type 0
 TakesDue o v (Rest bytes ∷ rest) w = Handles o v bytes w
 TakesDue o v due w = ⊥
 
--- after an hour without a byte the connection is idle (RFC 6120, 4.6.4)
-abbrev pub waited : Site → Duty → Duty
-waited o v = if nat_le (v.heard + 3600000) v.moment then ends o v (ended.Idle v.moment) else record v { due = Pulls ∷ [] }
+-- bytes that come are handled, but where it is too late for a login
+abbrev pub bytes_came : Site → Duty → List ℕ → ℕ → Duty
+bytes_came o v bytes t =
+    if is_overdue v.stage v.opened t then ends o (record v { moment = t }) (ended.Idle t) else record v { heard = t; moment = t; due = Rest bytes ∷ [] }
+
+-- where none came, all that waits is pulled
+abbrev pub waited : Site → Duty → ℕ → Duty
+waited o v t =
+    if is_idle v.stage v.opened v.heard t then ends o (record v { moment = t }) (ended.Idle t) else record v { moment = t; due = Pulls ∷ [] }
 
 abbrev pub reply_of : Outcome → Option Reply
 reply_of (Made reply text) = Some reply
@@ -40,7 +46,7 @@ abbrev pub text_of : Outcome → List ℕ
 text_of (Made reply text) = text
 text_of Short = []
 
--- the event that is due, and what is due after the reply
+-- the event that is due, and what is due after the reply; before the last one all is sent
 abbrev pub EntersDue : Site → Duty → List Due → Event → Option Reply → Duty → Type 0
 EntersDue o v (Opens ∷ rest) e r w = (e ≡ event.OpenLine o.line) × (w ≡ record v { due = rest })
 EntersDue o v (Submits event ∷ rest) e r w = (e ≡ event) × (w ≡ answered o v r rest)
@@ -48,7 +54,7 @@ EntersDue o v (LogsIn user text ∷ rest) e r w = (e ≡ event.Login o.line user
 EntersDue o v (PullsOnce ∷ rest) e r w = (e ≡ event.Pull o.line v.moment) × (w ≡ pulled_once o v r rest)
 EntersDue o v (Pulls ∷ rest) e r w = (e ≡ event.Pull o.line v.moment) × (w ≡ pulled o v r)
 EntersDue o v (Sweeps ∷ rest) e r w = (e ≡ event.Sweep o.line v.moment) × (w ≡ swept v r)
-EntersDue o v (Leaves ended ∷ rest) e r w = (e ≡ last_event o v ended) × (w ≡ record v { due = Left ended ∷ [] })
+EntersDue o v (Leaves ended ∷ rest) e r w = (v.owed ≡ []) × (e ≡ last_event o v ended) × (w ≡ record v { due = Left ended ∷ [] })
 EntersDue o v due e r w = ⊥
 
 abbrev pub DrawsDue : Site → Duty → List Due → List ℕ → Duty → Type 0
@@ -57,7 +63,7 @@ DrawsDue o v (Dice purpose ∷ rest) dice w = (length dice ≡ 18) × (w ≡ dre
 DrawsDue o v due dice w = ⊥
 
 abbrev pub SaysDue : Duty → List Due → List ℕ → Duty → Type 0
-SaysDue v (Text said ∷ rest) text w = (text ≡ said) × (w ≡ record v { due = rest; owed = text })
+SaysDue v (Text said ∷ rest) text w = (text ≡ said) × (w ≡ record v { due = rest; owed = v.owed ++ text })
 SaysDue v due text w = ⊥
 
 -- Ends that come from no reading, item or reply.
@@ -84,28 +90,28 @@ goes_on (Leaves ended ∷ rest) = false
 goes_on (Left ended ∷ rest) = false
 goes_on due = true
 
--- no random bytes where they are due, no turn where an event is due; no memory at any time while the connection goes on
+-- no random bytes where they are due, no turn where an event is due; no memory at any time while the connection goes on or something is to
+-- be sent. What is to be sent then stays unsaid.
 abbrev pub Stopped : Duty → Ended → Duty → Type 0
-Stopped v ended.NoMemory w = (goes_on v.due ≡ true) × (w ≡ record v { due = Leaves ended.NoMemory ∷ [] })
-Stopped v ended.DiceFault w = (draws_next v.due ≡ true) × (w ≡ record v { due = Leaves ended.DiceFault ∷ [] })
-Stopped v ended.Spent w = (enters_next v.due ≡ true) × (w ≡ record v { due = Left ended.Spent ∷ [] })
+Stopped v ended.NoMemory w = ((goes_on v.due ≡ true) ⊎ (v.owed ≢ [])) × (w ≡ record v { due = Leaves ended.NoMemory ∷ []; owed = [] })
+Stopped v ended.DiceFault w = (draws_next v.due ≡ true) × (w ≡ record v { due = Leaves ended.DiceFault ∷ []; owed = [] })
+Stopped v ended.Spent w = (enters_next v.due ≡ true) × (w ≡ record v { due = Left ended.Spent ∷ []; owed = [] })
 Stopped v x w = ⊥
 
--- One move. A fault of the link leaves the rest unsaid, and so may come while something is to be sent; every other move comes when all
--- is sent.
+-- One move. What is said and the texts of frames gather until they are sent, which they are before the link is read again. A fault of the
+-- link may come while something is to be sent, and leaves it unsaid.
 abbrev pub GoesOn : Site → Duty → Move → Duty → Type 0
-GoesOn o v (Hears bytes t) w = (v.owed ≡ []) × (v.due ≡ []) × (bytes ≢ []) × (w ≡ record v { heard = t; moment = t; due = Rest bytes ∷ [] })
-GoesOn o v (Waits t) w = (v.owed ≡ []) × (v.due ≡ []) × (w ≡ waited o (record v { moment = t }))
+GoesOn o v (Hears bytes t) w = (v.owed ≡ []) × (v.due ≡ []) × (bytes ≢ []) × (w ≡ bytes_came o v bytes t)
+GoesOn o v (Waits t) w = (v.owed ≡ []) × (v.due ≡ []) × (w ≡ waited o v t)
 GoesOn o v (Hangs t) w = (v.owed ≡ []) × (v.due ≡ []) × (w ≡ ends o (record v { moment = t }) ended.Hung)
 GoesOn o v (Fails t) w = ((v.due ≡ []) ⊎ (v.owed ≢ [])) × (w ≡ record v { moment = t; due = Leaves ended.LinkFault ∷ []; owed = [] })
-GoesOn o v Takes w = (v.owed ≡ []) × TakesDue o v v.due w
-GoesOn o v (Says text) w = (v.owed ≡ []) × SaysDue v v.due text w
+GoesOn o v Takes w = TakesDue o v v.due w
+GoesOn o v (Says text) w = SaysDue v v.due text w
 GoesOn o v (Sends bytes) w = (bytes ≢ []) × (v.owed ≡ bytes ++ w.owed) × (w ≡ record v { owed = w.owed })
 GoesOn o v (Enters turn) w =
-    (v.owed ≡ [])
-    × ((next : Duty) × EntersDue o v v.due turn.event (reply_of turn.outcome) next × (w ≡ record next { owed = text_of turn.outcome }))
-GoesOn o v (Draws dice) w = (v.owed ≡ []) × DrawsDue o v v.due dice w
-GoesOn o v (Stops x) w = (v.owed ≡ []) × Stopped v x w
+    (next : Duty) × EntersDue o v v.due turn.event (reply_of turn.outcome) next × (w ≡ record next { owed = v.owed ++ text_of turn.outcome })
+GoesOn o v (Draws dice) w = DrawsDue o v v.due dice w
+GoesOn o v (Stops x) w = Stopped v x w
 
 abbrev pub GoesThrough : Site → Duty → List Move → Duty → Type 0
 GoesThrough o v [] w = w ≡ v
@@ -121,6 +127,7 @@ opening o t = record {
   headed = false;
   number = 0;
   failures = 0;
+  opened = t;
   heard = t;
   moment = t;
   due = Opens ∷ Id ∷ [];

@@ -6,7 +6,7 @@ ghost use Rattle.conn_asks.specs.declared.ended.Ended.TheVariants as ended;
 ghost use Rattle.conn_asks.specs.Texts.{stream_id};
 ghost use Rattle.conn_flow.specs.declared.phase.Phase.TheVariants as phase;
 ghost use Rattle.conn_flow.specs.Flows.{IsAfter, IsGoing, IsLoaded, IsReadyAt, IsTold, IsToldAll, Prepares, State, Takes, Wants};
-ghost use Rattle.conn_flow.specs.Flows.{fresh, gave_at, hears, hung_at, short_at, taken_of, told, waited};
+ghost use Rattle.conn_flow.specs.Flows.{fresh, gave_at, hears, hung_at, is_late, late_at, short_at, taken_of, told, waited};
 
 use crate::phase::Phase;
 use crate::talk::Talk;
@@ -155,6 +155,21 @@ impl Flow {
                 Err(short)
             }
         }
+    }
+
+    /// Whether bytes that come at this moment come too late: nobody logged in within a minute of opening.
+    pub fn is_late(&self, moment: u64) -> bool
+        ensures { result ≡ is_late self.now.talk moment }
+    {
+        self.talk.is_late(moment)
+    }
+
+    /// Bytes came too late at this moment; they are not to be handled.
+    pub fn late(&mut self, moment: u64)
+        requires { self.old.talk.phase ≡ phase.Resting }
+        ensures { self.new ≡ record self.old { talk = late_at self.old.talk moment } }
+    {
+        self.talk.overstay(moment);
     }
 
     /// Nothing was heard up to this moment.

@@ -40,7 +40,8 @@ pub struct Talk {
     /// The items so far, and the logins that failed.
     pub number: u64,
     pub failures: u8,
-    /// The moment of the last reading that heard something, or of opening, and that of the last reading.
+    /// The moment of opening, that of the last reading that heard something, or of opening, and that of the last reading.
+    pub opened: u64,
     pub heard: u64,
     pub moment: u64,
     /// Whether more was read than was heard.
@@ -64,6 +65,7 @@ impl Drop for Talk {
             headed: _,
             number: _,
             failures: _,
+            opened: _,
             heard: _,
             moment: _,
             more: _,
@@ -97,6 +99,7 @@ impl Talk {
             headed: false,
             number: 0,
             failures: 0,
+            opened: moment,
             heard: moment,
             moment,
             more: false,

@@ -6,7 +6,7 @@ ghost use Rattle.conn_asks.specs.Texts.{failure_text};
 ghost use Rattle.conn_flow.specs.declared.phase.Phase.TheVariants as phase;
 ghost use Rattle.conn_flow.specs.Duties.{bound, follows};
 ghost use Rattle.conn_flow.specs.Flows.{IsGoing, IsLoaded, IsThere, IsWish, gave_at, handled, handled_phase, heard_at};
-ghost use Rattle.conn_flow.specs.Flows.{hung_at, last_text, logged_by, ousts, restarts, short_at, told_at, told_entered};
+ghost use Rattle.conn_flow.specs.Flows.{hung_at, is_late, last_text, late_at, logged_by, ousts, restarts, short_at, told_at, told_entered};
 ghost use Rattle.conn_flow.specs.Flows.{told_login, told_once, told_pull, waited, wish, wished};
 
 use crate::phase::Phase;
@@ -21,6 +21,9 @@ use std::mem;
 
 /// How long a client may say nothing, in milliseconds: an hour, after which its link is taken for dead (RFC 6120, 4.6).
 const IDLE: u64 = 3_600_000;
+
+/// How long a client may take to log in, in milliseconds: a minute, so that silent connections hold no place for an hour.
+const LOGIN: u64 = 60_000;
 
 fn bound(stage: Stage) -> Stage
     ensures { result ≡ bound stage }
@@ -51,11 +54,30 @@ impl Talk {
         self.phase = Phase::Left(Ended::NoMemory);
     }
 
+    /// Whether nobody logged in so long after opening.
+    pub(crate) fn is_late(&self, moment: u64) -> bool
+        ensures { result ≡ is_late self.now moment }
+    {
+        match &self.stage {
+            Stage::Login(_) => moment.saturating_sub(self.opened) >= LOGIN,
+            Stage::Logged(_) => false,
+            Stage::Bound(_) => false,
+        }
+    }
+
+    pub(crate) fn overstay(&mut self, moment: u64)
+        ensures { self.new ≡ late_at self.old moment }
+    {
+        self.moment = moment;
+        self.phase = Phase::Parting(Ended::Idle(moment));
+    }
+
     pub(crate) fn wait(&mut self, moment: u64)
         ensures { self.new ≡ waited self.old moment }
     {
+        let is_late = self.is_late(moment);
         self.moment = moment;
-        self.phase = if moment.saturating_sub(self.heard) >= IDLE {
+        self.phase = if is_late || moment.saturating_sub(self.heard) >= IDLE {
             Phase::Parting(Ended::Idle(moment))
         } else {
             Phase::Pulling

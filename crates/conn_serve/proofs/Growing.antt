@@ -1,7 +1,7 @@
 -- Moves join.
-use Rattle.std.proofs.Common.{◌≡◌, ℕ, ◌≤◌, List, [], ◌∷◌, ◌++◌, ◌⊎◌, inl, inr, Bool, true, false, refl, sym, ap, subst, arith, append_assoc}
+use Rattle.std.proofs.Common.{◌≡◌, ℕ, ◌+◌, ◌≤◌, List, [], ◌∷◌, ◌++◌, length, ◌⊎◌, inl, inr, Bool, true, false, refl, sym, ap, subst, arith, append_assoc}
 use Rattle.std.specs.Prelude.{Option, Some, None, ◌||◌}
-use Rattle.std.proofs.lemmas.List.{append-nil}
+use Rattle.std.proofs.lemmas.List.{append-nil, length-append}
 use Rattle.outside.specs.Devices.{Rose}
 use Rattle.outside.specs.Tapes.{Mark, Tells}
 use Rattle.outside.specs.Tapes as tape
@@ -155,3 +155,14 @@ finished_after p q = record { last = q.last; grew = grew_both p q.grew; leaves =
 
 pub exhausted_after : {o : Site} {a b c : Tale} {u v : Duty} → Grew o a u b v → Exhausted o b v c → Exhausted o a u c
 exhausted_after p q = record { last = q.last; grew = grew_both p q.grew; left = q.left; sent = q.sent }
+
+-- moves are counted
+
+pub lengths : {o : Site} {a b c : Tale} {u v w : Duty} (p : Grew o a u b v) (q : Grew o b v c w)
+    → length (grew_both p q).moves ≡ length p.moves + length q.moves
+unfolding grew_both
+lengths p q = length-append p.moves q.moves
+
+pub longer : {o : Site} {a b c : Tale} {u v w : Duty} (k n more : ℕ) (p : Grew o a u b v) (q : Grew o b v c w) → k ≤ length p.moves
+    → n ≤ length q.moves + more → k + n ≤ length (grew_both p q).moves + more
+longer k n more p q first second = omega (arith, first, second, lengths p q)

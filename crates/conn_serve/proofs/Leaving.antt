@@ -33,25 +33,21 @@ use Rattle.conn_serve.specs.declared.turn.End.TheVariants.{Over, NoTurn}
 use Rattle.conn_serve.proofs.Growing.{grew_both, exhausted_after, finished_after, tells_both, tells_nothing}
 use Rattle.conn_serve.proofs.Entering.{no_dice, spent}
 use Rattle.conn_serve.proofs.Listening.{one, stops}
-use Rattle.conn_serve.proofs.Speaking.{calm, same}
+use Rattle.conn_serve.proofs.Sending.{calm, same}
 
 -- The house was told of the connection.
 
 pub opened : (line : ℕ) (domain : List ℕ) (accounts : Book) (t : ℕ) (r : Reply) (turns turns' : List Turn)
-    (tape tape' : Option (List Mark)) (moments : Option (List ℕ)) (drawn : Option (List (List ℕ))) (f f' e e' d : ℕ)
-    → turns' ≡ turns ++ made (event.OpenLine line) r [] ∷ [] → tape' ≡ tape → f' ≡ f → e' ≡ e
+    (tape : Option (List Mark)) (moments : Option (List ℕ)) (drawn : Option (List (List ℕ))) (f e d : ℕ)
+    → turns' ≡ turns ++ made (event.OpenLine line) r [] ∷ []
     → Grew (site_of line domain accounts) (tale tape turns moments drawn f e d) (opening (site_of line domain accounts) t)
-    (tale tape' turns' moments drawn f' e' d) (record (opening (site_of line domain accounts) t) { due = Id ∷ [] })
-opened line domain accounts t r turns turns' tape tape' moments drawn f f' e e' d gained t1 f1 e1 =
+    (tale tape turns' moments drawn f e d) (record (opening (site_of line domain accounts) t) { due = Id ∷ [] })
+opened line domain accounts t r turns turns' tape moments drawn f e d gained =
     let o : Site = site_of line domain accounts in
     let after : Duty = record (opening o t) { due = Id ∷ [] } in
-    let grew : Grew o (tale tape turns moments drawn f e d) (opening o t) (tale tape turns' moments drawn f e d) after =
     one o (tale tape turns moments drawn f e d) (tale tape turns' moments drawn f e d) (opening o t) after (Enters (made (event.OpenLine line) r []))
-    (refl, (after, (refl, refl), refl)) (tells_nothing Mark tape) gained (tells_nothing ℕ moments) (tells_nothing (List ℕ) drawn)
-    (calm (Enters (made (event.OpenLine line) r []) ∷ []) _ _ refl refl refl (same f) (same e) (same d)) in
-    subst (λ (x : Option (List Mark)). Grew o (tale tape turns moments drawn f e d) (opening o t) (tale x turns' moments drawn f' e' d) after) (sym t1)
-    (subst (λ (x : ℕ). Grew o (tale tape turns moments drawn f e d) (opening o t) (tale tape turns' moments drawn x e' d) after) (sym f1)
-    (subst (λ (x : ℕ). Grew o (tale tape turns moments drawn f e d) (opening o t) (tale tape turns' moments drawn f x d) after) (sym e1) grew))
+    (after, (refl, refl), refl) (tells_nothing Mark tape) gained (tells_nothing ℕ moments) (tells_nothing (List ℕ) drawn)
+    (calm (Enters (made (event.OpenLine line) r []) ∷ []) _ _ refl refl refl (same f) (same e) (same d))
 
 -- The first stream has its id.
 
@@ -62,7 +58,7 @@ named_by o t v dice tape turns moments drawn drawn' f e d d' is long tells kept 
     subst (λ (x : Duty). Grew o (tale tape turns moments drawn f e d) x (tale tape turns moments drawn' f e d') (duty o (start o dice t))) (sym is)
     (one o (tale tape turns moments drawn f e d) (tale tape turns moments drawn' f e d') (record (opening o t) { due = Id ∷ [] }) (duty o (start o dice t))
     (Draws dice)
-    (refl, (long, refl)) (tells_nothing Mark tape) (sym (append-nil _)) (tells_nothing ℕ moments) tells
+    (long, refl) (tells_nothing Mark tape) (sym (append-nil _)) (tells_nothing ℕ moments) tells
     (calm (Draws dice ∷ []) _ _ refl refl refl (same f) (same e) kept))
 
 pub starts_served : (o : Site) (dice : List ℕ) (t : ℕ) → IsServed o (start o dice t)
@@ -81,7 +77,7 @@ starts_served o dice t = record {
 }
 
 pub no_room : (o : Site) (a : Tale) (dice : List ℕ) (t : ℕ) → Finished o a (duty o (start o dice t)) a ended.NoMemory t
-no_room o a dice t = stops o a (duty o (start o dice t)) t refl refl refl
+no_room o a dice t = stops o a (duty o (start o dice t)) t refl refl
 
 -- random bytes were not to be had
 pub unnamed : (o : Site) (t : ℕ) (v : Duty) (tape : Option (List Mark)) (turns : List Turn) (moments : Option (List ℕ))
@@ -89,20 +85,20 @@ pub unnamed : (o : Site) (t : ℕ) (v : Duty) (tape : Option (List Mark)) (turns
     → Finished o (tale tape turns moments drawn f e d) v (tale tape turns moments drawn' f e d') ended.DiceFault t
 unnamed o t v tape turns moments drawn drawn' f e d d' is tells kept rose =
     subst (λ (x : Duty). Finished o (tale tape turns moments drawn f e d) x (tale tape turns moments drawn' f e d') ended.DiceFault t) (sym is)
-    (no_dice o (record (opening o t) { due = Id ∷ [] }) t tape turns moments drawn drawn' f e d d' refl refl refl tells kept rose)
+    (no_dice o (record (opening o t) { due = Id ∷ [] }) t tape turns moments drawn drawn' f e d d' refl refl tells kept rose)
 
 pub concluded_after : (o : Site) (a b c : Tale) (u v : Duty) (end : End) → Grew o a u b v → Concluded o b v c end → Concluded o a u c end
 concluded_after o a b c u v (Over x t) grew h = finished_after grew h
 concluded_after o a b c u v NoTurn grew h = exhausted_after grew h
 
 -- what serves a connection is at its start
-pub at_start : (line : ℕ) (domain : List ℕ) (accounts : Book) (dice : List ℕ) (t : ℕ) (flow : State) (ahead : List ℕ) (number : ℕ) (given : List ℕ)
-    → flow ≡ fresh number given dice t → number ≡ line → given ≡ domain → ahead ≡ []
-    → IsAt (site_of line domain accounts) (start (site_of line domain accounts) dice t) flow ahead
-at_start line domain accounts dice t flow ahead number given is same host none = record {
+pub at_start : (line : ℕ) (domain : List ℕ) (accounts : Book) (dice : List ℕ) (t : ℕ) (flow : State) (ahead owed : List ℕ) (number : ℕ) (given : List ℕ)
+    → flow ≡ fresh number given dice t → number ≡ line → given ≡ domain → ahead ≡ [] → owed ≡ []
+    → IsAt (site_of line domain accounts) (start (site_of line domain accounts) dice t) flow ahead owed
+at_start line domain accounts dice t flow ahead owed number given is same host none clear = record {
   flow_is = sym (is ∙ ap (λ (n : ℕ). fresh n given dice t) same ∙ ap (λ (d : List ℕ). fresh line d dice t) host);
   ahead_is = sym none;
-  sent = refl;
+  owed_is = sym clear;
   served = starts_served (site_of line domain accounts) dice t;
 }
 
@@ -136,13 +132,10 @@ gone line domain accounts a v x t r turns turns' tape tape' moments drawn f f' e
     let next : Duty = record h.last { due = Left x ∷ [] } in
     let last : Duty = record next { owed = [] } in
     let goes : GoesOn o h.last (Enters turn) last = (
-      h.sent,
-      (
-        next,
-        subst (λ (due : List Due). EntersDue o h.last due turn.event (reply_of turn.outcome) next) (sym h.leaves)
-            (last_same line domain accounts h.last x t h.at, refl),
-        refl,
-      ),
+      next,
+      subst (λ (due : List Due). EntersDue o h.last due turn.event (reply_of turn.outcome) next) (sym h.leaves)
+          (h.sent, last_same line domain accounts h.last x t h.at, refl),
+      ap (λ (owed : List ℕ). record next { owed = owed }) (sym (append-nil _ ∙ h.sent)),
     ) in
     let left : Gone o a v (tale tape turns' moments drawn f e d) x = record {
       last = last;
@@ -162,7 +155,7 @@ leaving_spends due x is = ap enters_next is
 
 -- no turn was left for the last event
 pub gone_without : (o : Site) (a b : Tale) (v : Duty) (x : Ended) (t : ℕ) → Finished o a v b x t → Gone o a v b ended.Spent
-gone_without o a b v x t h = gone_spent o a v b (exhausted_after h.grew (spent o b h.last h.sent (leaving_spends h.last.due x h.leaves)))
+gone_without o a b v x t h = gone_spent o a v b (exhausted_after h.grew (spent o b h.last (leaving_spends h.last.due x h.leaves)))
 
 -- A whole connection.
 
@@ -312,7 +305,7 @@ never_opened o t fault line old new tape moments drawn f e d served =
     subst (λ (y : List Turn). Gone o (tale tape (turns_of line old) moments drawn f e d) (opening o t) (tale tape y moments drawn f e d) ended.Spent)
     (sym (open_turn line fault old new served))
     (gone_spent o (tale tape (turns_of line old) moments drawn f e d) (opening o t) (tale tape (turns_of line old) moments drawn f e d)
-    (spent o (tale tape (turns_of line old) moments drawn f e d) (opening o t) refl refl))
+    (spent o (tale tape (turns_of line old) moments drawn f e d) (opening o t) refl))
 
 -- what is legal is safe
 pub is_safe : (o : house.State) (h : List Turn) → IsOpening o → ∥ Legal o h ∥₁ → ∥ Safe o h ∥₁

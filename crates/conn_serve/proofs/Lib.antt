@@ -7,7 +7,8 @@ mod Leaving
 mod Listening
 mod Marking
 mod Openings
+mod Passing
+mod Sending
 mod Skipping
-mod Speaking
 mod Standing
 mod Turning

@@ -16,9 +16,7 @@ use Rattle.flow_laws.proofs.Causing.{CausedFrom, caused, closes, has_cause}
 use Rattle.flow_laws.proofs.DueEnds.{IsDue}
 use Rattle.conn_flow.specs.Following.{Told}
 use Rattle.conn_serve.specs.Connections.{Went, marked_at}
-use Rattle.conn_serve.specs.Serving.{Concluded, Finished, MarkedLeaving, Tale, last_of, marked_end, marked_next}
-use Rattle.conn_serve.specs.declared.turn.Next.{Next}
-use Rattle.conn_serve.specs.declared.turn.Next.TheVariants.{Goes, Finishes, Exhausts}
+use Rattle.conn_serve.specs.Serving.{Concluded, Finished, MarkedLeaving, Tale, last_of, marked_end}
 use Rattle.conn_serve.specs.declared.turn.End.{End}
 use Rattle.conn_serve.specs.declared.turn.End.TheVariants.{Over, NoTurn}
 use Rattle.conn_serve.proofs.Leaving.{no_short}
@@ -32,19 +30,20 @@ pub unsaid : (owed bytes rest : List ℕ) → owed ≡ [] → bytes ≢ [] → o
 unsaid owed [] rest none some sent = some refl
 unsaid owed (b ∷ bytes) rest none some sent = absurd (let e : [] ≡ b ∷ (bytes ++ rest) = sym none ∙ sent in cc)
 
-stops_none : (v w : Duty) (x y : Ended) → v.due ≡ Left x ∷ [] → Stopped v y w → ⊥
-stops_none v w x ended.NoMemory left h = absurd (let e : false ≡ true = ap goes_on (sym left) ∙ h.0 in cc)
-stops_none v w x ended.DiceFault left h = absurd (let e : false ≡ true = ap draws_next (sym left) ∙ h.0 in cc)
-stops_none v w x ended.Spent left h = absurd (let e : false ≡ true = ap enters_next (sym left) ∙ h.0 in cc)
-stops_none v w x ended.Closed left h = h
-stops_none v w x ended.Hung left h = h
-stops_none v w x ended.LinkFault left h = h
-stops_none v w x (ended.Broken f k) left h = h
-stops_none v w x (ended.BadHeader f) left h = h
-stops_none v w x (ended.BadItem f n) left h = h
-stops_none v w x ended.ThirdFailure left h = h
-stops_none v w x (ended.Idle t) left h = h
-stops_none v w x (ended.Over cause) left h = h
+stops_none : (v w : Duty) (x y : Ended) → v.due ≡ Left x ∷ [] → v.owed ≡ [] → Stopped v y w → ⊥
+stops_none v w x ended.NoMemory left none (inl goes, is) = absurd (let e : false ≡ true = ap goes_on (sym left) ∙ goes in cc)
+stops_none v w x ended.NoMemory left none (inr some, is) = some none
+stops_none v w x ended.DiceFault left none h = absurd (let e : false ≡ true = ap draws_next (sym left) ∙ h.0 in cc)
+stops_none v w x ended.Spent left none h = absurd (let e : false ≡ true = ap enters_next (sym left) ∙ h.0 in cc)
+stops_none v w x ended.Closed left none h = h
+stops_none v w x ended.Hung left none h = h
+stops_none v w x ended.LinkFault left none h = h
+stops_none v w x (ended.Broken f k) left none h = h
+stops_none v w x (ended.BadHeader f) left none h = h
+stops_none v w x (ended.BadItem f n) left none h = h
+stops_none v w x ended.ThirdFailure left none h = h
+stops_none v w x (ended.Idle t) left none h = h
+stops_none v w x (ended.Over cause) left none h = h
 
 nothing_next : (o : Site) (v w : Duty) (x : Ended) (m : Move) → v.due ≡ Left x ∷ [] → v.owed ≡ [] → GoesOn o v m w → ⊥
 nothing_next o v w x (Hears bytes t) left none h = some_due v.due x left h.1
@@ -52,15 +51,15 @@ nothing_next o v w x (Waits t) left none h = some_due v.due x left h.1
 nothing_next o v w x (Hangs t) left none h = some_due v.due x left h.1
 nothing_next o v w x (Fails t) left none (inl due, is) = some_due v.due x left due
 nothing_next o v w x (Fails t) left none (inr some, is) = some none
-nothing_next o v w x Takes left none h = let no : TakesDue o v (Left x ∷ []) w = subst (λ (d : List Due). TakesDue o v d w) left h.1 in no
-nothing_next o v w x (Says text) left none h = let no : SaysDue v (Left x ∷ []) text w = subst (λ (d : List Due). SaysDue v d text w) left h.1 in no
+nothing_next o v w x Takes left none h = let no : TakesDue o v (Left x ∷ []) w = subst (λ (d : List Due). TakesDue o v d w) left h in no
+nothing_next o v w x (Says text) left none h = let no : SaysDue v (Left x ∷ []) text w = subst (λ (d : List Due). SaysDue v d text w) left h in no
 nothing_next o v w x (Sends bytes) left none (some, sent, is) = unsaid v.owed bytes w.owed none some sent
-nothing_next o v w x (Enters turn) left none (owes, (next, entered, is)) =
+nothing_next o v w x (Enters turn) left none (next, entered, is) =
     let no : EntersDue o v (Left x ∷ []) turn.event (reply_of turn.outcome) next =
     subst (λ (d : List Due). EntersDue o v d turn.event (reply_of turn.outcome) next) left entered
     in no
-nothing_next o v w x (Draws dice) left none h = let no : DrawsDue o v (Left x ∷ []) dice w = subst (λ (d : List Due). DrawsDue o v d dice w) left h.1 in no
-nothing_next o v w x (Stops y) left none h = stops_none v w x y left h.1
+nothing_next o v w x (Draws dice) left none h = let no : DrawsDue o v (Left x ∷ []) dice w = subst (λ (d : List Due). DrawsDue o v d dice w) left h in no
+nothing_next o v w x (Stops y) left none h = stops_none v w x y left none h
 
 pub stays_left : (o : Site) (v w : Duty) (x : Ended) (ms : List Move) → v.due ≡ Left x ∷ [] → v.owed ≡ [] → GoesThrough o v ms w → w ≡ v
 stays_left o v w x [] left none h = h
@@ -103,8 +102,8 @@ spent_left o v moves w c through =
     (subst (λ (m : Move). GoesThrough o v (c.before ++ m ∷ c.after) w) (spent_makes o c.from c.to c.move c.makes)
     (subst (λ (ms : List Move). GoesThrough o v ms w) c.split through))
     in
-    let left : s.to.due ≡ Left ended.Spent ∷ [] = ap (λ (u : Duty). u.due) {y = record s.from { due = Left ended.Spent ∷ [] }} s.goes.1.1 in
-    let none : s.to.owed ≡ [] = ap (λ (u : Duty). u.owed) {y = record s.from { due = Left ended.Spent ∷ [] }} s.goes.1.1 ∙ s.goes.0 in
+    let left : s.to.due ≡ Left ended.Spent ∷ [] = ap (λ (u : Duty). u.due) {y = record s.from { due = Left ended.Spent ∷ []; owed = [] }} s.goes.1 in
+    let none : s.to.owed ≡ [] = ap (λ (u : Duty). u.owed) {y = record s.from { due = Left ended.Spent ∷ []; owed = [] }} s.goes.1 in
     let same : w ≡ s.to = stays_left o s.to w ended.Spent c.after left none s.more in
     ap (λ (u : Duty). u.due) {y = s.to} same ∙ left
 
@@ -120,11 +119,6 @@ never_spent o t u a b h =
     ]
 
 -- The mark.
-
-pub marks_on : (n : Next) (marked : Bool) → n ≢ Exhausts → marked_next n marked ≡ marked
-marks_on Goes marked on = refl
-marks_on (Finishes x t) marked on = refl
-marks_on Exhausts marked on = absurd (on refl)
 
 pub refused_marks : (fault : DeskFault) (line : ℕ) (x : Ended) (t : ℕ) (old new : List Turn) (marked : Bool)
     → Served line (last_of line x t) [] (Err fault) old new

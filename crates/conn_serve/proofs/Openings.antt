@@ -1,6 +1,6 @@
 -- A connection tells the house once that it came, and that first.
 use Rattle.std.proofs.Common.{◌≡◌, ℕ, ◌+◌, min, List, [], ◌∷◌, Bool, true, false, refl, sym, ap, subst, inl, inr, ◌∙◌, Option, Some, None, Result, Ok, Err}
-use Rattle.std.specs.Prelude.{if◌then◌else◌, nat_lt, nat_le}
+use Rattle.std.specs.Prelude.{if◌then◌else◌, nat_lt}
 use Rattle.stanza_tree.specs.declared.node.Element.{Element}
 use Rattle.jid_core.specs.Addresses.{Address, part_of}
 use Rattle.jid_core.specs.Preparation.{resource_of}
@@ -40,7 +40,7 @@ use Rattle.conn_flow.specs.Streams.{cut}
 use Rattle.conn_flow.specs.Moves.{Move, Hears, Waits, Hangs, Fails, Takes, Says, Sends, Enters, Draws, Stops, turns}
 use Rattle.conn_flow.specs.Duties.{AsksIf, Site, Due, Opens, Rest, Text, Id, Dice, Submits, LogsIn, PullsOnce, Pulls, Sweeps, Leaves}
 use Rattle.conn_flow.specs.Duties.{Left, Duty, after_failure, answered, answered_login, asked_due, counts_failure, drew, end_due, ends}
-use Rattle.conn_flow.specs.Duties.{error_due, follows, numbered, pulled, pulled_once, swept, last_event}
+use Rattle.conn_flow.specs.Duties.{error_due, follows, is_idle, is_overdue, numbered, pulled, pulled_once, swept, last_event}
 use Rattle.conn_flow.specs.Following.{DrawsDue, EntersDue, GoesOn, GoesThrough, SaysDue, Stopped, TakesDue, opening, reply_of, rest_due}
 use Rattle.conn_serve.specs.Shifts.{is_opening}
 use Rattle.conn_serve.proofs.Marking.{stays_left, unsaid}
@@ -288,7 +288,7 @@ enters_quiet o v (PullsOnce ∷ rest) e r next (event, is) h =
     (ap is_opening event, subst (λ (u : Duty). IsQuiet u.due) (sym is) (once_quiet o v r rest h))
 enters_quiet o v (Pulls ∷ rest) e r next (event, is) h = (ap is_opening event, subst (λ (u : Duty). IsQuiet u.due) (sym is) (pulls_quiet o v r))
 enters_quiet o v (Sweeps ∷ rest) e r next (event, is) h = (ap is_opening event, subst (λ (u : Duty). IsQuiet u.due) (sym is) (sweeps_quiet v r))
-enters_quiet o v (Leaves y ∷ rest) e r next (event, is) h =
+enters_quiet o v (Leaves y ∷ rest) e r next (owes, event, is) h =
     (ap is_opening event ∙ last_quiet o v y, subst (λ (u : Duty). IsQuiet u.due) (sym is) tt)
 enters_quiet o v (Opens ∷ rest) e r next entered h = absurd h
 enters_quiet o v [] e r next entered h = absurd entered
@@ -335,9 +335,9 @@ draws_quiet o v (Sweeps ∷ rest) dice w drawn h = absurd drawn
 draws_quiet o v (Leaves y ∷ rest) dice w drawn h = absurd drawn
 draws_quiet o v (Left y ∷ rest) dice w drawn h = absurd drawn
 
-waits_quiet : (o : Site) (v : Duty) (late : Bool) → IsQuiet (if late then ends o v (ended.Idle v.moment) else record v { due = Pulls ∷ [] }).due
-waits_quiet o v true = end_quiet o v (ended.Idle v.moment)
-waits_quiet o v false = tt
+late_quiet : (o : Site) (v w : Duty) (t : ℕ) (late : Bool) → IsQuiet w.due → IsQuiet (if late then ends o v (ended.Idle t) else w).due
+late_quiet o v w t true h = end_quiet o v (ended.Idle t)
+late_quiet o v w t false h = h
 
 stops_quiet : (v : Duty) (y : Ended) (w : Duty) → Stopped v y w → IsQuiet w.due
 stops_quiet v ended.DiceFault w (may, is) = subst (λ (u : Duty). IsQuiet u.due) (sym is) tt
@@ -360,18 +360,21 @@ NoneOpens [] = Unit {0}
 NoneOpens (x ∷ more) = (is_opening x.event ≡ false) × NoneOpens more
 
 quiet_next : (o : Site) (v : Duty) (m : Move) (w : Duty) → GoesOn o v m w → IsQuiet v.due → IsQuiet w.due
-quiet_next o v (Hears bytes t) w (owes, none, some, is) h = subst (λ (u : Duty). IsQuiet u.due) (sym is) tt
+quiet_next o v (Hears bytes t) w (owes, none, some, is) h =
+    subst (λ (u : Duty). IsQuiet u.due) (sym is)
+    (late_quiet o (record v { moment = t }) (record v { heard = t; moment = t; due = Rest bytes ∷ [] }) t (is_overdue v.stage v.opened t) tt)
 quiet_next o v (Waits t) w (owes, none, is) h =
-    subst (λ (u : Duty). IsQuiet u.due) (sym is) (waits_quiet o (record v { moment = t }) (nat_le (v.heard + 3600000) t))
+    subst (λ (u : Duty). IsQuiet u.due) (sym is)
+    (late_quiet o (record v { moment = t }) (record v { moment = t; due = Pulls ∷ [] }) t (is_idle v.stage v.opened v.heard t) tt)
 quiet_next o v (Hangs t) w (owes, none, is) h = subst (λ (u : Duty). IsQuiet u.due) (sym is) (end_quiet o (record v { moment = t }) ended.Hung)
 quiet_next o v (Fails t) w (may, is) h = subst (λ (u : Duty). IsQuiet u.due) (sym is) tt
-quiet_next o v Takes w (owes, taken) h = takes_now o v v.due w taken
-quiet_next o v (Says text) w (owes, said) h = says_quiet v v.due text w said h
+quiet_next o v Takes w taken h = takes_now o v v.due w taken
+quiet_next o v (Says text) w said h = says_quiet v v.due text w said h
 quiet_next o v (Sends bytes) w (some, sent, is) h = subst (λ (u : Duty). IsQuiet u.due) (sym is) h
-quiet_next o v (Enters turn) w (owes, (next, entered, is)) h =
+quiet_next o v (Enters turn) w (next, entered, is) h =
     subst (λ (u : Duty). IsQuiet u.due) (sym is) (enters_quiet o v v.due turn.event (reply_of turn.outcome) next entered h).1
-quiet_next o v (Draws dice) w (owes, drawn) h = draws_quiet o v v.due dice w drawn h
-quiet_next o v (Stops y) w (owes, stopped) h = stops_quiet v y w stopped
+quiet_next o v (Draws dice) w drawn h = draws_quiet o v v.due dice w drawn h
+quiet_next o v (Stops y) w stopped h = stops_quiet v y w stopped
 
 quiet_through : (o : Site) (v : Duty) (ms : List Move) (w : Duty) → GoesThrough o v ms w → IsQuiet v.due → NoneOpens (turns ms)
 quiet_through o v [] w h q = tt
@@ -385,7 +388,7 @@ quiet_through o v (Sends bytes ∷ ms) w (mid, goes, more) q = quiet_through o m
 quiet_through o v (Draws dice ∷ ms) w (mid, goes, more) q = quiet_through o mid ms w more (quiet_next o v (Draws dice) mid goes q)
 quiet_through o v (Stops y ∷ ms) w (mid, goes, more) q = quiet_through o mid ms w more (quiet_next o v (Stops y) mid goes q)
 quiet_through o v (Enters turn ∷ ms) w (mid, goes, more) q = (
-  (enters_quiet o v v.due turn.event (reply_of turn.outcome) goes.1.0 goes.1.1 q).0,
+  (enters_quiet o v v.due turn.event (reply_of turn.outcome) goes.0 goes.1 q).0,
   quiet_through o mid ms w more (quiet_next o v (Enters turn) mid goes q),
 )
 
@@ -409,7 +412,8 @@ stopped_first o t ended.Spent mid w x ms not left (may, is) more =
     let due : mid.due ≡ Left ended.Spent ∷ [] = ap (λ (u : Duty). u.due) is in
     let owed : mid.owed ≡ [] = ap (λ (u : Duty). u.owed) is in
     not (same_left x ended.Spent (sym left ∙ ap (λ (u : Duty). u.due) (stays_left o mid w ended.Spent ms due owed more) ∙ due))
-stopped_first o t ended.NoMemory mid w x ms not left (may, is) more = absurd (let e : false ≡ true = may in cc)
+stopped_first o t ended.NoMemory mid w x ms not left (inl may, is) more = absurd (let e : false ≡ true = may in cc)
+stopped_first o t ended.NoMemory mid w x ms not left (inr some, is) more = absurd (some refl)
 stopped_first o t ended.DiceFault mid w x ms not left (may, is) more = absurd (let e : false ≡ true = may in cc)
 stopped_first o t ended.Closed mid w x ms not left h more = h
 stopped_first o t ended.Hung mid w x ms not left h more = h
@@ -429,12 +433,12 @@ is_piece o t (Waits u ∷ ms) w x not (mid, goes, more) left = absurd (some_open
 is_piece o t (Hangs u ∷ ms) w x not (mid, goes, more) left = absurd (some_opens (Id ∷ []) goes.1)
 is_piece o t (Fails u ∷ ms) w x not (mid, (inl none, is), more) left = absurd (some_opens (Id ∷ []) none)
 is_piece o t (Fails u ∷ ms) w x not (mid, (inr some, is), more) left = absurd (some refl)
-is_piece o t (Takes ∷ ms) w x not (mid, goes, more) left = absurd goes.1
-is_piece o t (Says text ∷ ms) w x not (mid, goes, more) left = absurd goes.1
+is_piece o t (Takes ∷ ms) w x not (mid, goes, more) left = absurd goes
+is_piece o t (Says text ∷ ms) w x not (mid, goes, more) left = absurd goes
 is_piece o t (Sends bytes ∷ ms) w x not (mid, (some, sent, is), more) left = absurd (unsaid [] bytes mid.owed refl some sent)
-is_piece o t (Draws dice ∷ ms) w x not (mid, goes, more) left = absurd goes.1
-is_piece o t (Stops y ∷ ms) w x not (mid, goes, more) left = absurd (stopped_first o t y mid w x ms not left goes.1 more)
-is_piece o t (Enters turn ∷ ms) w x not (mid, (owes, (next, (event, entered), is)), more) left =
+is_piece o t (Draws dice ∷ ms) w x not (mid, goes, more) left = absurd goes
+is_piece o t (Stops y ∷ ms) w x not (mid, goes, more) left = absurd (stopped_first o t y mid w x ms not left goes more)
+is_piece o t (Enters turn ∷ ms) w x not (mid, (next, (event, entered), is), more) left =
     let due : mid.due ≡ Id ∷ [] = ap (λ (u : Duty). u.due) is ∙ ap (λ (u : Duty). u.due) entered in
     record {
       first = turn;

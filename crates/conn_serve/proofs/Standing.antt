@@ -8,8 +8,10 @@ use Rattle.conn_flow.specs.declared.phase.Phase.TheVariants.{LoggedIn, PullingOn
 use Rattle.conn_flow.specs.declared.talk.Talk.{Talk}
 use Rattle.conn_flow.specs.Duties.{Due, Duty, Site}
 use Rattle.conn_flow.specs.Following.{goes_on}
+use Rattle.conn_flow.specs.Flows.{State, wished}
 use Rattle.flow_laws.specs.Standing.{IsServed, Place, drew_if, duty, duty_at, idle, known}
 use Rattle.flow_laws.proofs.Places.{end_due_same}
+use Rattle.conn_serve.specs.Serving.{IsAt}
 
 -- what is owed and the moment are the place's
 
@@ -72,6 +74,25 @@ owed_at o s stream front ahead owed (Left x) = refl
 pub duty_owes : (o : Site) (p : Place) → (duty o p).owed ≡ p.owed
 duty_owes o p = owed_at o p.flow.talk p.stream p.front p.ahead p.owed p.flow.talk.phase
 
+-- what a flow wants leaves the moment
+
+pub wished_moment : (s : Talk) (p : Phase) → (wished s p).moment ≡ s.moment
+wished_moment s Saying = refl
+wished_moment s (Refusing f) = refl
+wished_moment s Drawing = refl
+wished_moment s Entering = refl
+wished_moment s LoggingIn = refl
+wished_moment s (Parting x) = refl
+wished_moment s Resting = refl
+wished_moment s Heard = refl
+wished_moment s (Drawn dice) = refl
+wished_moment s (Entered pulls) = refl
+wished_moment s LoggedIn = refl
+wished_moment s PullingOnce = refl
+wished_moment s Pulling = refl
+wished_moment s Sweeping = refl
+wished_moment s (Left x) = refl
+
 -- after all was sent
 
 owing_at : (o : Site) (s : Talk) (stream front ahead owed other : List ℕ) (p : Phase)
@@ -110,6 +131,10 @@ served_owing o p owed h = record {
   all = h.all;
   timed = h.timed;
 }
+
+pub owing : (o : Site) (p : Place) (flow : State) (ahead owed other : List ℕ) → IsAt o p flow ahead owed → IsAt o (record p { owed = other }) flow ahead other
+owing o p flow ahead owed other at =
+    record { flow_is = at.flow_is; ahead_is = at.ahead_is; owed_is = refl; served = served_owing o p other at.served }
 
 -- where a flow rests
 

@@ -1,5 +1,5 @@
 -- One want of a flow, and what answers it.
-use Rattle.std.proofs.Common.{◌≡◌, ℕ, List, [], ◌∷◌, ◌++◌, false, Option, Some, None, refl, sym, ap, subst, append_assoc, ◌∙◌}
+use Rattle.std.proofs.Common.{◌≡◌, ℕ, ◌+◌, ◌≤◌, List, [], ◌∷◌, ◌++◌, length, false, Option, Some, None, refl, sym, ap, subst, append_assoc, arith, ◌∙◌}
 use Rattle.std.proofs.lemmas.List.{append-nil}
 use Rattle.outside.specs.Tapes.{Mark, Tells}
 use Rattle.account_book.specs.Lists.{Book}
@@ -21,23 +21,16 @@ use Rattle.conn_flow.specs.Following.{GoesOn}
 use Rattle.conn_flow.specs.Flows.{IsGoing, IsLoaded, IsThere, IsWish, State, ToAwait, ToDraw, ToFinish, ToSay, ToSubmit, Wants}
 use Rattle.conn_flow.specs.Flows.{event_wish, last_text, login_wish, parting_wish, wish, wish_of, wished}
 use Rattle.flow_laws.specs.Standing.{IsServed, Place, duty}
-use Rattle.flow_laws.specs.Steps.{AreTakes, Comes, says_at, wishes_at}
+use Rattle.flow_laws.specs.Steps.{AreTakes, Comes, ends_at, handling, says_at, wishes_at}
 use Rattle.conn_serve.specs.declared.turn.Next.{Next}
-use Rattle.conn_serve.specs.declared.turn.Next.TheVariants.{Goes, Finishes, Exhausts}
-use Rattle.conn_serve.specs.Serving.{Came, Exhausted, Finished, Grew, IsAt, IsStanding, Spoke, Tale, Turned, has, is_fail, is_hang, is_no_dice}
-use Rattle.conn_serve.proofs.Growing.{exhausted_after, finished_after, grew_both, grew_nothing, tells_nothing}
+use Rattle.conn_serve.specs.Rounds.{Turned}
+use Rattle.conn_serve.specs.Serving.{Came, Finished, Grew, IsAt, Moved, Tale, has, is_fail, is_hang, is_no_dice}
+use Rattle.conn_serve.proofs.Growing.{grew_nothing, tells_nothing}
 use Rattle.conn_serve.proofs.Laws as L
-use Rattle.conn_serve.proofs.Listening.{one, stops}
-use Rattle.conn_serve.proofs.Entering.{spoke_on}
-use Rattle.conn_serve.proofs.Speaking.{calm, same}
-use Rattle.conn_serve.proofs.Standing.{duty_moment, duty_owes}
-
--- what comes after goes with what came before
-pub turned_after : (o : Site) (a b c : Tale) (u v : Duty) (flow : State) (ahead : List ℕ) (result : Next)
-    → Grew o a u b v → Turned o b v c flow ahead result → Turned o a u c flow ahead result
-turned_after o a b c u v flow ahead Goes grew came = record { to = came.to; at = came.at; grew = grew_both grew came.grew }
-turned_after o a b c u v flow ahead (Finishes x t) grew over = finished_after grew over
-turned_after o a b c u v flow ahead Exhausts grew over = exhausted_after grew over
+use Rattle.conn_serve.proofs.Listening.{grew_same, one, stops}
+use Rattle.conn_serve.proofs.Passing.{turned_after}
+use Rattle.conn_serve.proofs.Sending.{calm, same}
+use Rattle.conn_serve.proofs.Standing.{duty_moment, wished_moment}
 
 -- handling an item needs no count to rise
 
@@ -80,7 +73,7 @@ no_stop (Enters turn ∷ ms) h = absurd h
 no_stop (Draws dice ∷ ms) h = absurd h
 no_stop (Stops x ∷ ms) h = absurd h
 
-comes_grew : (o : Site) (a : Tale) (p : Place) (s : State) (c : Comes o p s) → Grew o a (duty o p) a (duty o c.to)
+abbrev comes_grew : (o : Site) (a : Tale) (p : Place) (s : State) (c : Comes o p s) → Grew o a (duty o p) a (duty o c.to)
 comes_grew o a p s c = record {
   moves = c.moves;
   through = c.through;
@@ -94,35 +87,46 @@ comes_grew o a p s c = record {
 
 -- What was handled before a want.
 
-pub record Handled (o : Site) (p : Place) (ahead : List ℕ) (want : Want) (flow : State) : Type 0 where
+pub record Handled (o : Site) (p : Place) (ahead owed : List ℕ) (want : Want) (flow : State) : Type 0 where
   pub to : Place
   pub served : IsServed o to
-  pub owes : to.owed ≡ []
   pub ahead_is : to.ahead ≡ ahead
+  pub owes : to.owed ≡ owed
   pub grew : (a : Tale) → Grew o a (duty o p) a (duty o to)
+  pub enough : (a : Tale) → handling p.flow.talk.phase ≤ length (grew a).moves
   pub wishes : IsWish want (wish_of to.flow)
   pub now : flow ≡ wishes_at to.flow
 
-handled_here : (o : Site) (p : Place) (want : Want) (flow' : State) → IsServed o p → p.owed ≡ [] → Wants o.accounts p.flow want flow'
-    → Handled o p p.ahead want flow'
-handled_here o p want flow' h owes w =
-    let c : Comes o p w.0 = L.handles o p w.0 h owes w.1 in
+handled_here : (o : Site) (p : Place) (want : Want) (flow' : State) → IsServed o p → Wants o.accounts p.flow want flow'
+    → Handled o p p.ahead p.owed want flow'
+handled_here o p want flow' h w =
+    let c : Comes o p w.0 = L.handles o p w.0 h w.1 in
     record {
       to = c.to;
       served = c.served;
-      owes = c.owes_none;
       ahead_is = c.ahead_is;
+      owes = c.owed_is;
       grew = λ a. comes_grew o a p w.0 c;
+      enough = λ a. c.counted;
       wishes = subst (λ (s : State). IsWish want (wish_of s)) (sym c.flow_is) w.2;
       now = w.3 ∙ ap wishes_at (sym c.flow_is);
     }
 
-pub handled : (o : Site) (p : Place) (flow : State) (ahead : List ℕ) (accounts : Book) (want : Want) (flow' : State)
-    → IsAt o p flow ahead → o.accounts ≡ accounts → Wants accounts flow want flow' → Handled o p ahead want flow'
-handled o p flow ahead accounts want flow' at accounts_are w =
-    subst (λ (x : List ℕ). Handled o p x want flow') at.ahead_is
-    (handled_here o p want flow' at.served at.sent
-    (subst (λ (b : Book). Wants b p.flow want flow') (sym accounts_are) (subst (λ (s : State). Wants accounts s want flow') (sym at.flow_is) w)))
+pub handled : (o : Site) (p : Place) (flow : State) (ahead owed : List ℕ) (accounts : Book) (want : Want) (flow' : State)
+    → IsAt o p flow ahead owed → o.accounts ≡ accounts → Wants accounts flow want flow' → Handled o p ahead owed want flow'
+handled o p flow ahead owed accounts want flow' at accounts_are w =
+    subst (λ (x : List ℕ). Handled o p x owed want flow') at.ahead_is
+    (subst (λ (x : List ℕ). Handled o p p.ahead x want flow') at.owed_is
+    (handled_here o p want flow' at.served
+    (subst (λ (b : Book). Wants b p.flow want flow') (sym accounts_are) (subst (λ (s : State). Wants accounts s want flow') (sym at.flow_is) w))))
+
+-- what answers a want goes on from there
+pub answered : (o : Site) (a b : Tale) (p : Place) (flow : State) (ahead owed : List ℕ) (want : Want) (flow1 flow' : State) (ahead' owed' : List ℕ)
+    (result : Next) (h : Handled o p ahead owed want flow1) → p.flow ≡ flow → Turned 1 o a (duty o h.to) b flow' ahead' owed' result
+    → Turned (handling flow.talk.phase + 1) o a (duty o p) b flow' ahead' owed' result
+answered o a b p flow ahead owed want flow1 flow' ahead' owed' result h is turned =
+    subst (λ (s : State). Turned (handling s.talk.phase + 1) o a (duty o p) b flow' ahead' owed' result) is
+    (turned_after o a a b (duty o p) (duty o h.to) flow' ahead' owed' (handling p.flow.talk.phase) 1 result (h.grew a) (h.enough a) turned)
 
 -- Where nothing is handed over the flow is as it was.
 
@@ -184,87 +188,75 @@ draws_same s (Left x) w = refl
 draws_same s Saying w = absurd (let d : ToSay s.text ≡ ToDraw = w in cc)
 draws_same s (Refusing f) w = absurd (let d : ToSay (failure_text f) ≡ ToDraw = w in cc)
 
-wished_moment : (s : Talk) (p : Phase) → (wished s p).moment ≡ s.moment
-wished_moment s Saying = refl
-wished_moment s (Refusing f) = refl
-wished_moment s Drawing = refl
-wished_moment s Entering = refl
-wished_moment s LoggingIn = refl
-wished_moment s (Parting x) = refl
-wished_moment s Resting = refl
-wished_moment s Heard = refl
-wished_moment s (Drawn dice) = refl
-wished_moment s (Entered pulls) = refl
-wished_moment s LoggedIn = refl
-wished_moment s PullingOnce = refl
-wished_moment s Pulling = refl
-wished_moment s Sweeping = refl
-wished_moment s (Left x) = refl
-
 pub waits_at : (o : Site) (p : Place) (flow : State) → IsServed o p → wish_of p.flow ≡ ToAwait → flow ≡ wishes_at p.flow → flow ≡ p.flow
 waits_at o p flow h w now = now ∙ ap (λ (s : Talk). record p.flow { talk = s }) (waits_same p.flow.talk p.flow.talk.phase h.loaded w)
 
 pub draws_at : (p : Place) (flow : State) → wish_of p.flow ≡ ToDraw → flow ≡ wishes_at p.flow → flow ≡ p.flow
 draws_at p flow w now = now ∙ ap (λ (s : Talk). record p.flow { talk = s }) (draws_same p.flow.talk p.flow.talk.phase w)
 
--- The ends of a turn.
+-- What is said is owed.
 
-pub says_then : (o : Site) (a b : Tale) (p : Place) (ahead : List ℕ) (want : Want) (flow' : State) (text : List ℕ) (result : Next)
-    (h : Handled o p ahead want flow') → wish_of h.to.flow ≡ ToSay text
-    → ((v : Duty) → v.owed ≡ text → Spoke o a v b result) → Turned o a (duty o p) b flow' ahead result
-says_then o a b p ahead want flow' text result h w spoke =
+pub says_then : (o : Site) (a : Tale) (p : Place) (ahead owed owed' : List ℕ) (want : Want) (flow' : State) (text : List ℕ)
+    (h : Handled o p ahead owed want flow') → wish_of h.to.flow ≡ ToSay text → owed' ≡ owed ++ text → Moved 1 o a (duty o h.to) a flow' ahead owed'
+says_then o a p ahead owed owed' want flow' text h w grown =
     let q : Place = says_at h.to text in
-    let law : GoesOn o (duty o h.to) (Says text) (duty o q) × IsServed o q = L.says o h.to text h.served h.owes w in
-    spoke_on o a a p q flow' ahead result law.1 (sym h.now) h.ahead_is
-    (grew_both (h.grew a)
-    (one o a a (duty o h.to) (duty o q) (Says text) law.0 (tells_nothing Mark a.told.tape) (sym (append-nil _))
-    (tells_nothing ℕ a.told.moments) (tells_nothing (List ℕ) a.told.drawn)
-    (calm (Says text ∷ []) a.counts a.counts refl refl refl (same a.counts.faults) (same a.counts.ends) (same a.counts.dice))))
-    b (spoke (duty o q) (duty_owes o q))
+    let law : GoesOn o (duty o h.to) (Says text) (duty o q) × IsServed o q = L.says o h.to text h.served w in
+    record {
+      came = record {
+        to = q;
+        at = record {
+          flow_is = sym h.now;
+          ahead_is = h.ahead_is;
+          owed_is = ap (λ (x : List ℕ). x ++ text) h.owes ∙ sym grown;
+          served = law.1;
+        };
+        grew = one o a a (duty o h.to) (duty o q) (Says text) law.0 (tells_nothing Mark a.told.tape) (sym (append-nil _))
+            (tells_nothing ℕ a.told.moments) (tells_nothing (List ℕ) a.told.drawn)
+            (calm (Says text ∷ []) a.counts a.counts refl refl refl (same a.counts.faults) (same a.counts.ends) (same a.counts.dice));
+      };
+      enough = omega arith;
+    }
 
-pub finishes_now : (o : Site) (a : Tale) (p : Place) (ahead : List ℕ) (want : Want) (flow' : State) (x : Ended) (t : ℕ)
-    (h : Handled o p ahead want flow') → wish_of h.to.flow ≡ ToFinish x → t ≡ flow'.talk.moment → Finished o a (duty o p) a x t
-finishes_now o a p ahead want flow' x t h w at = record {
-  last = duty o h.to;
-  grew = h.grew a;
-  leaves = L.ends o h.to x w;
-  sent = duty_owes o h.to ∙ h.owes;
-  at = duty_moment o h.to ∙ sym (at ∙ ap (λ (s : State). s.talk.moment) h.now ∙ wished_moment h.to.flow.talk h.to.flow.talk.phase);
-}
+no_end : {text : List ℕ} {x : Ended} → ToSay text ≡ ToFinish x → ⊥
+no_end e = cc
 
-pub short_of_memory : (o : Site) (a : Tale) (p : Place) (flow : State) (ahead : List ℕ) (t : ℕ) → IsAt o p flow ahead → IsGoing flow.talk flow.talk.phase
-    → t ≡ flow.talk.moment → Finished o a (duty o p) a ended.NoMemory t
-short_of_memory o a p flow ahead t at going now =
-    stops o a (duty o p) t (duty_owes o p ∙ at.sent)
-    (L.goes o p (subst (λ (s : State). IsGoing s.talk s.talk.phase) (sym at.flow_is) going))
+-- or there was no memory for it
+pub says_none : (o : Site) (a : Tale) (p : Place) (ahead owed : List ℕ) (want : Want) (flow' : State) (text : List ℕ) (t : ℕ)
+    (h : Handled o p ahead owed want flow') → wish_of h.to.flow ≡ ToSay text → t ≡ flow'.talk.moment → Finished o a (duty o h.to) a ended.NoMemory t
+says_none o a p ahead owed want flow' text t h w now =
+    stops o a (duty o h.to) t (L.wants_on o h.to (λ x end. no_end (sym w ∙ end)))
+    (duty_moment o h.to ∙ sym (now ∙ ap (λ (s : State). s.talk.moment) h.now ∙ wished_moment h.to.flow.talk h.to.flow.talk.phase))
+
+-- The flow is over.
+
+pub over_now : (o : Site) (a : Tale) (p : Place) (ahead owed : List ℕ) (want : Want) (flow' : State) (x : Ended)
+    (h : Handled o p ahead owed want flow') → wish_of h.to.flow ≡ ToFinish x → Came o a (duty o h.to) a flow' ahead owed × (wish_of flow' ≡ ToFinish x)
+over_now o a p ahead owed want flow' x h w =
+    let law : (duty o (ends_at h.to) ≡ duty o h.to) × IsServed o (ends_at h.to) × (wish_of (ends_at h.to).flow ≡ ToFinish x) = L.over o h.to x h.served w in (
+      record {
+        to = ends_at h.to;
+        at = record { flow_is = sym h.now; ahead_is = h.ahead_is; owed_is = h.owes; served = law.1 };
+        grew = grew_same o a (duty o (ends_at h.to)) (duty o h.to) law.0;
+      },
+      ap wish_of h.now ∙ law.2,
+    )
+
+pub short_of_memory : (o : Site) (a : Tale) (p : Place) (flow : State) (ahead owed : List ℕ) (t : ℕ) → IsAt o p flow ahead owed
+    → IsGoing flow.talk flow.talk.phase → t ≡ flow.talk.moment → Finished o a (duty o p) a ended.NoMemory t
+short_of_memory o a p flow ahead owed t at going now =
+    stops o a (duty o p) t (L.goes o p (subst (λ (s : State). IsGoing s.talk s.talk.phase) (sym at.flow_is) going))
     (duty_moment o p ∙ ap (λ (s : State). s.talk.moment) at.flow_is ∙ sym now)
 
--- The loop.
-
-pub came_both : (o : Site) (a b c : Tale) (u : Duty) (flow flow' : State) (ahead ahead' : List ℕ) → Came o a u b flow ahead
-    → ((p : Place) → IsAt o p flow ahead → Came o b (duty o p) c flow' ahead') → Came o a u c flow' ahead'
-came_both o a b c u flow flow' ahead ahead' first next =
-    let then : Came o b (duty o first.to) c flow' ahead' = next first.to first.at in
-    record { to = then.to; at = then.at; grew = grew_both first.grew then.grew }
-
-pub over_both : (o : Site) (a b c : Tale) (u : Duty) (flow : State) (ahead : List ℕ) (x : Ended) (t : ℕ) → Came o a u b flow ahead
-    → ((p : Place) → IsAt o p flow ahead → Finished o b (duty o p) c x t) → Finished o a u c x t
-over_both o a b c u flow ahead x t first next = finished_after first.grew (next first.to first.at)
-
-pub exhausted_both : (o : Site) (a b c : Tale) (u : Duty) (flow : State) (ahead : List ℕ) → Came o a u b flow ahead
-    → ((p : Place) → IsAt o p flow ahead → Exhausted o b (duty o p) c) → Exhausted o a u c
-exhausted_both o a b c u flow ahead first next = exhausted_after first.grew (next first.to first.at)
-
-pub stays : (o : Site) (a : Tale) (p : Place) (flow : State) (ahead : List ℕ) → IsAt o p flow ahead → Came o a (duty o p) a flow ahead
-stays o a p flow ahead at = record { to = p; at = at; grew = grew_nothing o a (duty o p) }
-
-pub stands_on : (line : ℕ) (accounts : Book) (flow flow' : State) (ahead ahead' : List ℕ) (a b : Tale) → (s : IsStanding line accounts flow ahead)
-    → Came s.site a (duty s.site s.place) b flow' ahead' → IsStanding line accounts flow' ahead'
-stands_on line accounts flow flow' ahead ahead' a b s came =
-    record { site = s.site; place = came.to; line_is = s.line_is; accounts_are = s.accounts_are; at = came.at }
+-- where it waits, and nothing is left to be heard
+abbrev pub rests_here : (o : Site) (a : Tale) (p : Place) (flow : State) (ahead owed : List ℕ) → IsAt o p flow ahead owed → Came o a
+    (duty o p) a flow ahead owed
+rests_here o a p flow ahead owed at = record { to = p; at = at; grew = grew_nothing o a (duty o p) }
 
 pub starts_both : (x y z : List Turn) → StartsWith y x → StartsWith z y → StartsWith z x
 starts_both x y z p q = (p.0 ++ q.0, q.1 ∙ ap (λ (l : List Turn). l ++ q.0) p.1 ∙ append_assoc x p.0 q.0)
 
 pub starts_same : (x : List Turn) → StartsWith x x
 starts_same x = ([], sym (append-nil x))
+
+pub said : (owed : List ℕ) {owed' text slice : List ℕ} → owed' ≡ owed ++ slice → slice ≡ text → owed' ≡ owed ++ text
+said owed is same = is ∙ ap (λ (x : List ℕ). owed ++ x) same

@@ -1,5 +1,5 @@
--- What a turn of the loop makes of a connection.
-use Rattle.std.specs.Prelude.{◌≡◌, ◌⊎◌, ◌≤◌, ℕ, List, [], ◌∷◌, ◌++◌, drop, Bool, true, false, ◌||◌, Option, None, Some}
+-- How a connection grows, and where it stands.
+use Rattle.std.specs.Prelude.{◌≡◌, ◌⊎◌, ◌≤◌, ℕ, List, [], ◌∷◌, ◌++◌, ◌+◌, length, drop, Bool, true, false, ◌||◌, Option, None, Some}
 use Rattle.outside.specs.Tapes.{Mark, Tells}
 use Rattle.outside.specs.Devices.{Rose}
 use Rattle.house_model.specs.Histories.{Turn}
@@ -13,9 +13,8 @@ use Rattle.conn_flow.specs.Following.{GoesThrough, Told, opening}
 use Rattle.account_book.specs.Lists.{Book}
 use Rattle.conn_flow.specs.Flows.{State, hears, taken_of}
 use Rattle.flow_laws.specs.Standing.{IsServed, Place, duty}
+use Rattle.flow_laws.specs.Steps.{handling}
 use Rattle.conn_serve.specs.Connections.{Counts, told}
-use Rattle.conn_serve.specs.declared.turn.Next.{Next}
-use Rattle.conn_serve.specs.declared.turn.Next.TheVariants.{Goes, Finishes, Exhausts}
 use Rattle.conn_serve.specs.declared.turn.End.{End}
 use Rattle.conn_serve.specs.declared.turn.End.TheVariants.{Over, NoTurn}
 use Rattle.conn_serve.specs.declared.worker.Worked.{Worked}
@@ -82,44 +81,35 @@ pub record Exhausted (o : Site) (a : Tale) (v : Duty) (b : Tale) : Type 0 where
   pub left : last.due ≡ Left ended.Spent ∷ []
   pub sent : last.owed ≡ []
 
--- a place where the code has this flow, and these bytes to be heard
-pub record IsAt (o : Site) (p : Place) (flow : State) (ahead : List ℕ) : Type 0 where
+-- a place where the code has this flow, these bytes to be heard and these to be sent
+pub record IsAt (o : Site) (p : Place) (flow : State) (ahead owed : List ℕ) : Type 0 where
   pub flow_is : p.flow ≡ flow
   pub ahead_is : p.ahead ≡ ahead
-  pub sent : p.owed ≡ []
+  pub owed_is : p.owed ≡ owed
   pub served : IsServed o p
 
 -- and it came there from a duty
-pub record Came (o : Site) (a : Tale) (v : Duty) (b : Tale) (flow : State) (ahead : List ℕ) : Type 0 where
+pub record Came (o : Site) (a : Tale) (v : Duty) (b : Tale) (flow : State) (ahead owed : List ℕ) : Type 0 where
   pub to : Place
-  pub at : IsAt o to flow ahead
+  pub at : IsAt o to flow ahead owed
   pub grew : Grew o a v b (duty o to)
 
--- after a turn of the loop
-abbrev pub Turned : Site → Tale → Duty → Tale → State → List ℕ → Next → Type 0
-Turned o a v b flow ahead Goes = Came o a v b flow ahead
-Turned o a v b flow ahead (Finishes x t) = Finished o a v b x t
-Turned o a v b flow ahead Exhausts = Exhausted o a v b
-
--- what was owed was sent, or the link failed while it was
-abbrev pub Spoke : Site → Tale → Duty → Tale → Next → Type 0
-Spoke o a v b Goes = Grew o a v b (record v { owed = [] })
-Spoke o a v b (Finishes x t) = Finished o a v b x t
-Spoke o a v b Exhausts = ⊥
+-- by so many moves, of which the one by which what was heard is handled may still be due
+pub record Moved (n : ℕ) (o : Site) (a : Tale) (v : Duty) (b : Tale) (flow : State) (ahead owed : List ℕ) : Type 0 where
+  pub came : Came o a v b flow ahead owed
+  pub enough : n ≤ length came.grew.moves + handling flow.talk.phase
 
 -- what the code knows of where a connection stands: there is a site and a place
-pub record IsStanding (line : ℕ) (accounts : Book) (flow : State) (ahead : List ℕ) : Type 0 where
+pub record IsStanding (line : ℕ) (accounts : Book) (flow : State) (ahead owed : List ℕ) : Type 0 where
   pub site : Site
   pub place : Place
   pub line_is : site.line ≡ line
   pub accounts_are : site.accounts ≡ accounts
-  pub at : IsAt site place flow ahead
+  pub at : IsAt site place flow ahead owed
 
--- a reading, or what is left of one, was heard at a moment up to the end of its first item, or memory was wanting for it
-abbrev pub HearsOn : State → List ℕ → ℕ → State → List ℕ → Next → Type 0
-HearsOn flow ahead t flow' ahead' Goes = (flow' ≡ hears flow t ahead) × (ahead' ≡ drop (taken_of flow ahead) ahead)
-HearsOn flow ahead t flow' ahead' (Finishes x u) = (x ≡ ended.NoMemory) × (u ≡ t)
-HearsOn flow ahead t flow' ahead' Exhausts = ⊥
+-- a reading, or what is left of one, was heard at a moment up to the end of its first item
+abbrev pub HearsOn : State → List ℕ → ℕ → State → List ℕ → Type 0
+HearsOn flow ahead t flow' ahead' = (flow' ≡ hears flow t ahead) × (ahead' ≡ drop (taken_of flow ahead) ahead)
 
 -- the end of a connection that served until then
 abbrev pub Concluded : Site → Tale → Duty → Tale → End → Type 0
@@ -143,11 +133,6 @@ pub record Gone (o : Site) (a : Tale) (v : Duty) (b : Tale) (x : Ended) : Type 0
   pub sent : last.owed ≡ []
 
 -- The mark of the pass: a turn that was refused gives it, and then the connection is over.
-
-abbrev pub marked_next : Next → Bool → Bool
-marked_next Exhausts marked = true
-marked_next Goes marked = marked
-marked_next (Finishes x t) marked = marked
 
 abbrev pub marked_end : End → Bool → Bool
 marked_end NoTurn marked = true

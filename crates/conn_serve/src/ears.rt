@@ -14,7 +14,7 @@ const ROOM: usize = 4096;
 
 /// The bytes that were read and are still to be heard.
 #[derive(Drop)]
-pub(crate) struct Ears {
+pub struct Ears {
     buffer: Vec<u8>,
     from: usize,
     to: usize,
@@ -64,6 +64,14 @@ impl Ears {
         self.from += n;
     }
 
+    /// What was read is not to be heard.
+    pub(crate) fn clear(&mut self)
+        ensures { self.new ≡ [] }
+    {
+        self.from = 0;
+        self.to = 0;
+    }
+
     /// Reads what comes next, where all that was read was heard.
     pub(crate) fn refill<L: Link>(&mut self, link: &mut L) -> Heard
         ensures told { Refilled (L.tape link.old) (L.tape link.new) self.new result }
@@ -71,6 +79,7 @@ impl Ears {
         ensures cause { result ≡ Heard.Failed → Rose (L.faults link.old) (L.faults link.new) }
         ensures ends_kept { L.ends link.old ≤ L.ends link.new }
         ensures ended { result ≡ Heard.End → Rose (L.ends link.old) (L.ends link.new) }
+        ensures laters { L.laters link.new ≡ L.laters link.old }
     {
         self.from = 0;
         self.to = 0;

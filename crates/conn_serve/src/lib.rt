@@ -4,12 +4,18 @@
 mod converse;
 mod ears;
 mod enter;
+mod flush;
 mod listen;
+mod owed;
+mod round;
 mod service;
-mod speak;
 mod submit;
 mod turn;
 mod worker;
 
+pub use ears::Ears;
+pub use owed::Owed;
+pub use round::Conn;
 pub use service::serve;
+pub use turn::Round;
 pub use worker::{Worked, work};

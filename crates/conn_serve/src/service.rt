@@ -1,6 +1,6 @@
 //! Serves a connection.
 
-ghost use Rattle.std.specs.Prelude.{◌≡◌, ℕ, List, Option, [], ◌++◌, ◌≤◌, IfOk, vec_capacity};
+ghost use Rattle.std.specs.Prelude.{◌≡◌, ℕ, List, Option, [], ◌++◌, IfOk};
 ghost use Rattle.account_book.specs.Lists.{Book};
 ghost use Rattle.turn_lock.specs.Histories.{StartsWith};
 ghost use Rattle.house_model.specs.Promises.{Safe};
@@ -13,12 +13,13 @@ ghost use Rattle.conn_serve.specs.Serving.{Concluded, Gone, IsOpened, MarkedLeav
 use crate::converse::converse;
 use crate::ears::Ears;
 use crate::enter::ring_stirred;
+use crate::owed::Owed;
+use crate::round::Conn;
 use crate::turn::End;
 use account_book::Accounts;
 use conn_asks::Ended;
 use conn_flow::Flow;
 use hall::{Desk, DeskFault};
-use house_core::MOST_FRAME;
 use house_model::Reply;
 use jid_core::Part;
 use outside::{Clock, Dice, Filled, Link};
@@ -26,23 +27,24 @@ use stanza_tree::NoMemory;
 use std::alloc::Global;
 use std::sync::Wait;
 
-/// What serves a connection: its flow, what was read, and room for a frame.
+/// What serves a connection: its flow with what is read, and what gathers what is said.
 fn equip(
     alloc: Global,
     line: u32,
     domain: &Part,
     dice: [u8; 16],
     moment: u64,
-) -> Result<(Flow, Ears, Vec<u8>), NoMemory>
-    ensures flow { IfOk result (λ made. made.0 ≡ fresh line domain.now dice moment) }
-    ensures ears { IfOk result (λ made. made.1 ≡ []) }
-    ensures room { IfOk result (λ made. 524288 ≤ vec_capacity made.2) }
+) -> Result<(Conn, Owed), NoMemory>
+    ensures flow { IfOk result (λ made. made.0.flow ≡ fresh line domain.now dice moment) }
+    ensures ears { IfOk result (λ made. made.0.ears ≡ []) }
+    ensures left { IfOk result (λ made. made.0.left ≡ []) }
+    ensures said { IfOk result (λ made. made.1 ≡ []) }
 {
-    let flow = Flow::new(alloc, line, domain, dice, moment)?;
+    let said = Owed::with_room(alloc)?;
     let ears = Ears::new(alloc)?;
-    let mut frame = Vec::new(alloc);
-    frame.reserve(MOST_FRAME)?;
-    Ok((flow, ears, frame))
+    let flow = Flow::new(alloc, line, domain, dice, moment)?;
+    let left = Owed::new(alloc);
+    Ok((Conn { flow, ears, left }, said))
 }
 
 /// Serves a connection of which the house was told, from its first stream on.
@@ -74,8 +76,8 @@ fn begin<W: Wait, D: Desk, L: Link, C: Clock, I: Dice>(
         Filled::Failed => return End::Over(Ended::DiceFault, opened),
     }
     match equip(alloc, D::number(pass), &desk.domain().domain, first, opened) {
-        Ok((mut flow, mut ears, mut frame)) => converse(
-            rt, desk, pass, accounts, link, clock, dice, &mut flow, &mut ears, &mut frame,
+        Ok((mut conn, mut said)) => converse(
+            rt, alloc, desk, pass, accounts, link, clock, dice, &mut conn, &mut said,
         ),
         Err(_) => End::Over(Ended::NoMemory, opened),
     }
@@ -125,7 +127,7 @@ fn conclude<W: Wait, D: Desk, L: Link>(
         End::NoTurn => Ended::Spent,
         End::Over(ended, moment) => match leave(rt, desk, pass, ended, moment) {
             Ok(_) => {
-                ring_stirred(desk, pass, link);
+                ring_stirred(desk, link);
                 ended
             }
             Err(_) => Ended::Spent,
@@ -162,7 +164,6 @@ pub fn serve<W: Wait, D: Desk, L: Link, C: Clock, I: Dice>(
     let opened = clock.moment();
     match desk.open_line(rt, pass) {
         Ok(_) => {
-            ring_stirred(desk, pass, link);
             let end = begin(rt, alloc, desk, pass, accounts, link, clock, dice, opened);
             conclude(rt, desk, pass, link, end)
         }

@@ -1,5 +1,6 @@
 -- Each end has a move that made it.
-use Rattle.std.proofs.Common.{◌≡◌, ◌⊎◌, ℕ, ◌+◌, min, List, [], ◌∷◌, ◌++◌, refl, sym, ap, ◌∙◌, subst, inl, inr, Bool, true, false, Option, Some, None}
+use Rattle.std.proofs.Common.{◌≡◌, ◌⊎◌, ℕ, ◌+◌, ◌≤◌, ◌&&◌, ◌||◌, min, List, [], ◌∷◌, ◌++◌}
+use Rattle.std.proofs.Common.{refl, sym, ap, ◌∙◌, subst, inl, inr, Bool, true, false, Option, Some, None}
 use Rattle.std.proofs.lemmas.Bool.{leb-true}
 use Rattle.std.specs.Prelude.{if◌then◌else◌, nat_le, nat_lt}
 use Rattle.sm_resume.specs.declared.decision.Cause.{Cause}
@@ -13,9 +14,9 @@ use Rattle.conn_asks.specs.declared.stage.Purpose.{Purpose}
 use Rattle.conn_asks.specs.declared.stage.Purpose.TheVariants.{Challenge, Bind, Enable}
 use Rattle.conn_flow.specs.Moves.{Move, Hears, Waits, Hangs, Fails, Takes, Says, Sends, Enters, Draws, Stops}
 use Rattle.conn_flow.specs.Duties.{Site, Due, Opens, Rest, Text, Id, Dice, Submits, LogsIn, PullsOnce, Pulls, Sweeps, Leaves, Left, Duty}
-use Rattle.conn_flow.specs.Duties.{answered, answered_login, counts_failure, drew, ends, pulled, pulled_once, swept}
+use Rattle.conn_flow.specs.Duties.{answered, answered_login, counts_failure, drew, ends, is_idle, is_overdue, is_unknown, pulled, pulled_once, swept}
 use Rattle.conn_flow.specs.Following.{DrawsDue, EntersDue, GoesOn, GoesThrough, SaysDue, Stopped, opening, reply_of}
-use Rattle.flow_laws.specs.Causes.{IsCaused, IsForced, Makes, MakesNone}
+use Rattle.flow_laws.specs.Causes.{IsCaused, IsForced, IsOverdue, Makes, MakesNone}
 use Rattle.flow_laws.proofs.DueEnds.{IsDue, IsThirdTo, end_only, failed_due, only, only_left, takes_now}
 
 -- A reply.
@@ -109,7 +110,7 @@ enters_ends o v (PullsOnce ∷ rest) e r next x (event, is) d =
 enters_ends o v (Pulls ∷ rest) e r next x (event, is) d =
     subst (λ (u : Duty). IsDue x u.due → IsDue x rest ⊎ ByReply v r u x) (sym is) (pulls_ends o v r rest x) d
 enters_ends o v (Sweeps ∷ rest) e r next x (event, is) d = absurd (sweeps_ends_none v r x (subst (λ (u : Duty). IsDue x u.due) is d))
-enters_ends o v (Leaves y ∷ rest) e r next x (event, is) d = inl (inl (only_left x y (subst (λ (u : Duty). IsDue x u.due) is d)))
+enters_ends o v (Leaves y ∷ rest) e r next x (owes, event, is) d = inl (inl (only_left x y (subst (λ (u : Duty). IsDue x u.due) is d)))
 enters_ends o v [] e r next x h d = absurd h
 enters_ends o v (Rest bytes ∷ rest) e r next x h d = absurd h
 enters_ends o v (Text text ∷ rest) e r next x h d = absurd h
@@ -171,10 +172,37 @@ draws_ends o v (Left y ∷ rest) dice w x h d = absurd h
 
 -- Ends that come from no reading, item or reply.
 
-idle_makes : (o : Site) (v w : Duty) (t : ℕ) (x : Ended) (late : Bool) → nat_le (v.heard + 3600000) t ≡ late
+both : (a b : Bool) → (a && b) ≡ true → (a ≡ true) × (b ≡ true)
+both true b e = (refl, e)
+both false b e = absurd (let k : false ≡ true = e in cc)
+
+either : (a b : Bool) → (a || b) ≡ true → (a ≡ true) ⊎ (b ≡ true)
+either true b e = inl refl
+either false b e = inr e
+
+overdue : (v : Duty) (t : ℕ) → is_overdue v.stage v.opened t ≡ true → IsOverdue v t
+overdue v t e =
+    let all : (is_unknown v.stage ≡ true) × (nat_le (v.opened + 60000) t ≡ true) = both (is_unknown v.stage) (nat_le (v.opened + 60000) t) e in
+    (all.0, leb-true (v.opened + 60000) t all.1)
+
+late_makes : (o : Site) (v w : Duty) (bytes : List ℕ) (t : ℕ) (x : Ended) (late : Bool) → is_overdue v.stage v.opened t ≡ late
+    → IsDue x (if late then ends o (record v { moment = t }) (ended.Idle t) else record v { heard = t; moment = t; due = Rest bytes ∷ [] }).due
+    → Makes o v (Hears bytes t) w x
+late_makes o v w bytes t x true e d =
+    subst (λ (y : Ended). Makes o v (Hears bytes t) w y) (sym (end_only o (record v { moment = t }) x (ended.Idle t) d)) (refl, overdue v t e)
+late_makes o v w bytes t x false e d = absurd d
+
+idle_so : (v : Duty) (t : ℕ) → is_idle v.stage v.opened v.heard t ≡ true → IsOverdue v t ⊎ (v.heard + 3600000 ≤ t)
+idle_so v t e =
+    elim (either (is_overdue v.stage v.opened t) (nat_le (v.heard + 3600000) t) e) [
+      | inl over ↦ inl (overdue v t over)
+      | inr hour ↦ inr (leb-true (v.heard + 3600000) t hour)
+    ]
+
+idle_makes : (o : Site) (v w : Duty) (t : ℕ) (x : Ended) (late : Bool) → is_idle v.stage v.opened v.heard t ≡ late
     → IsDue x (if late then ends o (record v { moment = t }) (ended.Idle t) else record v { moment = t; due = Pulls ∷ [] }).due → Makes o v (Waits t) w x
 idle_makes o v w t x true e d =
-    subst (λ (y : Ended). Makes o v (Waits t) w y) (sym (end_only o (record v { moment = t }) x (ended.Idle t) d)) (refl, leb-true (v.heard + 3600000) t e)
+    subst (λ (y : Ended). Makes o v (Waits t) w y) (sym (end_only o (record v { moment = t }) x (ended.Idle t) d)) (refl, idle_so v t e)
 idle_makes o v w t x false e d = absurd d
 
 stops_makes : (o : Site) (v : Duty) (y : Ended) (w : Duty) (x : Ended) → Stopped v y w → IsDue x w.due → Makes o v (Stops y) w x
@@ -198,24 +226,24 @@ stops_makes o v ended.NoMemory w x (may, is) d =
 
 makes_now : (o : Site) (v : Duty) (m : Move) (w : Duty) (x : Ended) → GoesOn o v m w → IsDue x w.due → IsDue x v.due ⊎ Makes o v m w x
 makes_now o v (Hears bytes t) w x (owes, none, some, is) d =
-    absurd (let k : IsDue x (Rest bytes ∷ []) = subst (λ (u : Duty). IsDue x u.due) is d in k)
+    inr (late_makes o v w bytes t x (is_overdue v.stage v.opened t) refl (subst (λ (u : Duty). IsDue x u.due) is d))
 makes_now o v (Waits t) w x (owes, none, is) d =
-    inr (idle_makes o v w t x (nat_le (v.heard + 3600000) t) refl (subst (λ (u : Duty). IsDue x u.due) is d))
+    inr (idle_makes o v w t x (is_idle v.stage v.opened v.heard t) refl (subst (λ (u : Duty). IsDue x u.due) is d))
 makes_now o v (Hangs t) w x (owes, none, is) d =
     inr
     (subst (λ (y : Ended). Makes o v (Hangs t) w y) (sym (end_only o (record v { moment = t }) x ended.Hung (subst (λ (u : Duty). IsDue x u.due) is d))) tt)
 makes_now o v (Fails t) w x (may, is) d =
     inr (subst (λ (y : Ended). Makes o v (Fails t) w y) (sym (only x ended.LinkFault (subst (λ (u : Duty). IsDue x u.due) is d))) tt)
-makes_now o v Takes w x (owes, h) d = inr (takes_now o v v.due w x refl h d)
-makes_now o v (Says text) w x (owes, h) d = inl (says_ends v v.due text w x h d)
+makes_now o v Takes w x h d = inr (takes_now o v v.due w x refl h d)
+makes_now o v (Says text) w x h d = inl (says_ends v v.due text w x h d)
 makes_now o v (Sends bytes) w x (some, sent, is) d = inl (subst (λ (u : Duty). IsDue x u.due) is d)
-makes_now o v (Enters turn) w x (owes, (next, entered, is)) d =
+makes_now o v (Enters turn) w x (next, entered, is) d =
     elim (enters_ends o v v.due turn.event (reply_of turn.outcome) next x entered (subst (λ (u : Duty). IsDue x u.due) is d)) [
       | inl k ↦ inl k
       | inr by ↦ inr (reply_makes o v turn next w x (ap (λ (u : Duty). u.failures) is) by)
     ]
-makes_now o v (Draws dice) w x (owes, h) d = inl (draws_ends o v v.due dice w x h d)
-makes_now o v (Stops y) w x (owes, h) d = inr (stops_makes o v y w x h d)
+makes_now o v (Draws dice) w x h d = inl (draws_ends o v v.due dice w x h d)
+makes_now o v (Stops y) w x h d = inr (stops_makes o v y w x h d)
 
 pub record CausedFrom (o : Site) (start : Duty) (moves : List Move) (x : Ended) : Type 0 where
   pub before : List Move

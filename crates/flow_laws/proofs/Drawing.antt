@@ -1,5 +1,5 @@
 -- The random bytes that a flow needs are due.
-use Rattle.std.proofs.Common.{◌≡◌, ℕ, List, [], length, refl, true, Option, Some, None}
+use Rattle.std.proofs.Common.{◌≡◌, ℕ, List, length, refl, true, Option, Some, None}
 use Rattle.stream_frames.specs.Fed.{Fed}
 use Rattle.account_book.specs.Lists.{Book}
 use Rattle.house_model.specs.declared.event.Event.{Event}
@@ -38,41 +38,42 @@ last_draws_none : (text : Option (List ℕ)) (x : Ended) → parting_wish text x
 last_draws_none (Some text) x w = let k : ToSay text ≡ ToDraw = w in cc
 last_draws_none None x w = let k : ToFinish x ≡ ToDraw = w in cc
 
-drawing : (a : Book) (f : Fed) (s : Talk) (stream front ahead : List ℕ) (x : Option Purpose) (dice : List ℕ)
-    → IsDrawn dice (site s a) (place f (record s { purpose = x }) Drawing stream front ahead [])
-drawing a f s stream front ahead None dice h long w = absurd h.loaded
-drawing a f s stream front ahead (Some (Challenge m first)) dice h long w =
-    let p : Place = place f (record s { purpose = Some (Challenge m first) }) Drawing stream front ahead [] in (
-      (refl, (long, refl)),
+drawing : (a : Book) (f : Fed) (s : Talk) (stream front ahead owed : List ℕ) (x : Option Purpose) (dice : List ℕ)
+    → IsDrawn dice (site s a) (place f (record s { purpose = x }) Drawing stream front ahead owed)
+drawing a f s stream front ahead owed None dice h long w = absurd h.loaded
+drawing a f s stream front ahead owed (Some (Challenge m first)) dice h long w =
+    let p : Place = place f (record s { purpose = Some (Challenge m first) }) Drawing stream front ahead owed in (
+      (long, refl),
       served (site s a) (gives_at p dice) (stands (site s a) p h) (record { told = tt; loaded = tt; read = h.read; all = tt }),
     )
-drawing a f s stream front ahead (Some (Bind id resource)) dice h long w =
-    let p : Place = place f (record s { purpose = Some (Bind id resource) }) Drawing stream front ahead [] in (
-      (refl, (long, refl)),
+drawing a f s stream front ahead owed (Some (Bind id resource)) dice h long w =
+    let p : Place = place f (record s { purpose = Some (Bind id resource) }) Drawing stream front ahead owed in (
+      (long, refl),
       served (site s a) (gives_at p dice) (stands (site s a) p h) (record { told = tt; loaded = tt; read = h.read; all = tt }),
     )
-drawing a f s stream front ahead (Some (Enable resume)) dice h long w =
-    let p : Place = place f (record s { purpose = Some (Enable resume) }) Drawing stream front ahead [] in (
-      (refl, (long, refl)),
+drawing a f s stream front ahead owed (Some (Enable resume)) dice h long w =
+    let p : Place = place f (record s { purpose = Some (Enable resume) }) Drawing stream front ahead owed in (
+      (long, refl),
       served (site s a) (gives_at p dice) (stands (site s a) p h) (record { told = tt; loaded = tt; read = h.read; all = tt }),
     )
 
-pub draws_now : (a : Book) (f : Fed) (s : Talk) (p : Phase) (stream front ahead dice : List ℕ) → IsDrawn dice (site s a) (place f s p stream front ahead [])
-draws_now a f s Drawing stream front ahead dice h long w = drawing a f s stream front ahead s.purpose dice h long w
-draws_now a f s Resting stream front ahead dice h long w = absurd (let k : ToAwait ≡ ToDraw = w in cc)
-draws_now a f s Heard stream front ahead dice h long w = absurd (let k : ToAwait ≡ ToDraw = w in cc)
-draws_now a f s Saying stream front ahead dice h long w = absurd (let k : ToSay s.text ≡ ToDraw = w in cc)
-draws_now a f s (Refusing fail) stream front ahead dice h long w = absurd (let k : ToSay (failure_text fail) ≡ ToDraw = w in cc)
-draws_now a f s (Drawn drawn) stream front ahead dice h long w = absurd (let k : ToAwait ≡ ToDraw = w in cc)
-draws_now a f s Entering stream front ahead dice h long w = absurd (event_draws_none s.event w)
-draws_now a f s (Entered pulls) stream front ahead dice h long w = absurd (let k : ToAwait ≡ ToDraw = w in cc)
-draws_now a f s LoggingIn stream front ahead dice h long w = absurd (login_draws_none s.line s.user w)
-draws_now a f s LoggedIn stream front ahead dice h long w = absurd (let k : ToAwait ≡ ToDraw = w in cc)
-draws_now a f s PullingOnce stream front ahead dice h long w = absurd (let k : ToSubmit (event.Pull s.line s.moment) ≡ ToDraw = w in cc)
-draws_now a f s Pulling stream front ahead dice h long w = absurd (let k : ToSubmit (event.Pull s.line s.moment) ≡ ToDraw = w in cc)
-draws_now a f s Sweeping stream front ahead dice h long w = absurd (let k : ToSubmit (event.Sweep s.line s.moment) ≡ ToDraw = w in cc)
-draws_now a f s (Parting x) stream front ahead dice h long w = absurd (last_draws_none (last_text s x) x w)
-draws_now a f s (Left x) stream front ahead dice h long w = absurd (let k : ToFinish x ≡ ToDraw = w in cc)
+pub draws_now : (a : Book) (f : Fed) (s : Talk) (p : Phase) (stream front ahead owed dice : List ℕ) → IsDrawn dice (site s a)
+    (place f s p stream front ahead owed)
+draws_now a f s Drawing stream front ahead owed dice h long w = drawing a f s stream front ahead owed s.purpose dice h long w
+draws_now a f s Resting stream front ahead owed dice h long w = absurd (let k : ToAwait ≡ ToDraw = w in cc)
+draws_now a f s Heard stream front ahead owed dice h long w = absurd (let k : ToAwait ≡ ToDraw = w in cc)
+draws_now a f s Saying stream front ahead owed dice h long w = absurd (let k : ToSay s.text ≡ ToDraw = w in cc)
+draws_now a f s (Refusing fail) stream front ahead owed dice h long w = absurd (let k : ToSay (failure_text fail) ≡ ToDraw = w in cc)
+draws_now a f s (Drawn drawn) stream front ahead owed dice h long w = absurd (let k : ToAwait ≡ ToDraw = w in cc)
+draws_now a f s Entering stream front ahead owed dice h long w = absurd (event_draws_none s.event w)
+draws_now a f s (Entered pulls) stream front ahead owed dice h long w = absurd (let k : ToAwait ≡ ToDraw = w in cc)
+draws_now a f s LoggingIn stream front ahead owed dice h long w = absurd (login_draws_none s.line s.user w)
+draws_now a f s LoggedIn stream front ahead owed dice h long w = absurd (let k : ToAwait ≡ ToDraw = w in cc)
+draws_now a f s PullingOnce stream front ahead owed dice h long w = absurd (let k : ToSubmit (event.Pull s.line s.moment) ≡ ToDraw = w in cc)
+draws_now a f s Pulling stream front ahead owed dice h long w = absurd (let k : ToSubmit (event.Pull s.line s.moment) ≡ ToDraw = w in cc)
+draws_now a f s Sweeping stream front ahead owed dice h long w = absurd (let k : ToSubmit (event.Sweep s.line s.moment) ≡ ToDraw = w in cc)
+draws_now a f s (Parting x) stream front ahead owed dice h long w = absurd (last_draws_none (last_text s x) x w)
+draws_now a f s (Left x) stream front ahead owed dice h long w = absurd (let k : ToFinish x ≡ ToDraw = w in cc)
 
 next_purpose : (x : Option Purpose) (rest : List Due) → IsThere x → draws_next (purpose_due x rest) ≡ true
 next_purpose (Some x) rest there = refl

@@ -1,5 +1,7 @@
 -- A flow ends where leaving is due, and goes on elsewhere.
-use Rattle.std.proofs.Common.{◌≡◌, ℕ, List, [], ◌∷◌, refl, ap, true, Option, Some, None}
+use Rattle.std.proofs.Common.{◌≡◌, ℕ, List, [], ◌∷◌, refl, sym, ap, true, Option, Some, None, ◌∙◌}
+use Rattle.stream_frames.specs.Fed.{Fed}
+use Rattle.account_book.specs.Lists.{Book}
 use Rattle.house_model.specs.declared.event.Event.{Event}
 use Rattle.house_model.specs.declared.event.Event.TheVariants as event
 use Rattle.conn_asks.specs.declared.ended.Ended.{Ended}
@@ -16,8 +18,10 @@ use Rattle.conn_flow.specs.declared.talk.Talk.{Talk}
 use Rattle.conn_flow.specs.Duties.{Site, Due, Duty, Leaves, end_due, error_due}
 use Rattle.conn_flow.specs.Following.{goes_on, rest_due}
 use Rattle.conn_flow.specs.Flows.{IsGoing, IsThere, ToAwait, ToDraw, ToFinish, ToSay, ToSubmit, error_said}
-use Rattle.conn_flow.specs.Flows.{event_wish, last_text, login_wish, parting_wish, wish}
-use Rattle.flow_laws.specs.Standing.{drew_if, duty_at, event_due, idle, known, login_due, purpose_due}
+use Rattle.conn_flow.specs.Flows.{event_wish, last_text, login_wish, parting_wish, wish, wish_of}
+use Rattle.flow_laws.specs.Standing.{IsServed, Place, drew_if, duty, duty_at, event_due, idle, known, login_due, purpose_due}
+use Rattle.flow_laws.specs.Steps.{ends_at}
+use Rattle.flow_laws.proofs.Places.{place, served, site, stands}
 
 same_end : {x y : Ended} → ToFinish x ≡ ToFinish y → x ≡ y
 same_end e = cc
@@ -74,6 +78,40 @@ ends_now o s LoggedIn stream front ahead owed y w = absurd (let k : ToAwait ≡ 
 ends_now o s PullingOnce stream front ahead owed y w = absurd (let k : ToSubmit (event.Pull s.line s.moment) ≡ ToFinish y = w in cc)
 ends_now o s Pulling stream front ahead owed y w = absurd (let k : ToSubmit (event.Pull s.line s.moment) ≡ ToFinish y = w in cc)
 ends_now o s Sweeping stream front ahead owed y w = absurd (let k : ToSubmit (event.Sweep s.line s.moment) ≡ ToFinish y = w in cc)
+
+-- A flow that is over stays so.
+
+parting_end : (text : Option (List ℕ)) (x y : Ended) → parting_wish text x ≡ ToFinish y → x ≡ y
+parting_end (Some text) x y w = absurd (let k : ToSay text ≡ ToFinish y = w in cc)
+parting_end None x y w = same_end w
+
+abbrev pub IsOver : Ended → Site → Place → Type 0
+IsOver y o p =
+    IsServed o p → wish_of p.flow ≡ ToFinish y → (duty o (ends_at p) ≡ duty o p) × IsServed o (ends_at p) × (wish_of (ends_at p).flow ≡ ToFinish y)
+
+pub overs_now : (a : Book) (f : Fed) (s : Talk) (p : Phase) (stream front ahead owed : List ℕ) (y : Ended)
+    → IsOver y (site s a) (place f s p stream front ahead owed)
+overs_now a f s (Left x) stream front ahead owed y h w = (refl, h, w)
+overs_now a f s (Parting x) stream front ahead owed y h w =
+    let is : x ≡ y = parting_end (last_text s x) x y w in (
+      ap (λ (due : List Due). known s stream owed due) (leaves is ∙ sym (last_leaves (site s a) s (known s stream owed []) x y w)),
+      served (site s a) (ends_at (place f s (Parting x) stream front ahead owed)) (stands (site s a) (place f s (Parting x) stream front ahead owed) h)
+          (record { told = tt; loaded = tt; read = tt; all = tt }),
+      ap ToFinish is,
+    )
+overs_now a f s Resting stream front ahead owed y h w = absurd (let k : ToAwait ≡ ToFinish y = w in cc)
+overs_now a f s Heard stream front ahead owed y h w = absurd (let k : ToAwait ≡ ToFinish y = w in cc)
+overs_now a f s Saying stream front ahead owed y h w = absurd (let k : ToSay s.text ≡ ToFinish y = w in cc)
+overs_now a f s (Refusing fail) stream front ahead owed y h w = absurd (let k : ToSay (failure_text fail) ≡ ToFinish y = w in cc)
+overs_now a f s Drawing stream front ahead owed y h w = absurd (let k : ToDraw ≡ ToFinish y = w in cc)
+overs_now a f s (Drawn dice) stream front ahead owed y h w = absurd (let k : ToAwait ≡ ToFinish y = w in cc)
+overs_now a f s Entering stream front ahead owed y h w = absurd (event_ends_none s.event y w)
+overs_now a f s (Entered pulls) stream front ahead owed y h w = absurd (let k : ToAwait ≡ ToFinish y = w in cc)
+overs_now a f s LoggingIn stream front ahead owed y h w = absurd (login_ends_none s.line s.user y w)
+overs_now a f s LoggedIn stream front ahead owed y h w = absurd (let k : ToAwait ≡ ToFinish y = w in cc)
+overs_now a f s PullingOnce stream front ahead owed y h w = absurd (let k : ToSubmit (event.Pull s.line s.moment) ≡ ToFinish y = w in cc)
+overs_now a f s Pulling stream front ahead owed y h w = absurd (let k : ToSubmit (event.Pull s.line s.moment) ≡ ToFinish y = w in cc)
+overs_now a f s Sweeping stream front ahead owed y h w = absurd (let k : ToSubmit (event.Sweep s.line s.moment) ≡ ToFinish y = w in cc)
 
 -- where memory may be wanting
 
@@ -139,3 +177,26 @@ goes_on_now o s Pulling stream front ahead owed h = refl
 goes_on_now o s Sweeping stream front ahead owed h = refl
 goes_on_now o s (Parting x) stream front ahead owed h = last_goes_on o s (known s stream owed []) x h
 goes_on_now o s (Left x) stream front ahead owed h = absurd h
+
+-- a flow that wants anything but its end goes on
+
+last_going : (text : Option (List ℕ)) (x : Ended) → ((y : Ended) → parting_wish text x ≡ ToFinish y → ⊥) → IsThere text
+last_going (Some text) x none = tt
+last_going None x none = none x refl
+
+pub going_now : (s : Talk) (p : Phase) → ((y : Ended) → wish s p ≡ ToFinish y → ⊥) → IsGoing s p
+going_now s Resting none = tt
+going_now s Heard none = tt
+going_now s Saying none = tt
+going_now s (Refusing f) none = tt
+going_now s Drawing none = tt
+going_now s (Drawn dice) none = tt
+going_now s Entering none = tt
+going_now s (Entered pulls) none = tt
+going_now s LoggingIn none = tt
+going_now s LoggedIn none = tt
+going_now s PullingOnce none = tt
+going_now s Pulling none = tt
+going_now s Sweeping none = tt
+going_now s (Parting x) none = last_going (last_text s x) x none
+going_now s (Left x) none = none x refl

@@ -1,5 +1,5 @@
 -- What a flow handles before it wants something was due.
-use Rattle.std.proofs.Common.{◌≡◌, ℕ, ◌+◌, List, [], ◌∷◌, ◌++◌, take, drop, take-append-drop, refl, sym, ap, ◌∙◌, subst, false, Option, Some, None}
+use Rattle.std.proofs.Common.{◌≡◌, ℕ, ◌+◌, List, [], ◌∷◌, ◌++◌, take, drop, take-append-drop, refl, sym, ap, ◌∙◌, subst, false, Option, Some, None, arith}
 use Rattle.stream_frames.specs.Fed.{Fed}
 use Rattle.stream_grammar.specs.machine.Reading.{Reading, reads, stopped, first_reading, handed, is_stopped, reading_after, taken, waiting, went}
 use Rattle.stream_grammar.specs.grammar.Bounds.{told_number}
@@ -24,7 +24,7 @@ use Rattle.conn_flow.specs.Following.{rest_due}
 use Rattle.conn_flow.specs.Flows.{Prepares, State, asked_by, counted, drawn_if}
 use Rattle.conn_flow.specs.Flows as flow
 use Rattle.flow_laws.specs.Standing.{IsDone, IsHeard, IsServed, Place, duty, duty_at, known}
-use Rattle.flow_laws.specs.Steps.{Comes}
+use Rattle.flow_laws.specs.Steps.{Comes, handling}
 use Rattle.flow_laws.proofs.Bytes.{cut_as, cut_by, cut_is, cut_item, cut_read, cut_whole, handed_goes, handed_is_ready, none_goes, read_on}
 use Rattle.flow_laws.proofs.Fitting.{IsAskedFit, asks_fits, item_fits}
 use Rattle.flow_laws.proofs.Places.{StandsAt, Suits, end_due_same, place, served, site, stands, with_event, with_purpose}
@@ -93,19 +93,19 @@ goes_after (stopped f k) w domain n t stage i a e asks =
 
 -- What an item asks for.
 
-asked_goes : (accounts : Book) (s : Talk) (stream ahead : List ℕ) (due : List Due) (a : Asked)
-    → duty_at (site s accounts) (asked_by (counted s) a) stream [] ahead [] (asked_by (counted s) a).phase
-    ≡ asked_due (site s accounts) (numbered (known s stream [] due)) a (rest_due ahead)
-asked_goes accounts s stream ahead due asked.Header = refl
-asked_goes accounts s stream ahead due (asked.Invite m) = refl
-asked_goes accounts s stream ahead due (asked.Fail f) = refl
-asked_goes accounts s stream ahead due (asked.LogIn user success) = refl
-asked_goes accounts s stream ahead due (asked.Draw purpose) = refl
-asked_goes accounts s stream ahead due (asked.RefuseResource id) = refl
-asked_goes accounts s stream ahead due (asked.Submit event) = refl
-asked_goes accounts s stream ahead due (asked.End x) =
-    ap (λ (ds : List Due). record (numbered (known s stream [] due)) { due = ds })
-    (end_due_same (site s accounts) (numbered (known s stream [] due)) [] [] x)
+asked_goes : (accounts : Book) (s : Talk) (stream ahead owed : List ℕ) (due : List Due) (a : Asked)
+    → duty_at (site s accounts) (asked_by (counted s) a) stream [] ahead owed (asked_by (counted s) a).phase
+    ≡ asked_due (site s accounts) (numbered (known s stream owed due)) a (rest_due ahead)
+asked_goes accounts s stream ahead owed due asked.Header = refl
+asked_goes accounts s stream ahead owed due (asked.Invite m) = refl
+asked_goes accounts s stream ahead owed due (asked.Fail f) = refl
+asked_goes accounts s stream ahead owed due (asked.LogIn user success) = refl
+asked_goes accounts s stream ahead owed due (asked.Draw purpose) = refl
+asked_goes accounts s stream ahead owed due (asked.RefuseResource id) = refl
+asked_goes accounts s stream ahead owed due (asked.Submit event) = refl
+asked_goes accounts s stream ahead owed due (asked.End x) =
+    ap (λ (ds : List Due). record (numbered (known s stream owed due)) { due = ds })
+    (end_due_same (site s accounts) (numbered (known s stream owed due)) [] owed x)
 
 asked_suits : (s : Talk) (reading : Reading) (stream front ahead : List ℕ) (a : Asked) → IsHeard reading stream front ahead → IsOnAfter a reading
     → Suits (handed reading) (asked_by (counted s) a) (stream ++ front) [] ahead (asked_by (counted s) a).phase
@@ -136,11 +136,11 @@ asked_stands o f s ahead (asked.End x) fits h = h
 asked_stands o f s ahead (asked.Draw purpose) fits h = with_purpose o f s ahead (Some purpose) fits h
 asked_stands o f s ahead (asked.Submit event) fits h = with_event o f s ahead (Some event) fits h
 
-item_handled : (accounts : Book) (f : Fed) (s : Talk) (stream front ahead : List ℕ) (s' : State) (i : Option Item) → waiting f.reading ≡ i
-    → IsServed (site s accounts) (place f s Heard stream front ahead [])
+item_handled : (accounts : Book) (f : Fed) (s : Talk) (stream front ahead owed : List ℕ) (s' : State) (i : Option Item) → waiting f.reading ≡ i
+    → IsServed (site s accounts) (place f s Heard stream front ahead owed)
     → flow.Takes (record s { phase = Heard }) i s'.talk → s'.fed ≡ record f { reading = handed f.reading }
-    → Comes (site s accounts) (place f s Heard stream front ahead []) s'
-item_handled accounts f s stream front ahead s' None e h talk_is fed_is =
+    → Comes (site s accounts) (place f s Heard stream front ahead owed) s'
+item_handled accounts f s stream front ahead owed s' None e h talk_is fed_is =
     let o : Site = site s accounts in
     let fed : s'.fed ≡ record f { reading = handed f.reading } = fed_is in
     let talk : s'.talk ≡ record s { phase = Pulling } = talk_is in
@@ -148,28 +148,27 @@ item_handled accounts f s stream front ahead s' None e h talk_is fed_is =
     heard_cut f.reading stream front ahead h.read
     ∙ ap (λ (x : Option Item). cut_as x (stream ++ front) ahead) e in
     let empty : ahead ≡ [] = sym (ap (λ (c : Cut). c.rest) cuts) ∙ cut_whole (front ++ ahead) stream (ap (λ (c : Cut). c.item) cuts) in
-    let to : Place = place (record f { reading = handed f.reading }) s Pulling (stream ++ front) [] ahead [] in
-    let goes : AsksIf o (known s (stream ++ front) [] (Rest (front ++ ahead) ∷ [])) None (rest_due ahead) (duty o to) =
-    ap (λ (x : List ℕ). known s (stream ++ front) [] (rest_due x)) (sym empty) in
+    let to : Place = place (record f { reading = handed f.reading }) s Pulling (stream ++ front) [] ahead owed in
+    let goes : AsksIf o (known s (stream ++ front) owed (Rest (front ++ ahead) ∷ [])) None (rest_due ahead) (duty o to) =
+    ap (λ (x : List ℕ). known s (stream ++ front) owed (rest_due x)) (sym empty) in
     record {
       to = to;
       moves = Takes ∷ [];
       flow_is = λ j. record { fed = sym fed j; talk = sym talk j };
       ahead_is = refl;
-      owes_none = refl;
+      owed_is = refl;
       through = (
         duty o to,
-        (
-          refl,
-          subst (λ (c : Cut). AsksIf o (known s c.stream [] (Rest (front ++ ahead) ∷ [])) c.item (rest_due c.rest) (duty o to)) (sym cuts) goes,
-        ),
+        subst (λ (c : Cut). AsksIf o (known s c.stream owed (Rest (front ++ ahead) ∷ [])) c.item (rest_due c.rest) (duty o to))
+            (sym cuts) goes,
         refl,
       );
       silent = record { marks_none = refl; turns_none = refl; moments_none = refl; draws_none = refl; takes = tt };
-      served = served o to (stands o (place f s Heard stream front ahead []) h)
+      counted = omega arith;
+      served = served o to (stands o (place f s Heard stream front ahead owed) h)
           (record { told = tt; loaded = tt; read = heard_done f.reading stream front ahead h.read (none_goes f.reading e); all = empty });
     }
-item_handled accounts f s stream front ahead s' (Some i) e h (a, asks, talk_is) fed_is =
+item_handled accounts f s stream front ahead owed s' (Some i) e h (a, asks, talk_is) fed_is =
     let o : Site = site s accounts in
     let t : Talk = record s { phase = Heard } in
     let fed : s'.fed ≡ record f { reading = handed f.reading } = fed_is in
@@ -187,39 +186,38 @@ item_handled accounts f s stream front ahead s' (Some i) e h (a, asks, talk_is) 
       stream = stream ++ front;
       front = [];
       ahead = ahead;
-      owed = [];
+      owed = owed;
     } in
-    let goes : AsksIf o (known s (stream ++ front) [] (Rest (front ++ ahead) ∷ [])) (Some i) (rest_due ahead) (duty o to) =
-    (a, asks, asked_goes accounts t (stream ++ front) ahead (Rest (front ++ ahead) ∷ []) a) in
+    let goes : AsksIf o (known s (stream ++ front) owed (Rest (front ++ ahead) ∷ [])) (Some i) (rest_due ahead) (duty o to) =
+    (a, asks, asked_goes accounts t (stream ++ front) ahead owed (Rest (front ++ ahead) ∷ []) a) in
     record {
       to = to;
       moves = Takes ∷ [];
       flow_is = λ j. record { fed = sym fed j; talk = sym talk j };
       ahead_is = refl;
-      owes_none = refl;
+      owed_is = refl;
       through = (
         duty o to,
-        (
-          refl,
-          subst (λ (c : Cut). AsksIf o (known s c.stream [] (Rest (front ++ ahead) ∷ [])) c.item (rest_due c.rest) (duty o to)) (sym cuts) goes,
-        ),
+        subst (λ (c : Cut). AsksIf o (known s c.stream owed (Rest (front ++ ahead) ∷ [])) c.item (rest_due c.rest) (duty o to))
+            (sym cuts) goes,
         refl,
       );
       silent = record { marks_none = refl; turns_none = refl; moments_none = refl; draws_none = refl; takes = tt };
-      served = served o to (asked_stands o f t ahead a fits (stands o (place f s Heard stream front ahead []) h))
+      counted = omega arith;
+      served = served o to (asked_stands o f t ahead a fits (stands o (place f s Heard stream front ahead owed) h))
           (asked_suits t f.reading stream front ahead a h.read on);
     }
 
 -- What random bytes were drawn for.
 
-drawn_handled : (accounts : Book) (f : Fed) (s : Talk) (stream front ahead : List ℕ) (s' : State) (x : Option Purpose) (dice : List ℕ)
-    → IsServed (site s accounts) (place f (record s { purpose = x }) (Drawn dice) stream front ahead [])
+drawn_handled : (accounts : Book) (f : Fed) (s : Talk) (stream front ahead owed : List ℕ) (s' : State) (x : Option Purpose) (dice : List ℕ)
+    → IsServed (site s accounts) (place f (record s { purpose = x }) (Drawn dice) stream front ahead owed)
     → s'.talk ≡ drawn_if accounts (record s { purpose = x; phase = Drawn dice }) dice x → s'.fed ≡ f
-    → Comes (site s accounts) (place f (record s { purpose = x }) (Drawn dice) stream front ahead []) s'
-drawn_handled accounts f s stream front ahead s' None dice h talk_is fed_is = absurd h.loaded
-drawn_handled accounts f s stream front ahead s' (Some (Challenge m first)) dice h talk_is fed_is =
+    → Comes (site s accounts) (place f (record s { purpose = x }) (Drawn dice) stream front ahead owed) s'
+drawn_handled accounts f s stream front ahead owed s' None dice h talk_is fed_is = absurd h.loaded
+drawn_handled accounts f s stream front ahead owed s' (Some (Challenge m first)) dice h talk_is fed_is =
     let o : Site = site s accounts in
-    let p : Place = place f (record s { purpose = Some (Challenge m first) }) (Drawn dice) stream front ahead [] in
+    let p : Place = place f (record s { purpose = Some (Challenge m first) }) (Drawn dice) stream front ahead owed in
     let t : Talk = record s { purpose = Some (Challenge m first); phase = Drawn dice } in
     let to : Place = record p { flow = record { fed = f; talk = drawn_if accounts t dice (Some (Challenge m first)) } } in
     let fed : s'.fed ≡ f = fed_is in
@@ -229,16 +227,17 @@ drawn_handled accounts f s stream front ahead s' (Some (Challenge m first)) dice
       moves = [];
       flow_is = λ j. record { fed = sym fed j; talk = sym talk j };
       ahead_is = refl;
-      owes_none = refl;
+      owed_is = refl;
       through = refl;
       silent = record { marks_none = refl; turns_none = refl; moments_none = refl; draws_none = refl; takes = tt };
+      counted = omega arith;
       served = served o to
           (with_purpose o f (record s { purpose = Some (Challenge m first) }) ahead None tt (stands o p h))
           (record { told = tt; loaded = tt; read = h.read; all = tt });
     }
-drawn_handled accounts f s stream front ahead s' (Some (Bind id resource)) dice h talk_is fed_is =
+drawn_handled accounts f s stream front ahead owed s' (Some (Bind id resource)) dice h talk_is fed_is =
     let o : Site = site s accounts in
-    let p : Place = place f (record s { purpose = Some (Bind id resource) }) (Drawn dice) stream front ahead [] in
+    let p : Place = place f (record s { purpose = Some (Bind id resource) }) (Drawn dice) stream front ahead owed in
     let t : Talk = record s { purpose = Some (Bind id resource); phase = Drawn dice } in
     let to : Place = record p { flow = record { fed = f; talk = drawn_if accounts t dice (Some (Bind id resource)) } } in
     let fed : s'.fed ≡ f = fed_is in
@@ -248,17 +247,18 @@ drawn_handled accounts f s stream front ahead s' (Some (Bind id resource)) dice 
       moves = [];
       flow_is = λ j. record { fed = sym fed j; talk = sym talk j };
       ahead_is = refl;
-      owes_none = refl;
+      owed_is = refl;
       through = refl;
       silent = record { marks_none = refl; turns_none = refl; moments_none = refl; draws_none = refl; takes = tt };
+      counted = omega arith;
       served = served o to
           (with_event o f (record s { purpose = None }) ahead (drawn_if accounts t dice (Some (Bind id resource))).event (h.purpose_fits, refl)
           (with_purpose o f (record s { purpose = Some (Bind id resource) }) ahead None tt (stands o p h)))
           (record { told = tt; loaded = tt; read = h.read; all = tt });
     }
-drawn_handled accounts f s stream front ahead s' (Some (Enable resume)) dice h talk_is fed_is =
+drawn_handled accounts f s stream front ahead owed s' (Some (Enable resume)) dice h talk_is fed_is =
     let o : Site = site s accounts in
-    let p : Place = place f (record s { purpose = Some (Enable resume) }) (Drawn dice) stream front ahead [] in
+    let p : Place = place f (record s { purpose = Some (Enable resume) }) (Drawn dice) stream front ahead owed in
     let t : Talk = record s { purpose = Some (Enable resume); phase = Drawn dice } in
     let to : Place = record p { flow = record { fed = f; talk = drawn_if accounts t dice (Some (Enable resume)) } } in
     let fed : s'.fed ≡ f = fed_is in
@@ -268,9 +268,10 @@ drawn_handled accounts f s stream front ahead s' (Some (Enable resume)) dice h t
       moves = [];
       flow_is = λ j. record { fed = sym fed j; talk = sym talk j };
       ahead_is = refl;
-      owes_none = refl;
+      owed_is = refl;
       through = refl;
       silent = record { marks_none = refl; turns_none = refl; moments_none = refl; draws_none = refl; takes = tt };
+      counted = omega arith;
       served = served o to
           (with_event o f (record s { purpose = None }) ahead (drawn_if accounts t dice (Some (Enable resume))).event (tt, refl)
           (with_purpose o f (record s { purpose = Some (Enable resume) }) ahead None tt (stands o p h)))
@@ -279,41 +280,42 @@ drawn_handled accounts f s stream front ahead s' (Some (Enable resume)) dice h t
 
 -- Elsewhere nothing is handled.
 
-stays_put : (o : Site) (p : Place) (s' : State) → IsServed o p → p.owed ≡ [] → s' ≡ p.flow → Comes o p s'
-stays_put o p s' h owes is = record {
+stays_put : (o : Site) (p : Place) (s' : State) → IsServed o p → handling p.flow.talk.phase ≡ 0 → s' ≡ p.flow → Comes o p s'
+stays_put o p s' h none is = record {
   to = p;
   moves = [];
   flow_is = sym is;
   ahead_is = refl;
-  owes_none = owes;
+  owed_is = refl;
   through = refl;
   silent = record { marks_none = refl; turns_none = refl; moments_none = refl; draws_none = refl; takes = tt };
+  counted = omega (arith, none);
   served = h;
 }
 
 abbrev pub IsHandled : State → Site → Place → Type 0
 IsHandled s' o p = IsServed o p → Prepares o.accounts p.flow p.flow.talk.phase s' → Comes o p s'
 
-pub handles_now : (accounts : Book) (f : Fed) (s : Talk) (p : Phase) (stream front ahead : List ℕ) (s' : State)
-    → IsHandled s' (site s accounts) (place f s p stream front ahead [])
-handles_now accounts f s Heard stream front ahead s' h (takes, fed_is) =
-    item_handled accounts f s stream front ahead s' (waiting f.reading) refl h takes fed_is
-handles_now accounts f s (Drawn dice) stream front ahead s' h (talk_is, fed_is) =
-    drawn_handled accounts f s stream front ahead s' s.purpose dice h talk_is fed_is
-handles_now accounts f s Resting stream front ahead s' h is = stays_put (site s accounts) (place f s Resting stream front ahead []) s' h refl is
-handles_now accounts f s Saying stream front ahead s' h is = stays_put (site s accounts) (place f s Saying stream front ahead []) s' h refl is
-handles_now accounts f s (Refusing fail) stream front ahead s' h is =
-    stays_put (site s accounts) (place f s (Refusing fail) stream front ahead []) s' h refl is
-handles_now accounts f s Drawing stream front ahead s' h is = stays_put (site s accounts) (place f s Drawing stream front ahead []) s' h refl is
-handles_now accounts f s Entering stream front ahead s' h is = stays_put (site s accounts) (place f s Entering stream front ahead []) s' h refl is
-handles_now accounts f s (Entered pulls) stream front ahead s' h is =
-    stays_put (site s accounts) (place f s (Entered pulls) stream front ahead []) s' h refl is
-handles_now accounts f s LoggingIn stream front ahead s' h is = stays_put (site s accounts) (place f s LoggingIn stream front ahead []) s' h refl is
-handles_now accounts f s LoggedIn stream front ahead s' h is = stays_put (site s accounts) (place f s LoggedIn stream front ahead []) s' h refl is
-handles_now accounts f s PullingOnce stream front ahead s' h is =
-    stays_put (site s accounts) (place f s PullingOnce stream front ahead []) s' h refl is
-handles_now accounts f s Pulling stream front ahead s' h is = stays_put (site s accounts) (place f s Pulling stream front ahead []) s' h refl is
-handles_now accounts f s Sweeping stream front ahead s' h is = stays_put (site s accounts) (place f s Sweeping stream front ahead []) s' h refl is
-handles_now accounts f s (Parting x) stream front ahead s' h is =
-    stays_put (site s accounts) (place f s (Parting x) stream front ahead []) s' h refl is
-handles_now accounts f s (Left x) stream front ahead s' h is = stays_put (site s accounts) (place f s (Left x) stream front ahead []) s' h refl is
+pub handles_now : (accounts : Book) (f : Fed) (s : Talk) (p : Phase) (stream front ahead owed : List ℕ) (s' : State)
+    → IsHandled s' (site s accounts) (place f s p stream front ahead owed)
+handles_now accounts f s Heard stream front ahead owed s' h (takes, fed_is) =
+    item_handled accounts f s stream front ahead owed s' (waiting f.reading) refl h takes fed_is
+handles_now accounts f s (Drawn dice) stream front ahead owed s' h (talk_is, fed_is) =
+    drawn_handled accounts f s stream front ahead owed s' s.purpose dice h talk_is fed_is
+handles_now accounts f s Resting stream front ahead owed s' h is = stays_put (site s accounts) (place f s Resting stream front ahead owed) s' h refl is
+handles_now accounts f s Saying stream front ahead owed s' h is = stays_put (site s accounts) (place f s Saying stream front ahead owed) s' h refl is
+handles_now accounts f s (Refusing fail) stream front ahead owed s' h is =
+    stays_put (site s accounts) (place f s (Refusing fail) stream front ahead owed) s' h refl is
+handles_now accounts f s Drawing stream front ahead owed s' h is = stays_put (site s accounts) (place f s Drawing stream front ahead owed) s' h refl is
+handles_now accounts f s Entering stream front ahead owed s' h is = stays_put (site s accounts) (place f s Entering stream front ahead owed) s' h refl is
+handles_now accounts f s (Entered pulls) stream front ahead owed s' h is =
+    stays_put (site s accounts) (place f s (Entered pulls) stream front ahead owed) s' h refl is
+handles_now accounts f s LoggingIn stream front ahead owed s' h is = stays_put (site s accounts) (place f s LoggingIn stream front ahead owed) s' h refl is
+handles_now accounts f s LoggedIn stream front ahead owed s' h is = stays_put (site s accounts) (place f s LoggedIn stream front ahead owed) s' h refl is
+handles_now accounts f s PullingOnce stream front ahead owed s' h is =
+    stays_put (site s accounts) (place f s PullingOnce stream front ahead owed) s' h refl is
+handles_now accounts f s Pulling stream front ahead owed s' h is = stays_put (site s accounts) (place f s Pulling stream front ahead owed) s' h refl is
+handles_now accounts f s Sweeping stream front ahead owed s' h is = stays_put (site s accounts) (place f s Sweeping stream front ahead owed) s' h refl is
+handles_now accounts f s (Parting x) stream front ahead owed s' h is =
+    stays_put (site s accounts) (place f s (Parting x) stream front ahead owed) s' h refl is
+handles_now accounts f s (Left x) stream front ahead owed s' h is = stays_put (site s accounts) (place f s (Left x) stream front ahead owed) s' h refl is

@@ -1,5 +1,6 @@
 pub mod Bytes
 pub mod Fitting
+pub mod Next
 pub mod Places
 pub mod Reading
 pub mod Handling

@@ -1,5 +1,5 @@
 -- A place by its parts.
-use Rattle.std.proofs.Common.{◌≡◌, ℕ, List, [], ◌∷◌, refl, sym, subst, Bool, true, false, Option, Some, None}
+use Rattle.std.proofs.Common.{◌≡◌, ℕ, List, [], ◌∷◌, refl, subst, Bool, true, false, Option, Some, None}
 use Rattle.std.specs.Prelude.{if◌then◌else◌}
 use Rattle.stream_frames.specs.Fed.{Fed}
 use Rattle.stream_grammar.specs.machine.Reading.{Reading}
@@ -28,13 +28,12 @@ abbrev pub place : Fed → Talk → Phase → List ℕ → List ℕ → List ℕ
 place f s p stream front ahead owed =
     record { flow = record { fed = f; talk = record s { phase = p } }; stream = stream; front = front; ahead = ahead; owed = owed }
 
--- what is shown of a place by its parts, where nothing is owed
-pub bring : (P : Site → Place → Type 0) (o : Site) (p : Place) → IsServed o p → p.owed ≡ []
-    → P (site p.flow.talk o.accounts) (place p.flow.fed p.flow.talk p.flow.talk.phase p.stream p.front p.ahead []) → P o p
-bring P o p h owes k =
+-- what is shown of a place by its parts
+pub bring : (P : Site → Place → Type 0) (o : Site) (p : Place) → IsServed o p
+    → P (site p.flow.talk o.accounts) (place p.flow.fed p.flow.talk p.flow.talk.phase p.stream p.front p.ahead p.owed) → P o p
+bring P o p h k =
     let at : site p.flow.talk o.accounts ≡ o = λ i. record { line = h.line i; domain = h.domain i; accounts = o.accounts } in
-    subst (λ (x : Site). P x p) at
-    (subst (λ (owed : List ℕ). P (site p.flow.talk o.accounts) (record p { owed = owed })) (sym owes) k)
+    subst (λ (x : Site). P x p) at k
 
 -- What holds of a place whatever its phase is.
 

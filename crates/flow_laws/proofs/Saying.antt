@@ -1,5 +1,5 @@
 -- What a flow would say is due.
-use Rattle.std.proofs.Common.{◌≡◌, ℕ, List, [], ◌∷◌, refl, Bool, true, false, Option, Some, None}
+use Rattle.std.proofs.Common.{◌≡◌, ℕ, List, [], ◌∷◌, ◌++◌, refl, Bool, true, false, Option, Some, None}
 use Rattle.std.specs.Prelude.{if◌then◌else◌, nat_lt}
 use Rattle.stream_frames.specs.Fed.{Fed}
 use Rattle.stream_grammar.specs.machine.Reading.{Reading}
@@ -54,56 +54,57 @@ refused_suits reading s stream front ahead false more e done = record { told = t
 
 -- the last text
 
-error_goes : (a : Book) (s : Talk) (stream : List ℕ) (due : List Due) (e : Option StreamError) (x : Ended) (text : List ℕ)
+error_goes : (a : Book) (s : Talk) (stream owed : List ℕ) (due : List Due) (e : Option StreamError) (x : Ended) (text : List ℕ)
     → parting_wish (error_said s e) x ≡ ToSay text
-    → SaysDue (known s stream [] due) (error_due (site s a) (known s stream [] []) e x) text (known s stream text (Leaves x ∷ []))
-error_goes a s stream due None x text w = absurd (let k : ToFinish x ≡ ToSay text = w in cc)
-error_goes a s stream due (Some e) x text w = (same_text w, refl)
+    → SaysDue (known s stream owed due) (error_due (site s a) (known s stream owed []) e x) text (known s stream (owed ++ text) (Leaves x ∷ []))
+error_goes a s stream owed due None x text w = absurd (let k : ToFinish x ≡ ToSay text = w in cc)
+error_goes a s stream owed due (Some e) x text w = (same_text w, refl)
 
-last_goes : (a : Book) (s : Talk) (stream : List ℕ) (due : List Due) (x : Ended) (text : List ℕ)
+last_goes : (a : Book) (s : Talk) (stream owed : List ℕ) (due : List Due) (x : Ended) (text : List ℕ)
     → parting_wish (last_text s x) x ≡ ToSay text
-    → SaysDue (known s stream [] due) (end_due (site s a) (known s stream [] []) x) text (known s stream text (Leaves x ∷ []))
-last_goes a s stream due ended.Closed text w = (same_text w, refl)
-last_goes a s stream due (ended.Over cause) text w = error_goes a s stream due (error_of (ended.Over cause)) (ended.Over cause) text w
-last_goes a s stream due ended.Hung text w = error_goes a s stream due (error_of ended.Hung) ended.Hung text w
-last_goes a s stream due ended.LinkFault text w = error_goes a s stream due (error_of ended.LinkFault) ended.LinkFault text w
-last_goes a s stream due ended.DiceFault text w = error_goes a s stream due (error_of ended.DiceFault) ended.DiceFault text w
-last_goes a s stream due (ended.Broken f k) text w = error_goes a s stream due (error_of (ended.Broken f k)) (ended.Broken f k) text w
-last_goes a s stream due (ended.BadHeader f) text w = error_goes a s stream due (error_of (ended.BadHeader f)) (ended.BadHeader f) text w
-last_goes a s stream due (ended.BadItem f n) text w = error_goes a s stream due (error_of (ended.BadItem f n)) (ended.BadItem f n) text w
-last_goes a s stream due ended.ThirdFailure text w = error_goes a s stream due (error_of ended.ThirdFailure) ended.ThirdFailure text w
-last_goes a s stream due (ended.Idle t) text w = error_goes a s stream due (error_of (ended.Idle t)) (ended.Idle t) text w
-last_goes a s stream due ended.Spent text w = error_goes a s stream due (error_of ended.Spent) ended.Spent text w
-last_goes a s stream due ended.NoMemory text w = error_goes a s stream due (error_of ended.NoMemory) ended.NoMemory text w
+    → SaysDue (known s stream owed due) (end_due (site s a) (known s stream owed []) x) text (known s stream (owed ++ text) (Leaves x ∷ []))
+last_goes a s stream owed due ended.Closed text w = (same_text w, refl)
+last_goes a s stream owed due (ended.Over cause) text w = error_goes a s stream owed due (error_of (ended.Over cause)) (ended.Over cause) text w
+last_goes a s stream owed due ended.Hung text w = error_goes a s stream owed due (error_of ended.Hung) ended.Hung text w
+last_goes a s stream owed due ended.LinkFault text w = error_goes a s stream owed due (error_of ended.LinkFault) ended.LinkFault text w
+last_goes a s stream owed due ended.DiceFault text w = error_goes a s stream owed due (error_of ended.DiceFault) ended.DiceFault text w
+last_goes a s stream owed due (ended.Broken f k) text w = error_goes a s stream owed due (error_of (ended.Broken f k)) (ended.Broken f k) text w
+last_goes a s stream owed due (ended.BadHeader f) text w = error_goes a s stream owed due (error_of (ended.BadHeader f)) (ended.BadHeader f) text w
+last_goes a s stream owed due (ended.BadItem f n) text w = error_goes a s stream owed due (error_of (ended.BadItem f n)) (ended.BadItem f n) text w
+last_goes a s stream owed due ended.ThirdFailure text w = error_goes a s stream owed due (error_of ended.ThirdFailure) ended.ThirdFailure text w
+last_goes a s stream owed due (ended.Idle t) text w = error_goes a s stream owed due (error_of (ended.Idle t)) (ended.Idle t) text w
+last_goes a s stream owed due ended.Spent text w = error_goes a s stream owed due (error_of ended.Spent) ended.Spent text w
+last_goes a s stream owed due ended.NoMemory text w = error_goes a s stream owed due (error_of ended.NoMemory) ended.NoMemory text w
 
-pub says_now : (a : Book) (f : Fed) (s : Talk) (p : Phase) (stream front ahead text : List ℕ) → IsSaid text (site s a) (place f s p stream front ahead [])
-says_now a f s Saying stream front ahead text h w =
+pub says_now : (a : Book) (f : Fed) (s : Talk) (p : Phase) (stream front ahead owed text : List ℕ) → IsSaid text (site s a)
+    (place f s p stream front ahead owed)
+says_now a f s Saying stream front ahead owed text h w =
     let now : Talk = wished (record s { phase = Saying }) Saying in (
-      (refl, (same_text w, handled_due (site s a) now stream front ahead text s.more h.more)),
-      served (site s a) (says_at (place f s Saying stream front ahead []) text) (stands (site s a) (place f s Saying stream front ahead []) h)
+      (same_text w, handled_due (site s a) now stream front ahead (owed ++ text) s.more h.more),
+      served (site s a) (says_at (place f s Saying stream front ahead owed) text) (stands (site s a) (place f s Saying stream front ahead owed) h)
           (handled_suits f.reading now stream front ahead s.more h.more h.read),
     )
-says_now a f s (Refusing fail) stream front ahead text h w =
+says_now a f s (Refusing fail) stream front ahead owed text h w =
     let now : Talk = wished (record s { phase = Refusing fail }) (Refusing fail) in (
-      (refl, (same_text w, refused_due (site s a) now stream front ahead text (nat_lt s.failures 3) s.more h.more)),
-      served (site s a) (says_at (place f s (Refusing fail) stream front ahead []) text)
-          (stands (site s a) (place f s (Refusing fail) stream front ahead []) h)
+      (same_text w, refused_due (site s a) now stream front ahead (owed ++ text) (nat_lt s.failures 3) s.more h.more),
+      served (site s a) (says_at (place f s (Refusing fail) stream front ahead owed) text)
+          (stands (site s a) (place f s (Refusing fail) stream front ahead owed) h)
           (refused_suits f.reading now stream front ahead (nat_lt s.failures 3) s.more h.more h.read),
     )
-says_now a f s (Parting x) stream front ahead text h w = (
-  (refl, last_goes a s stream (end_due (site s a) (known s stream [] []) x) x text w),
-  served (site s a) (says_at (place f s (Parting x) stream front ahead []) text) (stands (site s a) (place f s (Parting x) stream front ahead []) h)
+says_now a f s (Parting x) stream front ahead owed text h w = (
+  last_goes a s stream owed (end_due (site s a) (known s stream owed []) x) x text w,
+  served (site s a) (says_at (place f s (Parting x) stream front ahead owed) text) (stands (site s a) (place f s (Parting x) stream front ahead owed) h)
       (record { told = tt; loaded = tt; read = tt; all = tt }),
 )
-says_now a f s Resting stream front ahead text h w = absurd (let k : ToAwait ≡ ToSay text = w in cc)
-says_now a f s Heard stream front ahead text h w = absurd (let k : ToAwait ≡ ToSay text = w in cc)
-says_now a f s Drawing stream front ahead text h w = absurd (let k : ToDraw ≡ ToSay text = w in cc)
-says_now a f s (Drawn dice) stream front ahead text h w = absurd (let k : ToAwait ≡ ToSay text = w in cc)
-says_now a f s Entering stream front ahead text h w = absurd (event_silent s.event text w)
-says_now a f s (Entered pulls) stream front ahead text h w = absurd (let k : ToAwait ≡ ToSay text = w in cc)
-says_now a f s LoggingIn stream front ahead text h w = absurd (login_silent s.line s.user text w)
-says_now a f s LoggedIn stream front ahead text h w = absurd (let k : ToAwait ≡ ToSay text = w in cc)
-says_now a f s PullingOnce stream front ahead text h w = absurd (let k : ToSubmit (event.Pull s.line s.moment) ≡ ToSay text = w in cc)
-says_now a f s Pulling stream front ahead text h w = absurd (let k : ToSubmit (event.Pull s.line s.moment) ≡ ToSay text = w in cc)
-says_now a f s Sweeping stream front ahead text h w = absurd (let k : ToSubmit (event.Sweep s.line s.moment) ≡ ToSay text = w in cc)
-says_now a f s (Left x) stream front ahead text h w = absurd (let k : ToFinish x ≡ ToSay text = w in cc)
+says_now a f s Resting stream front ahead owed text h w = absurd (let k : ToAwait ≡ ToSay text = w in cc)
+says_now a f s Heard stream front ahead owed text h w = absurd (let k : ToAwait ≡ ToSay text = w in cc)
+says_now a f s Drawing stream front ahead owed text h w = absurd (let k : ToDraw ≡ ToSay text = w in cc)
+says_now a f s (Drawn dice) stream front ahead owed text h w = absurd (let k : ToAwait ≡ ToSay text = w in cc)
+says_now a f s Entering stream front ahead owed text h w = absurd (event_silent s.event text w)
+says_now a f s (Entered pulls) stream front ahead owed text h w = absurd (let k : ToAwait ≡ ToSay text = w in cc)
+says_now a f s LoggingIn stream front ahead owed text h w = absurd (login_silent s.line s.user text w)
+says_now a f s LoggedIn stream front ahead owed text h w = absurd (let k : ToAwait ≡ ToSay text = w in cc)
+says_now a f s PullingOnce stream front ahead owed text h w = absurd (let k : ToSubmit (event.Pull s.line s.moment) ≡ ToSay text = w in cc)
+says_now a f s Pulling stream front ahead owed text h w = absurd (let k : ToSubmit (event.Pull s.line s.moment) ≡ ToSay text = w in cc)
+says_now a f s Sweeping stream front ahead owed text h w = absurd (let k : ToSubmit (event.Sweep s.line s.moment) ≡ ToSay text = w in cc)
+says_now a f s (Left x) stream front ahead owed text h w = absurd (let k : ToFinish x ≡ ToSay text = w in cc)

@@ -1,5 +1,6 @@
 -- What a flow submits is due, whatever the house answers.
-use Rattle.std.proofs.Common.{◌≡◌, ℕ, List, [], refl, sym, ap, subst, true, Option, Some, None}
+use Rattle.std.proofs.Common.{◌≡◌, ℕ, List, [], refl, sym, ap, subst, true, Option, Some, None, ◌∙◌}
+use Rattle.std.proofs.lemmas.List.{append-nil}
 use Rattle.stream_frames.specs.Fed.{Fed}
 use Rattle.account_book.specs.Lists.{Book}
 use Rattle.house_model.specs.Histories.{MayBeShort, short}
@@ -19,47 +20,41 @@ use Rattle.flow_laws.specs.Steps.{enters_at, shorts_at}
 use Rattle.flow_laws.proofs.Places.{place, served, site, stands, with_event}
 use Rattle.flow_laws.proofs.Answering.{IsEntered, entering, last_submits_none, logging, once_due, once_served, pulling_due, pulling_served, same_event}
 
-pub enters_now : (a : Book) (f : Fed) (s : Talk) (p : Phase) (stream front ahead : List ℕ) (e : Event) (r : Reply) (text : List ℕ)
-    → IsEntered e r text (site s a) (place f s p stream front ahead [])
-enters_now a f s Entering stream front ahead e r text h w = entering a f s stream front ahead s.event e r text h w
-enters_now a f s LoggingIn stream front ahead e r text h w = logging a f s stream front ahead s.user e r text h w
-enters_now a f s PullingOnce stream front ahead e r text h w = (
+pub enters_now : (a : Book) (f : Fed) (s : Talk) (p : Phase) (stream front ahead owed : List ℕ) (e : Event) (r : Reply) (text : List ℕ)
+    → IsEntered e r text (site s a) (place f s p stream front ahead owed)
+enters_now a f s Entering stream front ahead owed e r text h w = entering a f s stream front ahead owed s.event e r text h w
+enters_now a f s LoggingIn stream front ahead owed e r text h w = logging a f s stream front ahead owed s.user e r text h w
+enters_now a f s PullingOnce stream front ahead owed e r text h w = (
   (
-    refl,
-    (
-      pulled_once (site s a) (duty (site s a) (place f s PullingOnce stream front ahead [])) (Some r) (rest_due ahead),
-      (same_event w, refl),
-      once_due a f s stream front ahead text r h.more,
-    ),
+    pulled_once (site s a) (duty (site s a) (place f s PullingOnce stream front ahead owed)) (Some r) (rest_due ahead),
+    (same_event w, refl),
+    once_due a f s stream front ahead owed text r h.more,
   ),
-  once_served a f s stream front ahead text r h,
+  once_served a f s stream front ahead owed text r h,
 )
-enters_now a f s Pulling stream front ahead e r text h w = (
+enters_now a f s Pulling stream front ahead owed e r text h w = (
   (
-    refl,
-    (
-      pulled (site s a) (duty (site s a) (place f s Pulling stream front ahead [])) (Some r),
-      (same_event w, refl),
-      pulling_due a f s stream front ahead text r h.all,
-    ),
+    pulled (site s a) (duty (site s a) (place f s Pulling stream front ahead owed)) (Some r),
+    (same_event w, refl),
+    pulling_due a f s stream front ahead owed text r h.all,
   ),
-  pulling_served a f s stream front ahead text r h,
+  pulling_served a f s stream front ahead owed text r h,
 )
-enters_now a f s Sweeping stream front ahead e r text h w = (
-  (refl, (swept (duty (site s a) (place f s Sweeping stream front ahead [])) (Some r), (same_event w, refl), refl)),
-  served (site s a) (enters_at (place f s Sweeping stream front ahead []) r text) (stands (site s a) (place f s Sweeping stream front ahead []) h)
+enters_now a f s Sweeping stream front ahead owed e r text h w = (
+  (swept (duty (site s a) (place f s Sweeping stream front ahead owed)) (Some r), (same_event w, refl), refl),
+  served (site s a) (enters_at (place f s Sweeping stream front ahead owed) r text) (stands (site s a) (place f s Sweeping stream front ahead owed) h)
       (record { told = tt; loaded = tt; read = h.read; all = h.all }),
 )
-enters_now a f s Resting stream front ahead e r text h w = absurd (let k : ToAwait ≡ ToSubmit e = w in cc)
-enters_now a f s Heard stream front ahead e r text h w = absurd (let k : ToAwait ≡ ToSubmit e = w in cc)
-enters_now a f s Saying stream front ahead e r text h w = absurd (let k : ToSay s.text ≡ ToSubmit e = w in cc)
-enters_now a f s (Refusing fail) stream front ahead e r text h w = absurd (let k : ToSay (failure_text fail) ≡ ToSubmit e = w in cc)
-enters_now a f s Drawing stream front ahead e r text h w = absurd (let k : ToDraw ≡ ToSubmit e = w in cc)
-enters_now a f s (Drawn dice) stream front ahead e r text h w = absurd (let k : ToAwait ≡ ToSubmit e = w in cc)
-enters_now a f s (Entered pulls) stream front ahead e r text h w = absurd (let k : ToAwait ≡ ToSubmit e = w in cc)
-enters_now a f s LoggedIn stream front ahead e r text h w = absurd (let k : ToAwait ≡ ToSubmit e = w in cc)
-enters_now a f s (Parting x) stream front ahead e r text h w = absurd (last_submits_none (last_text s x) x e w)
-enters_now a f s (Left x) stream front ahead e r text h w = absurd (let k : ToFinish x ≡ ToSubmit e = w in cc)
+enters_now a f s Resting stream front ahead owed e r text h w = absurd (let k : ToAwait ≡ ToSubmit e = w in cc)
+enters_now a f s Heard stream front ahead owed e r text h w = absurd (let k : ToAwait ≡ ToSubmit e = w in cc)
+enters_now a f s Saying stream front ahead owed e r text h w = absurd (let k : ToSay s.text ≡ ToSubmit e = w in cc)
+enters_now a f s (Refusing fail) stream front ahead owed e r text h w = absurd (let k : ToSay (failure_text fail) ≡ ToSubmit e = w in cc)
+enters_now a f s Drawing stream front ahead owed e r text h w = absurd (let k : ToDraw ≡ ToSubmit e = w in cc)
+enters_now a f s (Drawn dice) stream front ahead owed e r text h w = absurd (let k : ToAwait ≡ ToSubmit e = w in cc)
+enters_now a f s (Entered pulls) stream front ahead owed e r text h w = absurd (let k : ToAwait ≡ ToSubmit e = w in cc)
+enters_now a f s LoggedIn stream front ahead owed e r text h w = absurd (let k : ToAwait ≡ ToSubmit e = w in cc)
+enters_now a f s (Parting x) stream front ahead owed e r text h w = absurd (last_submits_none (last_text s x) x e w)
+enters_now a f s (Left x) stream front ahead owed e r text h w = absurd (let k : ToFinish x ≡ ToSubmit e = w in cc)
 
 -- The house found no memory.
 
@@ -68,12 +63,16 @@ IsShorted e o p =
     IsServed o p → MayBeShort e → wish_of p.flow ≡ ToSubmit e
     → GoesOn o (duty o p) (Enters (short e)) (duty o (shorts_at p)) × IsServed o (shorts_at p)
 
-short_entering : (a : Book) (f : Fed) (s : Talk) (stream front ahead : List ℕ) (x : Option Event) (e : Event)
-    → IsShorted e (site s a) (place f (record s { event = x }) Entering stream front ahead [])
-short_entering a f s stream front ahead None e h m w = absurd h.loaded
-short_entering a f s stream front ahead (Some x) e h m w =
-    let p : Place = place f (record s { event = Some x }) Entering stream front ahead [] in (
-      (refl, (answered (site s a) (duty (site s a) p) None (followed x (rest_due ahead)), (same_event w, refl), refl)),
+short_entering : (a : Book) (f : Fed) (s : Talk) (stream front ahead owed : List ℕ) (x : Option Event) (e : Event)
+    → IsShorted e (site s a) (place f (record s { event = x }) Entering stream front ahead owed)
+short_entering a f s stream front ahead owed None e h m w = absurd h.loaded
+short_entering a f s stream front ahead owed (Some x) e h m w =
+    let p : Place = place f (record s { event = Some x }) Entering stream front ahead owed in (
+      (
+        answered (site s a) (duty (site s a) p) None (followed x (rest_due ahead)),
+        (same_event w, refl),
+        ap (λ (y : List ℕ). record (answered (site s a) (duty (site s a) p) None (followed x (rest_due ahead))) { owed = y }) (sym (append-nil owed)),
+      ),
       served (site s a) (shorts_at p) (with_event (site s a) f (record s { event = Some x }) ahead None tt (stands (site s a) p h))
           (record { told = tt; loaded = tt; read = tt; all = tt }),
     )
@@ -82,34 +81,31 @@ no_short_login : (line : ℕ) (user : Option (List ℕ)) (e : Event) → MayBeSh
 no_short_login line (Some user) e m w = subst MayBeShort (same_event w) m
 no_short_login line None e m w = let k : ToAwait ≡ ToSubmit e = w in cc
 
-pub shorts_now : (a : Book) (f : Fed) (s : Talk) (p : Phase) (stream front ahead : List ℕ) (e : Event)
-    → IsShorted e (site s a) (place f s p stream front ahead [])
-shorts_now a f s Entering stream front ahead e h m w = short_entering a f s stream front ahead s.event e h m w
-shorts_now a f s LoggingIn stream front ahead e h m w = absurd (no_short_login s.line s.user e m w)
-shorts_now a f s PullingOnce stream front ahead e h m w = absurd (subst MayBeShort (same_event w) m)
-shorts_now a f s Pulling stream front ahead e h m w = absurd (subst MayBeShort (same_event w) m)
-shorts_now a f s Sweeping stream front ahead e h m w = (
+pub shorts_now : (a : Book) (f : Fed) (s : Talk) (p : Phase) (stream front ahead owed : List ℕ) (e : Event)
+    → IsShorted e (site s a) (place f s p stream front ahead owed)
+shorts_now a f s Entering stream front ahead owed e h m w = short_entering a f s stream front ahead owed s.event e h m w
+shorts_now a f s LoggingIn stream front ahead owed e h m w = absurd (no_short_login s.line s.user e m w)
+shorts_now a f s PullingOnce stream front ahead owed e h m w = absurd (subst MayBeShort (same_event w) m)
+shorts_now a f s Pulling stream front ahead owed e h m w = absurd (subst MayBeShort (same_event w) m)
+shorts_now a f s Sweeping stream front ahead owed e h m w = (
   (
-    refl,
-    (
-      swept (duty (site s a) (place f s Sweeping stream front ahead [])) None,
-      (same_event w, refl),
-      ap (λ (x : List ℕ). known s stream [] (idle x)) h.all,
-    ),
+    swept (duty (site s a) (place f s Sweeping stream front ahead owed)) None,
+    (same_event w, refl),
+    ap (λ (x : List ℕ). known s stream owed (idle x)) h.all ∙ ap (λ (x : List ℕ). known s stream x []) (sym (append-nil owed)),
   ),
-  served (site s a) (shorts_at (place f s Sweeping stream front ahead [])) (stands (site s a) (place f s Sweeping stream front ahead []) h)
+  served (site s a) (shorts_at (place f s Sweeping stream front ahead owed)) (stands (site s a) (place f s Sweeping stream front ahead owed) h)
       (record { told = tt; loaded = tt; read = h.read; all = tt }),
 )
-shorts_now a f s Resting stream front ahead e h m w = absurd (let k : ToAwait ≡ ToSubmit e = w in cc)
-shorts_now a f s Heard stream front ahead e h m w = absurd (let k : ToAwait ≡ ToSubmit e = w in cc)
-shorts_now a f s Saying stream front ahead e h m w = absurd (let k : ToSay s.text ≡ ToSubmit e = w in cc)
-shorts_now a f s (Refusing fail) stream front ahead e h m w = absurd (let k : ToSay (failure_text fail) ≡ ToSubmit e = w in cc)
-shorts_now a f s Drawing stream front ahead e h m w = absurd (let k : ToDraw ≡ ToSubmit e = w in cc)
-shorts_now a f s (Drawn dice) stream front ahead e h m w = absurd (let k : ToAwait ≡ ToSubmit e = w in cc)
-shorts_now a f s (Entered pulls) stream front ahead e h m w = absurd (let k : ToAwait ≡ ToSubmit e = w in cc)
-shorts_now a f s LoggedIn stream front ahead e h m w = absurd (let k : ToAwait ≡ ToSubmit e = w in cc)
-shorts_now a f s (Parting x) stream front ahead e h m w = absurd (last_submits_none (last_text s x) x e w)
-shorts_now a f s (Left x) stream front ahead e h m w = absurd (let k : ToFinish x ≡ ToSubmit e = w in cc)
+shorts_now a f s Resting stream front ahead owed e h m w = absurd (let k : ToAwait ≡ ToSubmit e = w in cc)
+shorts_now a f s Heard stream front ahead owed e h m w = absurd (let k : ToAwait ≡ ToSubmit e = w in cc)
+shorts_now a f s Saying stream front ahead owed e h m w = absurd (let k : ToSay s.text ≡ ToSubmit e = w in cc)
+shorts_now a f s (Refusing fail) stream front ahead owed e h m w = absurd (let k : ToSay (failure_text fail) ≡ ToSubmit e = w in cc)
+shorts_now a f s Drawing stream front ahead owed e h m w = absurd (let k : ToDraw ≡ ToSubmit e = w in cc)
+shorts_now a f s (Drawn dice) stream front ahead owed e h m w = absurd (let k : ToAwait ≡ ToSubmit e = w in cc)
+shorts_now a f s (Entered pulls) stream front ahead owed e h m w = absurd (let k : ToAwait ≡ ToSubmit e = w in cc)
+shorts_now a f s LoggedIn stream front ahead owed e h m w = absurd (let k : ToAwait ≡ ToSubmit e = w in cc)
+shorts_now a f s (Parting x) stream front ahead owed e h m w = absurd (last_submits_none (last_text s x) x e w)
+shorts_now a f s (Left x) stream front ahead owed e h m w = absurd (let k : ToFinish x ≡ ToSubmit e = w in cc)
 
 -- What is submitted meets the conditions of the house.
 

@@ -1,5 +1,5 @@
 -- What ends a connection: the move that makes each end.
-use Rattle.std.specs.Prelude.{◌≡◌, ℕ, ◌+◌, ◌≤◌, List, ◌∷◌, ◌++◌, Some}
+use Rattle.std.specs.Prelude.{◌≡◌, ◌⊎◌, true, ℕ, ◌+◌, ◌≤◌, List, ◌∷◌, ◌++◌, Some}
 use Rattle.house_model.specs.Histories.{Made, Short}
 use Rattle.house_model.specs.declared.reply.Reply.TheVariants as reply
 use Rattle.stream_grammar.specs.declared.item.Item.{Item}
@@ -8,8 +8,8 @@ use Rattle.conn_asks.specs.declared.ended.Ended.{Ended}
 use Rattle.conn_asks.specs.declared.ended.Ended.TheVariants as ended
 use Rattle.conn_asks.specs.Asking.{Asks}
 use Rattle.conn_flow.specs.Streams.{cut}
-use Rattle.conn_flow.specs.Moves.{Move, Waits, Hangs, Fails, Takes, Enters, Stops}
-use Rattle.conn_flow.specs.Duties.{Site, Due, Rest, Duty, numbered}
+use Rattle.conn_flow.specs.Moves.{Move, Hears, Waits, Hangs, Fails, Takes, Enters, Stops}
+use Rattle.conn_flow.specs.Duties.{Site, Due, Rest, Duty, is_unknown, numbered}
 use Rattle.conn_flow.specs.Following.{GoesOn, GoesThrough, opening}
 
 -- the item that is handled next asks for this end
@@ -22,6 +22,10 @@ AsksEnd o v x =
 abbrev pub IsThird : Site → Duty → Duty → Type 0
 IsThird o v w = (2 ≤ v.failures) × (w.failures ≡ 3)
 
+-- nobody logged in within a minute
+abbrev pub IsOverdue : Duty → ℕ → Type 0
+IsOverdue v t = (is_unknown v.stage ≡ true) × (v.opened + 60000 ≤ t)
+
 -- the move that makes an end
 abbrev pub Makes : Site → Duty → Move → Duty → Ended → Type 0
 Makes o v (Hangs t) w ended.Hung = Unit {0}
@@ -30,7 +34,8 @@ Makes o v (Stops x) w ended.DiceFault = x ≡ ended.DiceFault
 Makes o v (Stops x) w ended.Spent = x ≡ ended.Spent
 Makes o v (Stops x) w ended.NoMemory = x ≡ ended.NoMemory
 Makes o v (Enters turn) w ended.NoMemory = turn.outcome ≡ Short
-Makes o v (Waits t) w (ended.Idle u) = (u ≡ t) × (v.heard + 3600000 ≤ t)
+Makes o v (Hears bytes t) w (ended.Idle u) = (u ≡ t) × IsOverdue v t
+Makes o v (Waits t) w (ended.Idle u) = (u ≡ t) × (IsOverdue v t ⊎ (v.heard + 3600000 ≤ t))
 Makes o v (Enters turn) w (ended.Over cause) = (text : List ℕ) × (turn.outcome ≡ Made (reply.Over cause) text)
 Makes o v Takes w ended.ThirdFailure = IsThird o v w
 Makes o v (Enters turn) w ended.ThirdFailure = IsThird o v w

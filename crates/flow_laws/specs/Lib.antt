@@ -1,3 +1,4 @@
 pub mod Standing
 pub mod Steps
 pub mod Causes
+pub mod Items

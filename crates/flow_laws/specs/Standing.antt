@@ -51,6 +51,7 @@ known s stream owed due = record {
   headed = s.headed;
   number = s.number;
   failures = s.failures;
+  opened = s.opened;
   heard = s.heard;
   moment = s.moment;
   due = due;

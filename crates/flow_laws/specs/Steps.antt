@@ -1,10 +1,12 @@
 -- Where the calls of a flow bring it.
-use Rattle.std.specs.Prelude.{◌≡◌, ℕ, List, [], ◌∷◌, take, drop, Bool, if◌then◌else◌}
+use Rattle.std.specs.Prelude.{◌≡◌, ◌≤◌, ℕ, List, [], ◌∷◌, ◌++◌, length, take, drop, Bool, true, false, if◌then◌else◌}
 use Rattle.house_model.specs.declared.reply.Reply.{Reply}
+use Rattle.conn_flow.specs.declared.phase.Phase.{Phase}
+use Rattle.conn_flow.specs.declared.phase.Phase.TheVariants.{Heard}
 use Rattle.conn_flow.specs.Moves.{Move, Takes, marks, turns, moments, draws}
 use Rattle.conn_flow.specs.Duties.{Site}
 use Rattle.conn_flow.specs.Following.{GoesThrough}
-use Rattle.conn_flow.specs.Flows.{State, fresh, hears, restarts, short_at, taken_of, told, gave_at, hung_at, waited, wished}
+use Rattle.conn_flow.specs.Flows.{State, fresh, hears, late_at, restarts, short_at, taken_of, told, gave_at, hung_at, waited, wished}
 use Rattle.flow_laws.specs.Standing.{Place, IsServed, duty}
 
 -- a flow that was just made for a connection at this moment
@@ -19,6 +21,10 @@ hears_at p t bytes =
 abbrev pub waits_at : Place → ℕ → Place
 waits_at p t = record p { flow = record p.flow { talk = waited p.flow.talk t } }
 
+-- bytes came too late for a login
+abbrev pub lates_at : Place → ℕ → Place
+lates_at p t = record p { flow = record p.flow { talk = late_at p.flow.talk t } }
+
 abbrev pub hangs_at : Place → ℕ → Place
 hangs_at p t = record p { flow = record p.flow { talk = hung_at p.flow.talk t } }
 
@@ -28,7 +34,11 @@ wishes_at s = record s { talk = wished s.talk s.talk.phase }
 
 -- a text is to be sent
 abbrev pub says_at : Place → List ℕ → Place
-says_at p text = record p { flow = wishes_at p.flow; owed = text }
+says_at p text = record p { flow = wishes_at p.flow; owed = p.owed ++ text }
+
+-- nothing more is wanted
+abbrev pub ends_at : Place → Place
+ends_at p = record p { flow = wishes_at p.flow }
 
 -- after a login a new stream begins
 abbrev pub stream_after : Bool → List ℕ → List ℕ
@@ -40,7 +50,7 @@ enters_at p r text =
     record p {
       flow = told (wishes_at p.flow) r;
       stream = stream_after (restarts (wishes_at p.flow).talk.phase r) p.stream;
-      owed = text;
+      owed = p.owed ++ text;
     }
 
 abbrev pub shorts_at : Place → Place
@@ -64,13 +74,22 @@ pub record IsSilent (moves : List Move) : Type 0 where
   pub draws_none : draws moves ≡ []
   pub takes : AreTakes moves
 
+abbrev pub is_heard : Phase → Bool
+is_heard Heard = true
+is_heard phase = false
+
+-- what was heard is handled by a move
+abbrev pub handling : Phase → ℕ
+handling phase = if is_heard phase then 1 else 0
+
 -- from one place to another by moves of which nobody tells
 pub record Comes (o : Site) (p : Place) (s : State) : Type 0 where
   pub to : Place
   pub moves : List Move
   pub flow_is : to.flow ≡ s
   pub ahead_is : to.ahead ≡ p.ahead
-  pub owes_none : to.owed ≡ []
+  pub owed_is : to.owed ≡ p.owed
   pub through : GoesThrough o (duty o p) moves (duty o to)
   pub silent : IsSilent moves
+  pub counted : handling p.flow.talk.phase ≤ length moves
   pub served : IsServed o to

@@ -28,11 +28,15 @@ const BYTES: usize = 2_097_152;
 /// How many random bytes there are, all of them zeros.
 const DICE: usize = 1_000;
 
-/// How many bytes a reading or a sending moves at most, up to which of its bytes the first link is heard, and which call of it and of its
-/// dice fails, where 0 is none.
+/// How many sendings are answered `Later` before they are taken.
+const LATERS: u64 = 64;
+
+/// How many bytes a reading or a sending moves at most, whether each sending is first answered `Later`, up to which of its bytes the first link
+/// is heard, and which call of it and of its dice fails, where 0 is none.
 #[derive(Clone, Copy)]
 pub(crate) struct Trial {
     pub(crate) piece: usize,
+    pub(crate) is_later: bool,
     pub(crate) heard: usize,
     pub(crate) link_fails: u64,
     pub(crate) dice_fails: u64,
@@ -43,6 +47,7 @@ impl Trial {
     pub(crate) fn of(piece: usize) -> Trial {
         Trial {
             piece,
+            is_later: false,
             heard: usize::MAX,
             link_fails: 0,
             dice_fails: 0,
@@ -98,9 +103,21 @@ fn fails_of(alloc: Global, call: u64) -> Result<Vec<u64>, NoMemory> {
     Ok(fails)
 }
 
+/// Every other sending, where they are answered `Later`.
+fn laters_of(alloc: Global, is_later: bool) -> Result<Vec<u64>, NoMemory> {
+    let mut laters = Vec::new(alloc);
+    if is_later {
+        for at in 0..LATERS {
+            laters.push(2 * at + 1)?;
+        }
+    }
+    Ok(laters)
+}
+
 fn link_of(alloc: Global, readings: Vec<Several<u8>>, trial: Trial) -> Result<MemLink, NoMemory> {
     let fails = fails_of(alloc, trial.link_fails)?;
-    MemLink::new(alloc, readings, trial.piece.max(1), fails, CALLS, BYTES)
+    let link = MemLink::new(alloc, readings, trial.piece.max(1), fails, CALLS, BYTES)?;
+    Ok(link.later_at(laters_of(alloc, trial.is_later)?))
 }
 
 fn dice_of(alloc: Global, fails: u64) -> Result<MemDice, NoMemory> {
@@ -211,7 +228,10 @@ fn play_links<W: Wait>(
         play_link(
             rt, alloc, hall, pass, accounts, head, trial, line, body, shown,
         )?;
-        trial = Trial::of(trial.piece);
+        trial = Trial {
+            is_later: trial.is_later,
+            ..Trial::of(trial.piece)
+        };
         rest = next;
     }
     Ok(())

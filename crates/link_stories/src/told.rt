@@ -137,7 +137,7 @@ fn tell<W: Wait>(
     }
 }
 
-/// What came of a story, and at which sizes of pieces other bytes did.
+/// What came of a story, and at which sizes of pieces other bytes did, or where each sending is first answered `Later`.
 fn tell_pieces<W: Wait>(
     rt: &W,
     alloc: Global,
@@ -157,7 +157,12 @@ fn tell_pieces<W: Wait>(
         let again = play(rt, alloc, accounts, head, Trial::of(piece), story)?;
         tell_piece(alloc, piece as u64, joined.as_slice(), &again, out)?;
     }
-    Ok(())
+    let later = Trial {
+        is_later: true,
+        ..Trial::of(PIECE)
+    };
+    let again = play(rt, alloc, accounts, head, later, story)?;
+    tell_piece(alloc, 0, joined.as_slice(), &again, out)
 }
 
 fn tell_piece(

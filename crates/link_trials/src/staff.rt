@@ -88,8 +88,7 @@ fn posts_of(
 fn are_closed(posts: &[Post<MemDoor, MemClock, MemDice>]) -> bool {
     posts.iter().all(|post| match post.door.tapes() {
         [tape] => {
-            tape.bytes().ends_with(CLOSE_TAG)
-                && tape.kinds().last() == Some(&Kind::Said(CLOSE_TAG.len()))
+            tape.bytes().ends_with(CLOSE_TAG) && matches!(tape.kinds().last(), Some(Kind::Said(_)))
         }
         _ => false,
     })

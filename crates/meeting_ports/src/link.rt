@@ -1,12 +1,12 @@
 //! A link whose second reading returns once that of another link has begun, and its door.
 
-ghost use Rattle.std.specs.Prelude.{◌≡◌, ◌<◌, ◌≤◌, None, length};
+ghost use Rattle.std.specs.Prelude.{◌≡◌, ◌≢◌, ◌<◌, ◌≤◌, None, length};
 ghost use Rattle.outside.specs.Devices.{Rose};
 ghost use Rattle.outside.specs.Doors.{Comes};
-ghost use Rattle.outside.specs.Links.{HeardFits, PutFits};
+ghost use Rattle.outside.specs.Links.{HeardFits, SentFits};
 ghost use Rattle.meeting_ports.specs.Meetings.{LinkCounts};
 
-use outside::{Came, Door, Heard, Link, Put};
+use outside::{Came, Door, Heard, Link, Sent};
 use std::alloc::Global;
 use std::marker::Model;
 use std::sync::atomic::{AtomicU64, Ordering};
@@ -103,6 +103,8 @@ impl Link for MeetLink {
 
     ghost ends = { λ l. l.ends };
 
+    ghost laters = { λ _. 0 };
+
     fn recv(&mut self, into: &mut [u8]) -> Heard
         requires { 0 < length into.old }
         ensures fits { HeardFits result into.new }
@@ -124,18 +126,19 @@ impl Link for MeetLink {
         self.end()
     }
 
-    fn send(&mut self, from: &[u8]) -> Put
+    fn send(&mut self, from: &[u8]) -> Sent
         requires { 0 < length from.now }
-        ensures fits { PutFits result from.now }
+        ensures fits { SentFits result from.now }
         ensures kept { self.old.faults ≤ self.new.faults }
-        ensures cause { result ≡ Put.Failed → Rose self.old.faults self.new.faults }
+        ensures cause { result ≡ Sent.Failed → Rose self.old.faults self.new.faults }
         ensures ends_kept { self.old.ends ≤ self.new.ends }
+        ensures waits { result ≢ Sent.Later }
     {
         match self.said.extend_from_slice(from) {
-            Ok(()) => Put::Taken(from.len()),
+            Ok(()) => Sent::Taken(from.len()),
             Err(_) => {
                 self.faults = self.faults.saturating_add(1);
-                Put::Failed
+                Sent::Failed
             }
         }
     }

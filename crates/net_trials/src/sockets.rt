@@ -1,7 +1,7 @@
 //! Each form as it is, over loopback.
 
 use outside::{
-    Came, Clock, Dice, Door, Filled, Got, Heard, Link, ListenFault, Ports, Put, Sink, Source,
+    Came, Clock, Dice, Door, Filled, Got, Heard, Link, ListenFault, Ports, Put, Sent, Sink, Source,
 };
 use outside_net::{
     NetPorts, ReaderSource, SystemClock, SystemDice, TcpDoor, TcpLink, TcpPost, WriterSink,
@@ -180,8 +180,8 @@ fn send_many(link: &mut HostLink) -> bool {
             return true;
         }
         match link.send(&piece) {
-            Put::Taken(count) => sent = sent.saturating_add(count),
-            Put::Failed => return false,
+            Sent::Taken(count) => sent = sent.saturating_add(count),
+            Sent::Later | Sent::Failed => return false,
         }
     }
     false
@@ -227,7 +227,7 @@ fn a_link_waits_for_room(rt: HostRuntime) -> Result<(), Fail> {
 // Whether a sending fails at last. The first may be taken, since the system learns by it that nobody is there.
 fn fails_to_send<R: time::Clock>(rt: &R, link: &mut HostLink) -> bool {
     for _sending in 0..1000 {
-        if link.send(b"a") == Put::Failed {
+        if link.send(b"a") == Sent::Failed {
             return true;
         }
         thread::sleep(rt, Duration::from_millis(10));
@@ -240,7 +240,9 @@ fn is_gone<R: time::Clock>(rt: &R, link: &mut HostLink, peer: TcpStream) -> bool
     let first = link.send(b"a");
     drop(peer);
     let (heard, _) = hear(link);
-    first == Put::Taken(1) && matches!(heard, Heard::Failed | Heard::End) && fails_to_send(rt, link)
+    first == Sent::Taken(1)
+        && matches!(heard, Heard::Failed | Heard::End)
+        && fails_to_send(rt, link)
 }
 
 #[test]

@@ -2,8 +2,8 @@
 use Rattle.std.specs.Prelude.{◌≡◌, ℕ, ◌<◌, ◌≤◌, min, true, false, List, [], ◌∷◌, length, take, drop}
 use Rattle.outside.specs.declared.link.Heard.{Heard}
 use Rattle.outside.specs.declared.link.Heard.TheVariants as heard
-use Rattle.outside.specs.declared.bytes.Put.{Put}
-use Rattle.outside.specs.declared.bytes.Put.TheVariants as put
+use Rattle.outside.specs.declared.link.Sent.{Sent}
+use Rattle.outside.specs.declared.link.Sent.TheVariants as sent
 use Rattle.outside.specs.Tapes.{Mark, Tape, has_room, noted, silent}
 use Rattle.outside.specs.Tapes as mark
 use Rattle.outside.specs.Plans.{Plan, raised, fails_next, called, failed}
@@ -16,9 +16,10 @@ HeardFits heard.End buffer = Unit {0}
 HeardFits heard.Failed buffer = Unit {0}
 
 -- at least one byte is taken, and no more than there are
-abbrev pub PutFits : Put → List ℕ → Type 0
-PutFits (put.Taken n) from = (0 < n) × (n ≤ length from)
-PutFits put.Failed from = Unit {0}
+abbrev pub SentFits : Sent → List ℕ → Type 0
+SentFits (sent.Taken n) from = (0 < n) × (n ≤ length from)
+SentFits sent.Later from = Unit {0}
+SentFits sent.Failed from = Unit {0}
 
 -- the mark of a reading
 abbrev pub mark_heard : Heard → List ℕ → Mark
@@ -27,10 +28,17 @@ mark_heard heard.Quiet buffer = mark.Quiet
 mark_heard heard.End buffer = mark.End
 mark_heard heard.Failed buffer = mark.Failed
 
--- the mark of a sending
-abbrev pub mark_put : Put → List ℕ → Mark
-mark_put (put.Taken n) from = mark.Said (take n from)
-mark_put put.Failed from = mark.Failed
+-- the mark of a sending: none where no byte could be taken then
+abbrev pub marks_sent : Sent → List ℕ → List Mark
+marks_sent (sent.Taken n) from = mark.Said (take n from) ∷ []
+marks_sent sent.Later from = []
+marks_sent sent.Failed from = mark.Failed ∷ []
+
+-- the count of Laters after a sending
+abbrev pub laters_after : Sent → ℕ → ℕ
+laters_after sent.Later laters = raised laters
+laters_after (sent.Taken n) laters = laters
+laters_after sent.Failed laters = laters
 
 -- a script of readings: each gives its bytes, and one without bytes is quiet
 
@@ -67,9 +75,11 @@ ends_after (heard.Bytes n) ends = ends
 ends_after heard.Quiet ends = ends
 ends_after heard.Failed ends = ends
 
--- a link in memory: its plan, the readings to come, the most that a sending takes, its tape and its count of Ends
+-- a link in memory: its plan, and that of its sendings, of which those that are to fail by it are answered Later; the readings to come,
+-- the most that a sending takes, its tape and its count of Ends
 pub record LinkState : Type 0 where
   pub plan : Plan
+  pub sendings : Plan
   pub left : List (List ℕ)
   pub piece : ℕ
   pub tape : Tape
@@ -102,19 +112,24 @@ Recvs v w result buffer =
     → (result ≡ heard.Failed) × (w ≡ overrun v))
     × (fails_next v.plan ≡ false → has_room v.tape (coming v.left (length buffer)) ≡ true → Hears v w result buffer)
 
+-- after a sending that was answered Later
+abbrev pub postponed : LinkState → LinkState
+postponed v = record v { plan = called v.plan; sendings = failed v.sendings }
+
 -- so many bytes were taken
-abbrev pub Says : LinkState → LinkState → Put → List ℕ → ℕ → Type 0
+abbrev pub Says : LinkState → LinkState → Sent → List ℕ → ℕ → Type 0
 Says v w result from n =
-    (result ≡ put.Taken n)
-    × (w ≡ record v { plan = called v.plan; tape = noted v.tape (mark.Said (take n from)) n })
+    (result ≡ sent.Taken n)
+    × (w ≡ record v { plan = called v.plan; sendings = called v.sendings; tape = noted v.tape (mark.Said (take n from)) n })
 
 -- what a sending of these bytes comes to
-abbrev pub Sends : LinkState → LinkState → Put → List ℕ → Type 0
+abbrev pub Sends : LinkState → LinkState → Sent → List ℕ → Type 0
 Sends v w result from =
-    (fails_next v.plan ≡ true → (result ≡ put.Failed) × (w ≡ broken v))
-    × (fails_next v.plan ≡ false → has_room v.tape (min (length from) v.piece) ≡ false
-    → (result ≡ put.Failed) × (w ≡ overrun v))
-    × (fails_next v.plan ≡ false → has_room v.tape (min (length from) v.piece) ≡ true
+    (fails_next v.plan ≡ true → (result ≡ sent.Failed) × (w ≡ broken v))
+    × (fails_next v.plan ≡ false → fails_next v.sendings ≡ true → (result ≡ sent.Later) × (w ≡ postponed v))
+    × (fails_next v.plan ≡ false → fails_next v.sendings ≡ false → has_room v.tape (min (length from) v.piece) ≡ false
+    → (result ≡ sent.Failed) × (w ≡ overrun v))
+    × (fails_next v.plan ≡ false → fails_next v.sendings ≡ false → has_room v.tape (min (length from) v.piece) ≡ true
     → Says v w result from (min (length from) v.piece))
 
 -- a link that never fails: the readings to come, and its count of Ends

@@ -24,7 +24,7 @@ pub use clean_ports::CleanPorts;
 pub use clock::{Clock, MemClock};
 pub use dice::{CleanDice, Dice, Filled, MemDice};
 pub use door::{Came, Door};
-pub use link::{Heard, Link};
+pub use link::{Heard, Link, Sent};
 pub use mem_door::{CleanDoor, MemDoor};
 pub use mem_link::{CleanLink, MemLink};
 pub use mem_ports::MemPorts;

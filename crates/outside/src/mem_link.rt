@@ -1,12 +1,11 @@
 //! Links in memory.
 ghost use Rattle.std.specs.Prelude.{◌≡◌, ◌≢◌, ◌<◌, ◌≤◌, ℕ, [], ◌∷◌, Some, None, IfOk, length};
 ghost use Rattle.outside.specs.Devices.{Rose};
-ghost use Rattle.outside.specs.Links.{Gives, HeardFits, PutFits, Recvs, Sends, ends_after, mark_heard, mark_put, broken, overrun};
+ghost use Rattle.outside.specs.Links.{Gives, HeardFits, Recvs, Sends, SentFits, broken, ends_after, laters_after, mark_heard, marks_sent, overrun};
 ghost use Rattle.outside.specs.Plans.{planned};
 ghost use Rattle.outside.specs.Tapes.{Mark, Tells};
 
-use crate::bytes::Put;
-use crate::link::{Heard, Link};
+use crate::link::{Heard, Link, Sent};
 use crate::plan::Plan;
 use crate::script::Script;
 use crate::tape::{Kind, Tape};
@@ -19,6 +18,8 @@ use std::marker::Model;
 #[derive(Drop)]
 pub struct MemLink {
     plan: Plan,
+    /// The sendings, of which those that are to fail by it are answered `Later`.
+    sendings: Plan,
     script: Script,
     piece: usize,
     tape: Tape,
@@ -31,7 +32,7 @@ impl Model for MemLink {
 
     ghost Value = { LinkState };
 
-    ghost view = { λ l. record { plan = l.plan; left = l.script; piece = l.piece; tape = l.tape; ends = l.ends } };
+    ghost view = { λ l. record { plan = l.plan; sendings = l.sendings; left = l.script; piece = l.piece; tape = l.tape; ends = l.ends } };
 
     ghost invariant = { λ l. 0 < l.piece };
 }
@@ -50,6 +51,7 @@ impl MemLink {
         requires { 0 < piece }
         ensures { IfOk result (λ l. l ≡ record {
           plan = planned fails.items;
+          sendings = planned [];
           left = readings.items;
           piece = piece;
           ends = 0;
@@ -58,11 +60,21 @@ impl MemLink {
     {
         Ok(MemLink {
             plan: Plan::new(fails),
+            sendings: Plan::new(Vec::new(alloc)),
             script: Script::new(readings),
             piece,
             tape: Tape::new(alloc, calls, bytes)?,
             ends: 0,
         })
+    }
+
+    /// The same link, which answers `Later` at the sendings of these numbers, from 1.
+    pub fn later_at(self, sendings: Vec<u64>) -> MemLink
+        ensures { result ≡ record self { sendings = planned sendings.items } }
+    {
+        let mut link = self;
+        link.sendings = Plan::new(sendings);
+        link
     }
 
     /// What was heard and said.
@@ -112,6 +124,8 @@ impl Link for MemLink {
 
     ghost ends = { λ l. l.ends };
 
+    ghost laters = { λ l. l.sendings.faults };
+
     fn recv(&mut self, into: &mut [u8]) -> Heard
         requires { 0 < length into.old }
         ensures fits { HeardFits result into.new }
@@ -120,6 +134,7 @@ impl Link for MemLink {
         ensures cause { result ≡ Heard.Failed → Rose self.old.plan.faults self.new.plan.faults }
         ensures ends_kept { self.old.ends ≤ self.new.ends }
         ensures ended { result ≡ Heard.End → Rose self.old.ends self.new.ends }
+        ensures laters { self.new.sendings.faults ≡ self.old.sendings.faults }
         ensures recvs { Recvs self.old self.new result into.new }
     {
         if self.plan.fails_next() {
@@ -144,27 +159,34 @@ impl Link for MemLink {
         heard
     }
 
-    fn send(&mut self, from: &[u8]) -> Put
+    fn send(&mut self, from: &[u8]) -> Sent
         requires { 0 < length from.now }
-        ensures fits { PutFits result from.now }
-        ensures tape { Tells Mark self.old.tape.told self.new.tape.told (mark_put result from.now ∷ []) }
+        ensures fits { SentFits result from.now }
+        ensures tape { Tells Mark self.old.tape.told self.new.tape.told (marks_sent result from.now) }
         ensures kept { self.old.plan.faults ≤ self.new.plan.faults }
-        ensures cause { result ≡ Put.Failed → Rose self.old.plan.faults self.new.plan.faults }
+        ensures cause { result ≡ Sent.Failed → Rose self.old.plan.faults self.new.plan.faults }
         ensures ends_kept { self.old.ends ≤ self.new.ends }
+        ensures laters { self.new.sendings.faults ≡ laters_after result self.old.sendings.faults }
         ensures sends { Sends self.old self.new result from.now }
     {
         if self.plan.fails_next() {
             self.fail_planned();
-            return Put::Failed;
+            return Sent::Failed;
+        }
+        if self.sendings.fails_next() {
+            self.plan.call();
+            self.sendings.fail();
+            return Sent::Later;
         }
         let count = from.len().min(self.piece);
         if !self.tape.has_room(count) {
             self.fail_for_room();
-            return Put::Failed;
+            return Sent::Failed;
         }
         self.plan.call();
+        self.sendings.call();
         self.tape.note(Kind::Said(count), &from[..count]);
-        Put::Taken(count)
+        Sent::Taken(count)
     }
 
     fn ring(&mut self, _line: u32)
@@ -207,6 +229,8 @@ impl Link for CleanLink {
 
     ghost ends = { λ l. l.ends };
 
+    ghost laters = { λ _. 0 };
+
     fn recv(&mut self, into: &mut [u8]) -> Heard
         requires { 0 < length into.old }
         ensures fits { HeardFits result into.new }
@@ -223,12 +247,12 @@ impl Link for CleanLink {
         heard
     }
 
-    fn send(&mut self, from: &[u8]) -> Put
+    fn send(&mut self, from: &[u8]) -> Sent
         requires { 0 < length from.now }
-        ensures taken { result ≡ Put.Taken (length from.now) }
+        ensures taken { result ≡ Sent.Taken (length from.now) }
         ensures kept { self.new ≡ self.old }
     {
-        Put::Taken(from.len())
+        Sent::Taken(from.len())
     }
 
     fn ring(&mut self, _line: u32)

@@ -1,11 +1,11 @@
 //! A link over TCP.
-ghost use Rattle.std.specs.Prelude.{◌≡◌, ◌<◌, ◌≤◌, length, None};
+ghost use Rattle.std.specs.Prelude.{◌≡◌, ◌≢◌, ◌<◌, ◌≤◌, length, None};
 ghost use Rattle.outside.specs.Devices.{Rose};
-ghost use Rattle.outside.specs.Links.{HeardFits, PutFits};
+ghost use Rattle.outside.specs.Links.{HeardFits, SentFits};
 
 use crate::connection::{Connection, is_pending};
 use crate::reactor::Reactor;
-use outside::{Heard, Link, Put};
+use outside::{Heard, Link, Sent};
 use std::marker::Model;
 use std::time::Clock;
 
@@ -80,6 +80,8 @@ impl<R: Clock + Drop> Link for TcpLink<R> {
 
     ghost ends = { λ l. l.ends };
 
+    ghost laters = { λ _. 0 };
+
     /// Where there is nothing to read, waits at most 20 milliseconds for it, and answers `Quiet` then, or at once where its
     /// line was rung since it last waited. Links for which nothing comes stop waiting at the same moments. `End` where the peer
     /// closed its side, `Failed` at any error. Takes no memory.
@@ -102,20 +104,21 @@ impl<R: Clock + Drop> Link for TcpLink<R> {
         self.read(into)
     }
 
-    /// Waits at most 30 seconds until the system takes some of the bytes. `Failed` where it doesn't, and at any error: a peer
-    /// that went away is one, and no signal. Takes no memory.
-    fn send(&mut self, from: &[u8]) -> Put
+    /// Waits at most 30 seconds until the system takes some of the bytes, so it never answers `Later`. `Failed` where it doesn't,
+    /// and at any error: a peer that went away is one, and no signal. Takes no memory.
+    fn send(&mut self, from: &[u8]) -> Sent
         requires { 0 < length from.now }
-        ensures fits { PutFits result from.now }
+        ensures fits { SentFits result from.now }
         ensures kept { self.old.faults ≤ self.new.faults }
-        ensures cause { result ≡ Put.Failed → Rose self.old.faults self.new.faults }
+        ensures cause { result ≡ Sent.Failed → Rose self.old.faults self.new.faults }
         ensures ends { self.new.ends ≡ self.old.ends }
+        ensures waits { result ≢ Sent.Later }
     {
         match self.connection.write(from) {
-            Ok(count) if count > 0 => Put::Taken(count),
+            Ok(count) if count > 0 => Sent::Taken(count),
             _ => {
                 self.count_fault();
-                Put::Failed
+                Sent::Failed
             }
         }
     }

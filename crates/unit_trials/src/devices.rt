@@ -73,7 +73,7 @@ fn a_link_keeps_its_tape(rt: HostRuntime) -> Result<(), Fail> {
         assert_eq!(rt; link.recv(&mut into), *heard, "case {i}");
     }
     link.ring(3);
-    assert_eq!(rt; link.send(b"xyz"), Put::Taken(2));
+    assert_eq!(rt; link.send(b"xyz"), Sent::Taken(2));
     let kinds = [
         Kind::Heard(2),
         Kind::Heard(1),
@@ -84,9 +84,29 @@ fn a_link_keeps_its_tape(rt: HostRuntime) -> Result<(), Fail> {
     ];
     assert!(rt; link.tape().kinds() == kinds.as_slice());
     assert!(rt; link.tape().bytes() == b"abcxy".as_slice());
-    assert_eq!(rt; link.send(b"xyz"), Put::Failed);
+    assert_eq!(rt; link.send(b"xyz"), Sent::Failed);
     assert!(rt; link.tape().kinds().is_empty());
     assert_eq!(rt; link.faults(), 2);
+    Ok(())
+}
+
+// The first sending and the third are answered Later, which leaves no mark.
+#[test]
+fn a_link_takes_no_byte_for_now(rt: HostRuntime) -> Result<(), Fail> {
+    let alloc = rt.alloc();
+    let mut link = link_of(alloc, 7, 6)?.later_at(Vec::from_array(alloc, [1u64, 3])?);
+    let cases = [
+        Sent::Later,
+        Sent::Taken(2),
+        Sent::Failed,
+        Sent::Later,
+        Sent::Taken(2),
+    ];
+    for (i, sent) in cases.iter().enumerate() {
+        assert_eq!(rt; link.send(b"xyz"), *sent, "case {i}");
+    }
+    assert!(rt; link.tape().kinds() == [Kind::Said(2), Kind::Failed, Kind::Said(2)].as_slice());
+    assert!(rt; link.tape().bytes() == b"xyxy".as_slice());
     Ok(())
 }
 
@@ -245,6 +265,6 @@ fn a_clean_link_hears_its_readings(rt: HostRuntime) -> Result<(), Fail> {
         assert_eq!(rt; link.recv(&mut into), *heard, "case {i}");
     }
     link.ring(3);
-    assert_eq!(rt; link.send(b"xyz"), Put::Taken(3));
+    assert_eq!(rt; link.send(b"xyz"), Sent::Taken(3));
     Ok(())
 }

@@ -1,5 +1,4 @@
-use Rattle.std.proofs.Common.{◌≡◌, ◌≤◌}
-use Rattle.std.specs.Prelude.{vec_capacity}
+use Rattle.std.proofs.Common.{◌≡◌, []}
 use Rattle.turn_lock.specs.Histories.{StartsWith}
 use Rattle.hall.specs.Desks.{turns_of}
 use Rattle.conn_flow.specs.Duties.{Site}
@@ -15,12 +14,12 @@ invariant-loop g l = record {
   line : g.D.Desk.line l.pass ≡ g.D.Desk.line l.fn.pass;
   history : StartsWith (g.D.Desk.seen l.pass) (g.D.Desk.seen l.fn.pass);
   mark : g.D.Desk.marked l.pass ≡ g.D.Desk.marked l.fn.pass;
-  room : 524288 ≤ vec_capacity l.frame;
-  stands : IsStanding (g.D.Desk.line l.pass) l.accounts l.flow l.ears;
-  came : (o : Site) (p : Place) → o.line ≡ g.D.Desk.line l.fn.pass → o.accounts ≡ l.accounts → IsAt o p l.fn.flow l.fn.ears
+  said : l.said ≡ [];
+  stands : IsStanding (g.D.Desk.line l.pass) l.accounts l.conn.flow l.conn.ears l.conn.left;
+  came : (o : Site) (p : Place) → o.line ≡ g.D.Desk.line l.fn.pass → o.accounts ≡ l.accounts → IsAt o p l.fn.conn.flow l.fn.conn.ears l.fn.conn.left
       → Came o (tale (g.L.Link.tape l.fn.link) (turns_of (g.D.Desk.line l.fn.pass) (g.D.Desk.seen l.fn.pass)) (g.C.Clock.told l.fn.clock)
       (g.I.Dice.drawn l.fn.dice)
       (g.L.Link.faults l.fn.link) (g.L.Link.ends l.fn.link) (g.I.Dice.faults l.fn.dice)) (duty o p)
       (tale (g.L.Link.tape l.link) (turns_of (g.D.Desk.line l.fn.pass) (g.D.Desk.seen l.pass)) (g.C.Clock.told l.clock) (g.I.Dice.drawn l.dice)
-      (g.L.Link.faults l.link) (g.L.Link.ends l.link) (g.I.Dice.faults l.dice)) l.flow l.ears;
+      (g.L.Link.faults l.link) (g.L.Link.ends l.link) (g.I.Dice.faults l.dice)) l.conn.flow l.conn.ears l.conn.left;
 }

@@ -19,8 +19,10 @@ converse-requires-clause-stands g c =
       place = start o c.fill.new.into c.args.opened;
       line_is = refl;
       accounts_are = refl;
-      at = at_start _ _ _ c.fill.new.into c.args.opened c.in-Ok.flow c.in-Ok.ears _ _ (c.in-Ok.flow-is ∙ c.in-Ok.ensures.flow) c.number.ensures
-          (ap (λ d. d.domain) c.behind-desk.view_is ∙ ap (λ d. d.domain) c.domain.ensures) (c.in-Ok.ears-is ∙ c.in-Ok.ensures.ears);
+      at = at_start _ _ _ c.fill.new.into c.args.opened c.in-Ok.conn.flow c.in-Ok.conn.ears c.in-Ok.conn.left _ _ (ap
+          (λ x. x.flow) c.in-Ok.conn-is ∙ c.in-Ok.ensures.flow) c.number.ensures
+          (ap (λ d. d.domain) c.behind-desk.view_is ∙ ap (λ d. d.domain) c.domain.ensures) (ap (λ x. x.ears) c.in-Ok.conn-is ∙ c.in-Ok.ensures.ears)
+          (ap (λ x. x.left) c.in-Ok.conn-is ∙ c.in-Ok.ensures.left);
     }
 
 pub returns-in-Ok-clause-ended : goal.returns-in-Ok-clause-ended
@@ -29,9 +31,11 @@ returns-in-Ok-clause-ended g c = λ o v site is.
     concluded_after o _ _ _ _ _ c.converse.result
     (named_by o c.args.opened v c.fill.new.into _ _ _ _ _ _ _ _ _ is long c.in-Full.ensures.drawn c.in-Full.ensures.kept)
     (c.converse.ensures.ended o (start o c.fill.new.into c.args.opened) (ap (λ (x : Site). x.line) site) (ap (λ (x : Site). x.accounts) site)
-    (subst (λ (x : Site). IsAt x (start x c.fill.new.into c.args.opened) c.in-Ok.flow c.in-Ok.ears) (sym site)
-    (at_start _ _ _ c.fill.new.into c.args.opened c.in-Ok.flow c.in-Ok.ears _ _ (c.in-Ok.flow-is ∙ c.in-Ok.ensures.flow) c.number.ensures
-    (ap (λ d. d.domain) c.behind-desk.view_is ∙ ap (λ d. d.domain) c.domain.ensures) (c.in-Ok.ears-is ∙ c.in-Ok.ensures.ears))))
+    (subst (λ (x : Site). IsAt x (start x c.fill.new.into c.args.opened) c.in-Ok.conn.flow c.in-Ok.conn.ears c.in-Ok.conn.left) (sym site)
+    (at_start _ _ _ c.fill.new.into c.args.opened c.in-Ok.conn.flow c.in-Ok.conn.ears c.in-Ok.conn.left _ _ (ap
+    (λ x. x.flow) c.in-Ok.conn-is ∙ c.in-Ok.ensures.flow) c.number.ensures
+    (ap (λ d. d.domain) c.behind-desk.view_is ∙ ap (λ d. d.domain) c.domain.ensures) (ap (λ x. x.ears) c.in-Ok.conn-is ∙ c.in-Ok.ensures.ears) (ap
+    (λ x. x.left) c.in-Ok.conn-is ∙ c.in-Ok.ensures.left))))
 
 pub returns-in-Err-clause-ended : goal.returns-in-Err-clause-ended
 returns-in-Err-clause-ended g c = λ o v site is.

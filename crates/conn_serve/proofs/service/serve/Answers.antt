@@ -15,8 +15,7 @@ returns-in-Ok-clause-went g c =
     went o _ _ c.conclude.result (follows o c.moment-opened.result _ _ _ c.conclude.result c.moment-opened.ensures.told
     (gone_after o _ _ _ _ _ _
     (opened (g.D.Desk.line c.args.pass.now) (g.D.Desk.opening c.args.desk.now).head.domain.domain c.args.accounts.now c.moment-opened.result c.in-Ok.field-0
-    _ _ _ _ _ (g.I.Dice.drawn c.args.dice.now) _ _ _ _ (g.I.Dice.faults c.args.dice.now) c.in-Ok.ensures.served.3
-    c.ring_stirred.ensures.tape c.ring_stirred.ensures.faults c.ring_stirred.ensures.ends)
+    _ _ _ _ (g.I.Dice.drawn c.args.dice.now) _ _ (g.I.Dice.faults c.args.dice.now) c.in-Ok.ensures.served.3)
     (left _ _ _ (record (opening o c.moment-opened.result) { due = Id ∷ [] }) _ _ _
     (began o (record (opening o c.moment-opened.result) { due = Id ∷ [] }) refl refl))))
 
@@ -28,8 +27,7 @@ returns-in-Ok-clause-cause g c =
     is_caused o c.moment-opened.result _ _ c.conclude.result
     (gone_after o _ _ _ _ _ _
     (opened (g.D.Desk.line c.args.pass.now) (g.D.Desk.opening c.args.desk.now).head.domain.domain c.args.accounts.now c.moment-opened.result c.in-Ok.field-0
-    _ _ _ _ _ (g.I.Dice.drawn c.args.dice.now) _ _ _ _ (g.I.Dice.faults c.args.dice.now) c.in-Ok.ensures.served.3
-    c.ring_stirred.ensures.tape c.ring_stirred.ensures.faults c.ring_stirred.ensures.ends)
+    _ _ _ _ (g.I.Dice.drawn c.args.dice.now) _ _ (g.I.Dice.faults c.args.dice.now) c.in-Ok.ensures.served.3)
     (left _ _ _ (record (opening o c.moment-opened.result) { due = Id ∷ [] }) _ _ _
     (began o (record (opening o c.moment-opened.result) { due = Id ∷ [] }) refl refl)))
 

@@ -9,7 +9,7 @@ use Rattle.flow_laws.proofs.laws.a_flow_begins_as_a_connection_opens.Goals as go
 pub returns-clause-through : goal.returns-clause-through
 returns-clause-through c = λ o t r dice long.
     let told : Duty = record (opening o t) { due = Id ∷ [] } in
-    (told, (refl, (told, (refl, refl), refl)), (duty o (start o dice t), (refl, (long, refl)), refl))
+    (told, (told, (refl, refl), refl), (duty o (start o dice t), (long, refl), refl))
 
 pub returns-clause-served : goal.returns-clause-served
 returns-clause-served c = λ o t dice.

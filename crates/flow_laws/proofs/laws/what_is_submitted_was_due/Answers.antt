@@ -14,12 +14,12 @@ fits o p e h w =
     (meets_now p.flow.talk p.flow.talk.phase e (subst (λ (line : ℕ). IsFit line p.flow.talk.event) (sym h.line) h.event_fits) w)
 
 pub returns-clause-enters : goal.returns-clause-enters
-returns-clause-enters c = λ o p e r text h owes w.
-    bring (IsEntered e r text) o p h owes (enters_now o.accounts p.flow.fed p.flow.talk p.flow.talk.phase p.stream p.front p.ahead e r text) h w
+returns-clause-enters c = λ o p e r text h w.
+    bring (IsEntered e r text) o p h (enters_now o.accounts p.flow.fed p.flow.talk p.flow.talk.phase p.stream p.front p.ahead p.owed e r text) h w
 
 pub returns-clause-shorts : goal.returns-clause-shorts
-returns-clause-shorts c = λ o p e h owes may w.
-    bring (IsShorted e) o p h owes (shorts_now o.accounts p.flow.fed p.flow.talk p.flow.talk.phase p.stream p.front p.ahead e) h may w
+returns-clause-shorts c = λ o p e h may w.
+    bring (IsShorted e) o p h (shorts_now o.accounts p.flow.fed p.flow.talk p.flow.talk.phase p.stream p.front p.ahead p.owed e) h may w
 
 pub returns-clause-meets : goal.returns-clause-meets
 returns-clause-meets c = λ o p e h w. (fits o p e h w).0
