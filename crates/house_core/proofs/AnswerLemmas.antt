@@ -30,5 +30,6 @@ enabled_fits false s dice low digits = omega arith
 enabled_fits true s dice low digits =
     let id : ResumeId = record { session = s; digits = dice } in
     let number = length-decimal-le 20 s (omega arith) (omega (arith, low)) low in
+    let seconds = length-decimal-le 3 300 (omega arith) (omega arith) (omega arith) in
     let all = spelling_length id digits in
-    grind (arith, common_steps, number, all)
+    grind (arith, common_steps, number, seconds, all)

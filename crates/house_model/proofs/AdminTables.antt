@@ -28,18 +28,18 @@ use Rattle.muc_roles.specs.Roles.{governs, is_owner}
 use Rattle.muc_room.specs.Seats.{affiliation_in, occupant_of}
 use Rattle.muc_admin.specs.Administration as administration
 use Rattle.muc_admin.specs.Administration.{admin, admin_as, admin_by, is_wrong_count, list_affiliation, list_as, list_by, list_role, set_by, set_wanted}
-use Rattle.muc_admin.specs.Drafts.{config_of, draft_of, is_wrong, lacks_password, lacks_type, put_all}
-use Rattle.muc_admin.specs.Invitations.{has_call, invitation_of}
-use Rattle.muc_admin.specs.Inviting as inviting
-use Rattle.muc_admin.specs.Inviting.{becomes_member, called_by, called_in, copies, decline_nodes, invite, invite_nodes, invite_refusal, invites}
-use Rattle.muc_admin.specs.Inviting.{may_call, message_with}
+use Rattle.muc_settings.specs.Drafts.{config_of, draft_of, is_wrong, lacks_password, lacks_type, put_all}
+use Rattle.muc_owner.specs.Invitations.{has_call, invitation_of}
+use Rattle.muc_owner.specs.Inviting as inviting
+use Rattle.muc_owner.specs.Inviting.{becomes_member, called_by, called_in, copies, decline_nodes, invite, invite_nodes, invite_refusal, invites}
+use Rattle.muc_owner.specs.Inviting.{may_call, message_with}
 use Rattle.muc_admin.specs.Items.{is_garbled, items_of, only_item, wanted_by}
-use Rattle.muc_admin.specs.Owning as owning
-use Rattle.muc_admin.specs.Owning.{configured_so, configures, destroy_in, destroys, destroys_by, granted, is_cancel, nicks_of, owner, owner_as, owner_by}
-use Rattle.muc_admin.specs.Owning.{reason_in, set_as, set_form, told_reason}
+use Rattle.muc_owner.specs.Owning as owning
+use Rattle.muc_owner.specs.Owning.{configured_so, configures, destroy_in, destroys, destroys_by, granted, is_cancel, nicks_of, owner, owner_as, owner_by}
+use Rattle.muc_owner.specs.Owning.{reason_in, set_as, set_form, told_reason}
 use Rattle.muc_admin.specs.Refusals.{is_moderating}
 use Rattle.muc_admin.specs.Sets.{after_all, all_effects, done, first_refusal, gone_if_left, has_occupants}
-use Rattle.muc_admin.specs.declared.invitation.Invitation.{Invitation}
+use Rattle.muc_owner.specs.declared.invitation.Invitation.{Invitation}
 use Rattle.muc_admin.specs.declared.item.Wanted.{Wanted}
 use Rattle.muc_service.specs.Casting.{after}
 use Rattle.muc_service.specs.Rooms.{Rooms, counted}

@@ -37,17 +37,17 @@ use Rattle.muc_room.specs.States.{is_of, set_affiliation, with_affiliation}
 use Rattle.muc_admin.specs.Administration as administration
 use Rattle.muc_admin.specs.Administration.{admin, admin_as, admin_by, is_wrong_count, list_affiliation, list_as, list_by, list_role, set_wanted}
 use Rattle.muc_admin.specs.Afterwards.{after, after_role, changed_by, speakers, with_role, with_roles, with_user}
-use Rattle.muc_admin.specs.Invitations.{has_call, invitation_of}
-use Rattle.muc_admin.specs.Inviting as inviting
-use Rattle.muc_admin.specs.Inviting.{becomes_member, called, called_by, called_in, copies, decline_nodes, invite, invite_nodes, invite_refusal}
-use Rattle.muc_admin.specs.Inviting.{invites, made_member, may_call, message_with}
+use Rattle.muc_owner.specs.Invitations.{has_call, invitation_of}
+use Rattle.muc_owner.specs.Inviting as inviting
+use Rattle.muc_owner.specs.Inviting.{becomes_member, called, called_by, called_in, copies, decline_nodes, invite, invite_nodes, invite_refusal}
+use Rattle.muc_owner.specs.Inviting.{invites, made_member, may_call, message_with}
 use Rattle.muc_admin.specs.Items.{is_garbled, items_of, only_item, wanted_by}
 use Rattle.muc_admin.specs.Listings as listings
 use Rattle.muc_admin.specs.Listings.{is_same_affiliation, is_same_role}
 use Rattle.muc_admin.specs.Refusals.{is_moderating, refusal, refused_by, too_large, verdict_on}
 use Rattle.muc_admin.specs.Sets.{after_all, all_effects, done, first_refusal, gone_if_left, has_occupants}
 use Rattle.muc_admin.specs.Telling.{affiliation_told, all_told, effects_of, kicked, leaving, new_role, removal_code, role_told, told, told_if}
-use Rattle.muc_admin.specs.declared.invitation.Invitation.{Invitation}
+use Rattle.muc_owner.specs.declared.invitation.Invitation.{Invitation}
 use Rattle.muc_admin.specs.declared.item.Wanted.{Wanted}
 use Rattle.muc_admin.specs.declared.item.Wanted.TheVariants as wanted
 use Rattle.muc_service.specs.Rooms.{Hosted, Rooms, hosted_as, step}

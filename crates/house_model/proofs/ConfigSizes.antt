@@ -5,12 +5,12 @@ use Rattle.std.specs.List.{list_any}
 use Rattle.std.proofs.lemmas.Bool.{leb-true}
 use Rattle.stanza_model.specs.declared.form.Field.{Field}
 use Rattle.stanza_model.specs.declared.shared.Config.{Config}
-use Rattle.muc_admin.specs.Drafts.{config_of, draft_of, first_value, fits, fits_by, is_wrong, number_from, put, put_all, put_by}
-use Rattle.muc_admin.specs.Settings.{setting_named}
-use Rattle.muc_admin.specs.declared.draft.Draft.{Draft}
-use Rattle.muc_admin.specs.declared.setting.Setting.{Setting}
-use Rattle.muc_admin.specs.declared.setting.Setting.TheVariants.{FormType, Title, Persistent, MembersOnly, Moderated}
-use Rattle.muc_admin.specs.declared.setting.Setting.TheVariants.{ChangeSubject, Whois, Guarded, Secret, Most}
+use Rattle.muc_settings.specs.Drafts.{config_of, draft_of, first_value, fits, fits_by, is_wrong, number_from, put, put_all, put_by}
+use Rattle.muc_settings.specs.Settings.{setting_named}
+use Rattle.muc_settings.specs.declared.draft.Draft.{Draft}
+use Rattle.muc_settings.specs.declared.setting.Setting.{Setting}
+use Rattle.muc_settings.specs.declared.setting.Setting.TheVariants.{FormType, Title, Persistent, MembersOnly, Moderated}
+use Rattle.muc_settings.specs.declared.setting.Setting.TheVariants.{ChangeSubject, Whois, Guarded, Secret, Most}
 use Rattle.house_model.proofs.StayEnters.{neither}
 use Rattle.house_model.proofs.StayLemmas.{choose}
 

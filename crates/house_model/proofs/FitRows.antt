@@ -14,10 +14,10 @@ use Rattle.stanza_model.specs.declared.room.Seat.{Seat}
 use Rattle.stanza_model.specs.declared.stanza.Stanza.{Stanza}
 use Rattle.contact_table.specs.Books.{local_user}
 use Rattle.muc_room.specs.Leaving.{leave}
-use Rattle.muc_admin.specs.Invitations.{invitation_of}
-use Rattle.muc_admin.specs.Inviting.{copies, invite, x_in}
+use Rattle.muc_owner.specs.Invitations.{invitation_of}
+use Rattle.muc_owner.specs.Inviting.{copies, invite, x_in}
 use Rattle.muc_admin.specs.Items.{admin_space}
-use Rattle.muc_admin.specs.Owning.{owner_space}
+use Rattle.muc_owner.specs.Owning.{owner_space}
 use Rattle.muc_service.specs.Rooms.{Hosted, Rooms, is_in}
 use Rattle.house_model.specs.Fitting.{EffectFits, IsInHouse}
 use Rattle.house_model.specs.Lookups.{sessions_of}

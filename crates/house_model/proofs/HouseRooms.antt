@@ -21,9 +21,9 @@ use Rattle.muc_room.specs.Entering.{enter}
 use Rattle.muc_room.specs.Leaving.{leave}
 use Rattle.muc_room.specs.Renaming.{rename}
 use Rattle.muc_admin.specs.Administration.{admin}
-use Rattle.muc_admin.specs.Inviting.{invite}
+use Rattle.muc_owner.specs.Inviting.{invite}
 use Rattle.muc_admin.specs.Items.{admin_space}
-use Rattle.muc_admin.specs.Owning.{owner, owner_space}
+use Rattle.muc_owner.specs.Owning.{owner, owner_space}
 use Rattle.muc_service.specs.Casting.{after}
 use Rattle.muc_service.specs.Numbering.{AreNumbered, Numbered}
 use Rattle.muc_service.specs.Rooms.{Hosted, Rooms, hosted_as, is_in}

@@ -21,7 +21,7 @@ use Rattle.stanza_model.specs.Stanzas.{stanza_of}
 use Rattle.stanza_model.specs.declared.here.Here.{Here}
 use Rattle.stanza_model.specs.declared.stanza.Stanza.{Stanza}
 use Rattle.presence_core.specs.Copies.{presence_text}
-use Rattle.muc_admin.specs.Owning.{as_told, is_long, is_said, is_said_in, told_reason, words_alone}
+use Rattle.muc_owner.specs.Owning.{as_told, is_long, is_said, is_said_in, told_reason, words_alone}
 use Rattle.muc_room.specs.Saying.{is_marked, marked}
 use Rattle.muc_room.specs.Views.{is_shown, shown_children, user_space, x_of}
 use Rattle.house_model.proofs.ReplySizes.{closed-le, first-length, named-le, under-le, under-parts}

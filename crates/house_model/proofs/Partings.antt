@@ -161,7 +161,7 @@ has_come_is now (Held v d) None is = absurd (true≢false (sym is))
 has_come_is now Away None is = absurd (true≢false (sym is))
 has_come_is now Gone None is = absurd (true≢false (sym is))
 
-due_is : (now : ℕ) (b : Bool) (m : Hold) (t : Traffic) (r : Rest) → is_due now (keep_by b m t r) ≡ true
+pub due_is : (now : ℕ) (b : Bool) (m : Hold) (t : Traffic) (r : Rest) → is_due now (keep_by b m t r) ≡ true
     → IsOverOrDue now m r.deadline
 due_is now b (Held v d) t r is = has_come_is now (Held v d) r.deadline is
 due_is now b Away t r is = has_come_is now Away r.deadline is

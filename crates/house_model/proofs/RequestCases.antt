@@ -41,22 +41,22 @@ use Rattle.muc_admin.specs.Administration as administration
 use Rattle.muc_admin.specs.Administration.{admin, admin_as, admin_by, is_wrong_count, list_affiliation, list_as, list_by, list_role}
 use Rattle.muc_admin.specs.Administration.{occupants_in, set_wanted}
 use Rattle.muc_admin.specs.Afterwards.{after, after_role, changed_by, speakers, with_role, with_roles, with_user}
-use Rattle.muc_admin.specs.Drafts.{config_of, draft_of, is_wrong, lacks_password, lacks_type, put_all}
-use Rattle.muc_admin.specs.Invitations.{has_call, invitation_of}
-use Rattle.muc_admin.specs.Inviting as inviting
-use Rattle.muc_admin.specs.Inviting.{becomes_member, called_by, called_in, copies, decline_nodes, invite, invite_nodes, invite_refusal}
-use Rattle.muc_admin.specs.Inviting.{invites, made_member, may_call, message_with}
+use Rattle.muc_settings.specs.Drafts.{config_of, draft_of, is_wrong, lacks_password, lacks_type, put_all}
+use Rattle.muc_owner.specs.Invitations.{has_call, invitation_of}
+use Rattle.muc_owner.specs.Inviting as inviting
+use Rattle.muc_owner.specs.Inviting.{becomes_member, called_by, called_in, copies, decline_nodes, invite, invite_nodes, invite_refusal}
+use Rattle.muc_owner.specs.Inviting.{invites, made_member, may_call, message_with}
 use Rattle.muc_admin.specs.Items.{is_garbled, items_of, only_item, wanted_by}
 use Rattle.muc_admin.specs.Listings.{affiliation_items, is_same_affiliation, is_same_role, listing}
-use Rattle.muc_admin.specs.Owning as owning
-use Rattle.muc_admin.specs.Owning.{configures, destroy_in, destroys_by, form_query, is_cancel, nicks_of, owner, owner_as, owner_by}
-use Rattle.muc_admin.specs.Owning.{owner_space, set_as, set_form}
-use Rattle.muc_admin.specs.Owning.{told_reason}
+use Rattle.muc_owner.specs.Owning as owning
+use Rattle.muc_owner.specs.Owning.{configures, destroy_in, destroys_by, form_query, is_cancel, nicks_of, owner, owner_as, owner_by}
+use Rattle.muc_owner.specs.Owning.{owner_space, set_as, set_form}
+use Rattle.muc_owner.specs.Owning.{told_reason}
 use Rattle.muc_admin.specs.Refusals.{is_moderating}
 use Rattle.muc_admin.specs.Sets.{after_all, all_effects, done, first_refusal, gone_if_left, has_occupants}
 use Rattle.muc_admin.specs.Telling.{affiliation_told, all_told, effects_of, gone_item, kicked, leaving, new_role, removal_code, role_told}
 use Rattle.muc_admin.specs.Telling.{shown_as, told, told_if}
-use Rattle.muc_admin.specs.declared.invitation.Invitation.{Invitation}
+use Rattle.muc_owner.specs.declared.invitation.Invitation.{Invitation}
 use Rattle.muc_admin.specs.declared.item.Wanted.{Wanted}
 use Rattle.muc_admin.specs.declared.item.Wanted.TheVariants as wanted
 use Rattle.house_model.proofs.Founds.{append_all, either_all, filter_all}

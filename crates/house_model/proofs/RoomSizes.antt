@@ -31,16 +31,16 @@ use Rattle.muc_room.specs.Entries.{no_subject, subject_text}
 use Rattle.muc_room.specs.Saying.{marked, message_text, private_text}
 use Rattle.muc_room.specs.Views.{at, child_node, reason_nodes, user_space, x_of}
 use Rattle.muc_admin.specs.Administration.{occupants_in}
-use Rattle.muc_admin.specs.Inviting.{call_element, decline_nodes, invite_nodes, message_with, password_element, password_nodes}
+use Rattle.muc_owner.specs.Inviting.{call_element, decline_nodes, invite_nodes, message_with, password_element, password_nodes}
 use Rattle.muc_admin.specs.Items.{admin_space}
 use Rattle.muc_admin.specs.Listings.{affiliation_item, affiliation_items, counted, fitting, is_same_affiliation, listing, most_text, role_items}
-use Rattle.muc_admin.specs.Owning.{form_query, owner_space}
-use Rattle.muc_admin.specs.Settings.{choice, choice_node, choices_of, config_form, field_element, field_node, flag, form_space, is_guarded}
-use Rattle.muc_admin.specs.Settings.{setting_name}
-use Rattle.muc_admin.specs.Settings.{setting_type, value_element, value_of, whois_name}
-use Rattle.muc_admin.specs.declared.setting.Setting.{Setting}
-use Rattle.muc_admin.specs.declared.setting.Setting.TheVariants.{FormType, Title, Persistent, MembersOnly, Moderated}
-use Rattle.muc_admin.specs.declared.setting.Setting.TheVariants.{ChangeSubject, Whois, Guarded, Secret, Most}
+use Rattle.muc_owner.specs.Owning.{form_query, owner_space}
+use Rattle.muc_settings.specs.Settings.{choice, choice_node, choices_of, config_form, field_element, field_node, flag, form_space, is_guarded}
+use Rattle.muc_settings.specs.Settings.{setting_name}
+use Rattle.muc_settings.specs.Settings.{setting_type, value_element, value_of, whois_name}
+use Rattle.muc_settings.specs.declared.setting.Setting.{Setting}
+use Rattle.muc_settings.specs.declared.setting.Setting.TheVariants.{FormType, Title, Persistent, MembersOnly, Moderated}
+use Rattle.muc_settings.specs.declared.setting.Setting.TheVariants.{ChangeSubject, Whois, Guarded, Secret, Most}
 use Rattle.house_model.specs.Fitting.{IsShortAddress}
 use Rattle.house_model.proofs.PartSizes.{marked-le}
 use Rattle.house_model.proofs.ReplySizes.{first-length, one-attribute-le, plain-attributes, plain-declared, reply-le, spelt_length, under-le}

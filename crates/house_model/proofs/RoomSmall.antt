@@ -28,11 +28,11 @@ use Rattle.muc_room.specs.Entries.{present, subject_text}
 use Rattle.muc_room.specs.Leaving.{last_words}
 use Rattle.muc_room.specs.Saying.{private_text}
 use Rattle.muc_room.specs.Views.{seen, shown_children, user_space}
-use Rattle.muc_admin.specs.Invitations.{declined_in, has_one_call, invitation_as, invitation_if, invitation_to, invited_in}
-use Rattle.muc_admin.specs.Inviting.{copies, invite}
+use Rattle.muc_owner.specs.Invitations.{declined_in, has_one_call, invitation_as, invitation_if, invitation_to, invited_in}
+use Rattle.muc_owner.specs.Inviting.{copies, invite}
 use Rattle.muc_admin.specs.Items.{address_at, admin_space}
-use Rattle.muc_admin.specs.Owning.{nicks_of, owner_space, seat_nick, told_reason}
-use Rattle.muc_admin.specs.declared.invitation.Invitation.{Invitation}
+use Rattle.muc_owner.specs.Owning.{nicks_of, owner_space, seat_nick, told_reason}
+use Rattle.muc_owner.specs.declared.invitation.Invitation.{Invitation}
 use Rattle.muc_service.specs.Rooms.{Hosted, Rooms, is_in}
 use Rattle.house_model.specs.Fitting.{IsShortAddress, IsShortOccupant, IsShortRoom}
 use Rattle.house_model.specs.Requests.{queries}

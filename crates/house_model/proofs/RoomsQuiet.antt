@@ -25,9 +25,9 @@ use Rattle.muc_room.specs.Leaving.{leave, last_words}
 use Rattle.muc_room.specs.Renaming.{rename}
 use Rattle.muc_room.specs.Saying.{direct, say}
 use Rattle.muc_admin.specs.Administration.{admin}
-use Rattle.muc_admin.specs.Inviting.{copies, invite}
+use Rattle.muc_owner.specs.Inviting.{copies, invite}
 use Rattle.muc_admin.specs.Items.{admin_space}
-use Rattle.muc_admin.specs.Owning.{owner, owner_space}
+use Rattle.muc_owner.specs.Owning.{owner, owner_space}
 use Rattle.muc_service.specs.Casting.{cast, copies_for, copies_in, copy_for, heard}
 use Rattle.muc_service.specs.Rooms.{Hosted, Rooms, hosted_as, is_in, step}
 use Rattle.mam_wire.specs.Answers.{mam_space}

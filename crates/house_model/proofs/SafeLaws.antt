@@ -16,9 +16,9 @@ use Rattle.sm_account.proofs.Carried.{carries_from}
 use Rattle.house_model.specs.declared.event.Event.TheVariants as event
 use Rattle.house_model.specs.declared.reply.Reply.{Reply}
 use Rattle.house_model.specs.Sessions.{Hold, Held, Away, Ended, Gone}
-use Rattle.house_model.specs.States.{State}
+use Rattle.house_model.specs.States.{State, keep}
 use Rattle.house_model.specs.Gate.{Verdict}
-use Rattle.house_model.specs.Steps.{turn}
+use Rattle.house_model.specs.Steps.{verdict, turn}
 use Rattle.house_model.specs.Histories.{Made, Turn, made, step, next, after, Legal, IsOpening}
 use Rattle.house_model.specs.Bridge.{hold_of, core_of, effects_ops, turn_ops, ops_of, alone_of}
 use Rattle.house_model.specs.Lines.{carried, arrivals}
@@ -29,13 +29,18 @@ use Rattle.house_model.proofs.TurnLaws.{always_sound}
 use Rattle.house_model.proofs.Cores.{alone_core}
 use Rattle.house_model.proofs.Prefixes.{handled_is, acted_is, count_is_named}
 use Rattle.house_model.proofs.Resumes.{finds, unread_fails, unfound_fails, high_is, effects_are, resumed_is, finds_live, finds_counts}
-use Rattle.house_model.proofs.Joins.{taken_answers}
+use Rattle.house_model.proofs.Joins.{GoesOn, taken_answers}
+use Rattle.house_model.proofs.Holding.{holds_from}
+use Rattle.house_model.proofs.EndingLaws.{endings_are}
+use Rattle.house_model.proofs.ClosingLaws.{closings_are}
 use Rattle.house_model.proofs.GivenIds.{can_is}
 use Rattle.house_model.proofs.Partings.{departs_is}
 use Rattle.house_model.proofs.LineLaws.{shares_are, counts_alone}
 use Rattle.house_model.proofs.AccountLaws.{ops_append}
 use Rattle.house_model.proofs.HandledRuns.{handled_runs}
 use Rattle.house_model.proofs.StayVerdicts.{gapless}
+use Rattle.house_model.proofs.QueueLaws.{queueing}
+use Rattle.house_model.proofs.FullLaws.{deliveries}
 
 -- a Resume in turn
 fails : (o : State) (h : List Turn) → IsOpening o → Legal o h → (w c user count t : ℕ) (id : Option ResumeId)
@@ -60,14 +65,17 @@ miscounts o h starts legal w c user count t id turn can none =
 resumes : (o : State) (h : List Turn) → IsOpening o → Legal o h → (w c user count t n : ℕ) (id : ResumeId)
     → InTurn (after o h) w c user → can_resume o h user (Some id) ≡ true
     → number_of (session_in o h id.session).traffic count ≡ Some n
-    → IsResumed (after o h) w id (step (after o h) (event.Resume w (Some id) count t))
-resumes o h starts legal w c user count t n id turn can has =
+    → IsResumed (after o h) w c ((session_in o h id.session).traffic.base_out + n) id (step (after o h) (event.Resume w (Some id) count t))
+resumes o h starts legal w c user count t n id in_turn can has =
     let it = found o h starts legal user id can in
     let sound = always_sound o h starts in
+    let goes : GoesOn (after o h) w c user id count
+    (verdict (keep (turn (event.Resume w (Some id) count t) (after o h))) (event.Resume w (Some id) count t)) =
+    record { n = n; found = it; has = has; is = effects_are (after o h) w c user id count t n sound in_turn it has } in
     record {
-      resumed = resumed_is (after o h) w c user id count t n sound turn it has;
-      answers = taken_answers (after o h) w c user id count _
-          (record { n = n; found = it; has = has; is = effects_are (after o h) w c user id count t n sound turn it has });
+      resumed = resumed_is (after o h) w c user id count t n sound in_turn it has;
+      answers = taken_answers (after o h) w c user id count _ goes;
+      bound = holds_from o h starts w c user count t id in_turn.logged goes;
     }
 
 -- what the new connection carries
@@ -142,7 +150,7 @@ carries o h starts legal w c user count t n id turn can has more all_legal =
 
 counts : (o : State) (h : List Turn) → IsOpening o → Legal o h → (w c user t : ℕ) (id : ResumeId) (a : Account Stanza)
     → InTurn (after o h) w c user → can_resume o h user (Some id) ≡ true → IsAccountOf a o h id.session
-    → IsResumed (after o h) w id
+    → IsResumed (after o h) w c ((session_in o h id.session).traffic.base_out + total_handled a o h id.session) id
     (step (after o h) (event.Resume w (Some id) (count_of (total_handled a o h id.session)) t))
 counts o h starts legal w c user t id a turn can is =
     resumes o h starts legal w c user (count_of (total_handled a o h id.session)) t (total_handled a o h id.session) id
@@ -167,4 +175,8 @@ safe o h starts legal = record {
   resumption = resumption o h starts legal;
   gapless = gapless o h starts;
   gapless_handled = λ s i a is. handled_runs o h s i a starts legal is;
+  endings = endings_are o h starts legal;
+  closings = closings_are o h starts;
+  queueing = queueing o h starts;
+  deliveries = deliveries o h starts;
 }

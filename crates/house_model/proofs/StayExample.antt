@@ -15,13 +15,13 @@ use Rattle.house_model.specs.Effects.{Effect, apply_all}
 use Rattle.house_model.specs.Stays.{Ended, Logs, no_logs, live_of, logs_through}
 use Rattle.house_model.specs.Casts.{Part, Alone, Cast, parts_effects, PartsSuit}
 
-abbrev her : Address
+abbrev pub her : Address
 her = record { local = Some (97 ∷ []); domain = 98 ∷ []; resource = Some (99 ∷ []) }
 
-abbrev room : Address
+abbrev pub room : Address
 room = record { local = Some (100 ∷ []); domain = 101 ∷ []; resource = None }
 
-abbrev start : World Traffic
+abbrev pub start : World Traffic
 start = (opening her ((97 ∷ []) ∷ []) 2).world
 
 -- She is bound, makes a room, enters it, hears one item, leaves, and another comes.

@@ -16,9 +16,9 @@ use Rattle.presence_core.specs.Broadcasts.{asked_by}
 use Rattle.muc_room.specs.Entering.{enter}
 use Rattle.muc_room.specs.Leaving.{leave}
 use Rattle.muc_room.specs.Renaming.{rename}
-use Rattle.muc_admin.specs.Inviting.{invite}
+use Rattle.muc_owner.specs.Inviting.{invite}
 use Rattle.muc_admin.specs.Items.{admin_space}
-use Rattle.muc_admin.specs.Owning.{owner_space}
+use Rattle.muc_owner.specs.Owning.{owner_space}
 use Rattle.muc_service.specs.Rooms.{Hosted, Rooms, hosted_as, is_in}
 use Rattle.house_model.specs.Traffic.{KeptTraffic}
 use Rattle.house_model.specs.States.{World}

@@ -4,6 +4,7 @@ use Rattle.std.specs.Fmt.{decimal}
 use Rattle.stanza_tree.specs.Spelling.{value_text, words_text}
 use Rattle.sm_resume.specs.Spelling.{spelling}
 use Rattle.sm_resume.specs.declared.id.ResumeId.{ResumeId}
+use Rattle.house_model.specs.Gate.{patience_seconds}
 use Rattle.house_model.specs.declared.answer.Answer.{Answer}
 use Rattle.house_model.specs.declared.answer.Answer.TheVariants.{Bound, Refused, Unexpected, NotFound, Enabled, Resumed, Counted}
 
@@ -24,10 +25,11 @@ abbrev pub failed_text : List ℕ → List ℕ
 failed_text condition =
     codes "<failed xmlns='urn:xmpp:sm:3'><" ++ condition ++ codes " xmlns='urn:ietf:params:xml:ns:xmpp-stanzas'/></failed>"
 
--- XEP-0198, 3: with an id the session can be resumed for 300 seconds
+-- XEP-0198, 3: with an id the session can be resumed, for so many seconds after its connection was lost
 abbrev pub enabled_text : Option ResumeId → List ℕ
 enabled_text None = codes "<enabled xmlns='urn:xmpp:sm:3'/>"
-enabled_text (Some id) = codes "<enabled xmlns='urn:xmpp:sm:3' id='" ++ spelling id ++ codes "' max='300' resume='true'/>"
+enabled_text (Some id) =
+    codes "<enabled xmlns='urn:xmpp:sm:3' id='" ++ spelling id ++ codes "' max='" ++ decimal patience_seconds ++ codes "' resume='true'/>"
 
 -- XEP-0198, 5
 abbrev pub resumed_text : ℕ → ResumeId → List ℕ

@@ -1,6 +1,6 @@
 -- The checks before an event, in one gate: no connection, one that is over, one that is not at the stage for this, or one for which too many
 -- answers wait already. What the gate lets through is the line's connection with its user or session.
-use Rattle.std.specs.Prelude.{ℕ, ◌+◌, nat_le, List, [], ◌∷◌, ◌++◌, length, Option, Some, None, Bool, true, false, ◌&&◌}
+use Rattle.std.specs.Prelude.{ℕ, ◌+◌, ◌*◌, nat_le, List, [], ◌∷◌, ◌++◌, length, Option, Some, None, Bool, true, false, ◌&&◌}
 use Rattle.sm_resume.specs.declared.decision.Cause.TheVariants.{Flood, Closed, Lost}
 use Rattle.sm_resume.specs.declared.id.ResumeId.{ResumeId}
 use Rattle.session_table.specs.declared.line.Line as stage
@@ -71,9 +71,12 @@ most_answers = 8
 abbrev pub is_full : Needs → Line → Bool
 is_full n l = n.answers && nat_le most_answers (length l.answers)
 
--- how long a session that lost its connection can be resumed, in milliseconds
+-- how long a session that lost its connection can be resumed, in seconds, and in milliseconds
+abbrev pub patience_seconds : ℕ
+patience_seconds = 300
+
 abbrev pub patience : ℕ
-patience = 300000
+patience = 1000 * patience_seconds
 
 -- XEP-0198, 5: what becomes of the session whose connection is lost: with an id it can be resumed until the deadline
 abbrev pub left_by : Option ResumeId → ℕ → Op

@@ -18,6 +18,10 @@ use Rattle.house_model.specs.Histories.{Turn, made, step, after, Legal}
 use Rattle.house_model.specs.Accounts.{IsAccountOf, handled, total_handled}
 use Rattle.house_model.specs.Lines.{carried, acted, was_given}
 use Rattle.house_model.specs.Stays.{Gapless, live_of, logs_of, own, run}
+use Rattle.house_model.specs.Endings.{Endings}
+use Rattle.house_model.specs.Closings.{Closings}
+use Rattle.house_model.specs.Queueing.{queued_for}
+use Rattle.house_model.specs.Deliveries.{Deliveries}
 use Rattle.house_model.specs.Resuming.{InTurn, is_live, is_of_user, IsNotFound, IsResumed, IsSwept, IsReplaced}
 
 abbrev pub session_in : State → List Turn → ℕ → Session Traffic
@@ -69,10 +73,10 @@ pub record Resumption (o : State) (h : List Turn) : Type 0 where
   pub miscounts : (w c user count t : ℕ) (id : ResumeId) → InTurn (after o h) w c user
       → can_resume o h user (Some id) ≡ true → number_of (session_in o h id.session).traffic count ≡ None
       → reply_to o h (event.Resume w (Some id) count t) ≡ too_high (session_in o h id.session).traffic count
-  -- In every other case the session is resumed,
+  -- In every other case the session is resumed, and its connection holds it and goes on at the client's number,
   pub resumes : (w c user count t n : ℕ) (id : ResumeId) → InTurn (after o h) w c user
       → can_resume o h user (Some id) ≡ true → number_of (session_in o h id.session).traffic count ≡ Some n
-      → IsResumed (after o h) w id (step (after o h) (event.Resume w (Some id) count t))
+      → IsResumed (after o h) w c ((session_in o h id.session).traffic.base_out + n) id (step (after o h) (event.Resume w (Some id) count t))
   -- and what the connection carries begins at the client's number.
   pub carries : (w c user count t n : ℕ) (id : ResumeId) → InTurn (after o h) w c user
       → can_resume o h user (Some id) ≡ true → number_of (session_in o h id.session).traffic count ≡ Some n
@@ -81,7 +85,7 @@ pub record Resumption (o : State) (h : List Turn) : Type 0 where
   -- A client that counts, and says how many entries it handled, is resumed.
   pub counts : (w c user t : ℕ) (id : ResumeId) (a : Account Stanza) → InTurn (after o h) w c user
       → can_resume o h user (Some id) ≡ true → IsAccountOf a o h id.session
-      → IsResumed (after o h) w id
+      → IsResumed (after o h) w c ((session_in o h id.session).traffic.base_out + total_handled a o h id.session) id
       (step (after o h) (event.Resume w (Some id) (count_of (total_handled a o h id.session)) t))
   -- A session departs by a Sweep, where it is over or past its deadline, or by a Bind of its address.
   pub departs : (e : Event) (s : ℕ) → ((step (after o h) e).state.world.sessions s).hold ≡ Gone
@@ -100,3 +104,11 @@ pub record Safe (o : State) (h : List Turn) : Type 0 where
   -- What a client that counts has handled of it is a prefix of that run, from its first number that is counted on.
   pub gapless_handled : (s i : ℕ) (a : Account Stanza) → IsAccountOf a o h s
       → IsPrefixOf (live_of i (handled a o h s)) (drop (length (live_of i (uncounted o h s))) (run_of o h s i))
+  -- A session ends for its causes and no other; where its connection is lost and it can be resumed, it waits for 300 seconds.
+  pub endings : Endings o h
+  -- A connection is over for its causes and no other.
+  pub closings : Closings o h
+  -- What was queued for a session is what the turns queued for it while it went on, in their order.
+  pub queueing : (s : ℕ) → (session_in o h s).traffic.queued ≡ queued_for o h s
+  -- A stanza that is acted on is queued for each session that the tables of routing name, and an error for its sender, or the session is over for want of room.
+  pub deliveries : Deliveries (after o h)

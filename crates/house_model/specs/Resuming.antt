@@ -1,8 +1,9 @@
 -- Requests to resume a session (XEP-0198, 5), and departures.
 use Rattle.std.specs.Prelude.{◌≡◌, ℕ, ◌<◌, ◌≤◌, List, [], ◌∷◌, ◌++◌, length, Option, Some, None, Bool, true, false, ⊤}
 use Rattle.jid_core.specs.Addresses.{same_address, same_bare}
+use Rattle.sm_resume.specs.declared.decision.Cause.TheVariants.{Moved}
 use Rattle.sm_resume.specs.declared.id.ResumeId.{ResumeId}
-use Rattle.session_table.specs.declared.line.Line.TheVariants.{Logged}
+use Rattle.session_table.specs.declared.line.Line.TheVariants.{Logged, Bound, Over}
 use Rattle.house_model.specs.declared.answer.Answer.TheVariants as answer
 use Rattle.house_model.specs.declared.event.Event.{Event}
 use Rattle.house_model.specs.declared.event.Event.TheVariants as event
@@ -34,11 +35,22 @@ pub record IsNotFound (st : State) (w : ℕ) (after : Step Traffic) : Type 0 whe
   pub done : after.reply ≡ reply.Done
   pub answers : (after.state.world.lines w).answers ≡ (st.world.lines w).answers ++ answer.NotFound ∷ []
 
--- the answer is `resumed`, with the count of what was acted on for the client
-pub record IsResumed (st : State) (w : ℕ) (id : ResumeId) (after : Step Traffic) : Type 0 where
+-- Connection c of line w holds session s from now on, and is given its queue from this place on; the connection that held it before, if one did,
+-- is over.
+pub record HoldsFrom (st : State) (w c s place : ℕ) (after : Step Traffic) : Type 0 where
+  pub line : (after.state.world.lines w).stage ≡ Bound c s
+  pub hold : (after.state.world.sessions s).hold ≡ Held w c
+  pub queued : (after.state.world.sessions s).traffic.queued ≡ (st.world.sessions s).traffic.queued
+  pub sent : (after.state.world.sessions s).traffic.sent ≡ place
+  pub deadline : (after.state.world.sessions s).rest.deadline ≡ None
+  pub moved : (v d : ℕ) → (st.world.sessions s).hold ≡ Held v d → (after.state.world.lines v).stage ≡ Over d (Moved c)
+
+-- the answer is `resumed`, with the count of what was acted on for the client, and the connection holds the session
+pub record IsResumed (st : State) (w c place : ℕ) (id : ResumeId) (after : Step Traffic) : Type 0 where
   pub resumed : after.reply ≡ reply.Resumed
   pub answers : (after.state.world.lines w).answers
       ≡ (st.world.lines w).answers ++ answer.Resumed (inward (st.world.sessions id.session).traffic) id ∷ []
+  pub bound : HoldsFrom st w c id.session place after
 
 -- it is over, or may be resumed no more
 abbrev pub IsOverOrDue : ℕ → Hold → Option ℕ → Type 0

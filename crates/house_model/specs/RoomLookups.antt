@@ -10,8 +10,8 @@ use Rattle.stanza_router.specs.declared.listed.Listed.{Listed}
 use Rattle.contact_table.specs.Books.{local_user}
 use Rattle.muc_room.specs.Seats.{occupant_of, seat_of}
 use Rattle.muc_room.specs.declared.entering.Numbers.{Numbers}
-use Rattle.muc_admin.specs.Invitations.{invitation_of}
-use Rattle.muc_admin.specs.Inviting.{x_in}
+use Rattle.muc_owner.specs.Invitations.{invitation_of}
+use Rattle.muc_owner.specs.Inviting.{x_in}
 use Rattle.muc_service.specs.Rooms.{Hosted, Rooms, entered_by, hosted_at, is_in}
 use Rattle.house_model.specs.Presences.{available_of}
 use Rattle.house_model.specs.States.{World}

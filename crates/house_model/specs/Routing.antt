@@ -37,9 +37,9 @@ use Rattle.muc_room.specs.Leaving.{leave}
 use Rattle.muc_room.specs.Renaming.{rename}
 use Rattle.muc_room.specs.Saying.{direct, say}
 use Rattle.muc_admin.specs.Administration.{admin}
-use Rattle.muc_admin.specs.Inviting.{invite}
+use Rattle.muc_owner.specs.Inviting.{invite}
 use Rattle.muc_admin.specs.Items.{admin_space}
-use Rattle.muc_admin.specs.Owning.{owner, owner_space}
+use Rattle.muc_owner.specs.Owning.{owner, owner_space}
 use Rattle.muc_service.specs.Rooms.{Hosted, Rooms, is_in}
 use Rattle.mam_wire.specs.Answers.{mam_space}
 use Rattle.house_model.specs.Archives.{archived}

@@ -32,8 +32,12 @@ ghost use Rattle.house_model.specs.Sound.{Sound, Back, Fits};
 ghost use Rattle.house_model.specs.Bridge.{core_of, ops_of, alone_of};
 ghost use Rattle.house_model.specs.Lines.{lines, carried, arrivals, acted, asks};
 ghost use Rattle.house_model.specs.Accounts.{IsAccountOf, handled};
+ghost use Rattle.house_model.specs.Closings.{Closings};
+ghost use Rattle.house_model.specs.Endings.{Endings};
 ghost use Rattle.house_model.specs.Promises.{session_in, counted, Resumption, Safe};
 ghost use Rattle.house_model.specs.Stays.{Gapless, IsWithin, logs_of};
+ghost use Rattle.house_model.specs.Queueing.{queued_for};
+ghost use Rattle.house_model.specs.Deliveries.{Deliveries};
 ghost use Rattle.house_model.specs.Story.{small_house, faulty, whole_story, her_account};
 ghost use Rattle.sm_account.specs.Prefixes.{IsPrefixOf};
 ghost use Rattle.sm_account.specs.Sessions as alone;
@@ -165,9 +169,9 @@ pub fn lines_are_the_history()
 /// A Resume in turn is one on a connection that logged in, where fewer than 8 answers wait. It fails with `item-not-found`
 /// exactly where its id can't be read or was given to no session, or that session departed, is another user's, or is over.
 /// Otherwise its count is too high exactly where it stands for no number, and the answer has the server's counts. In every
-/// other case the session is resumed, and what the new connection carries begins at the client's number. A client that
-/// counts, and says how much it handled, is resumed. A session departs by a Sweep where it is over or past its deadline, or
-/// by a Bind of its address, and not otherwise.
+/// other case the session is resumed: the new connection holds it, and the one that held it before is over; what the new one
+/// carries begins at the client's number. A client that counts, and says how much it handled, is resumed. A session departs by
+/// a Sweep where it is over or past its deadline, or by a Bind of its address, and not otherwise.
 pub fn resumption()
     ensures { (o : State) (h : List Turn) → IsOpening o → Legal o h → Resumption o h }
 {}
@@ -177,6 +181,22 @@ pub fn resumption()
 pub fn stays_are_gapless()
     ensures gapless { (o : State) (h : List Turn) → IsOpening o → Gapless (after o h).world (logs_of o h) }
     ensures within { (o : State) (h : List Turn) (i : ℕ) → IsOpening o → IsWithin (logs_of o h).order ((logs_of o h).stays i) }
+{}
+
+/// A session that goes on ends where its client closes its stream, where its connection is lost and it can't be resumed, where
+/// an entry for it has no room in its queue, and where its client acknowledges by a count that stands for no entry; it departs
+/// at a Sweep past its deadline, and where its address is bound; and not otherwise. One that can be resumed and whose connection
+/// is lost waits for 300 seconds: its queue, its counts and its stays are as they were, but for what comes to its queue, until it
+/// is resumed, ends or departs. As long as none of this happens, the connection that holds a session holds it on.
+pub fn endings()
+    ensures { (o : State) (h : List Turn) → IsOpening o → Legal o h → Endings o h }
+{}
+
+/// A connection is over where a session that it holds ends, for this cause; where the session's address is bound; where another
+/// connection resumes the session; where it asks for a session by a count that stands for no entry; and where it asks for a
+/// ninth answer; and not otherwise. It stays so until it is gone. None is over since its session was closed or lost.
+pub fn closings()
+    ensures { (o : State) (h : List Turn) → IsOpening o → Legal o h → Closings o h }
 {}
 
 /// Every legal history is safe.
@@ -195,4 +215,17 @@ pub fn a_cut_client_counts()
         (whole_story (faulty kind condition)) 1 }
     ensures acted { (kind : Kind) (condition : Condition)
         → acted small_house (whole_story (faulty kind condition)) 1 ≡ faulty kind condition ∷ [] }
+{}
+
+/// What was ever queued for a session is what the history queued for it: turn by turn, the entries that the turn's effects have for the session while it
+/// goes on, in their order. A session that is over keeps what it had, and one that isn't made has nothing.
+pub fn queueing()
+    ensures { (o : State) (h : List Turn) (s : ℕ) → IsOpening o → (session_in o h s).traffic.queued ≡ queued_for o h s }
+{}
+
+/// Where a session's stanza is acted on, each session that takes entries gets exactly those that the tables of routing have for it, as the next of its
+/// queue, or it is over, since there was no room for one of them. So a message that is delivered is queued once for each session that it finds: for the
+/// one of its full address, or for each of the user that is available; and a stanza that is refused leaves one error for its sender.
+pub fn deliveries()
+    ensures { (o : State) (h : List Turn) → IsOpening o → Deliveries (after o h) }
 {}

@@ -6,6 +6,7 @@ ghost use Rattle.sm_resume.specs.Spelling.{spelling};
 ghost use Rattle.house_model.specs.Answers.{answer_text, bound_text, counted_text, enabled_text, failed_text, refused_text, request_text, resumed_text};
 ghost use Rattle.house_world.specs.Oldest.{Gave};
 
+use crate::leaving::PATIENCE_SECONDS;
 use house_model::Answer;
 use itoa::Buffer;
 use sm_resume::{ResumeId, digits_of};
@@ -137,7 +138,9 @@ fn push_enabled(id: Option<&ResumeId>, out: &mut Vec<u8>)
         Some(id) => {
             append(b"<enabled xmlns='urn:xmpp:sm:3' id='", out);
             push_id(id, out);
-            append(b"' max='300' resume='true'/>", out);
+            append(b"' max='", out);
+            push_decimal(PATIENCE_SECONDS, out);
+            append(b"' resume='true'/>", out);
         }
     }
 }

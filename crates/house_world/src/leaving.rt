@@ -13,8 +13,11 @@ use crate::world::World;
 use session_table::Line;
 use sm_resume::Cause;
 
-/// How long a session that lost its connection can be resumed, in milliseconds: the five minutes that the answer to `enable` tells (XEP-0198, 3).
-const PATIENCE: u64 = 300_000;
+/// How long a session that lost its connection can be resumed, in seconds: the five minutes that the answer to `enable` tells (XEP-0198, 3).
+pub(crate) const PATIENCE_SECONDS: u64 = 300;
+
+/// The same, in milliseconds.
+const PATIENCE: u64 = 1000 * PATIENCE_SECONDS;
 
 impl World {
     /// The session ends, and so does the connection that holds it. Costs the answers that wait.

@@ -1,0 +1,11 @@
+pub mod Coming
+pub mod Fitting
+pub mod Runs
+pub mod States
+pub mod TalkStates
+pub mod TalkTelling
+pub mod TalkTurns
+pub mod TalkWords
+pub mod Telling
+pub mod Turns
+pub mod Words

@@ -1,0 +1,3 @@
+pub mod Stanzas
+pub mod Story
+pub mod Talk
