@@ -32,6 +32,10 @@ class Server:
         stats = [Path("/proc/%d/stat" % pid).read_text().rsplit(")", 1)[1].split() for pid in self.processes()]
         return sum(int(field) for stat in stats for field in stat[11:15]) / TICK
 
+    def worked(self):
+        """Processor seconds of the threads that there are, to the nanosecond."""
+        return sum(int(Path(path).read_text().split()[0]) for pid in self.processes() for path in glob.glob("/proc/%d/task/*/schedstat" % pid)) / 1e9
+
     def resident(self):
         """KiB that are resident."""
         lines = [line for pid in self.processes() for line in Path("/proc/%d/status" % pid).read_text().splitlines()]

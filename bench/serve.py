@@ -7,6 +7,7 @@ usage: serve.py PORT PID [DOMAIN] [PAIRS] [JOB ..]        with the users u0 to u
 idle         memory of sessions that do nothing: attached ones, and ones that are cut off and wait for their resumption
 logins       logins one after the other
 resumptions  resumptions one after the other, each after a reset
+full         the same, each of which gives 50 entries that came while its link was lost
 one_message  the time of one message on a quiet server
 messages     messages between PAIRS pairs as fast as they go, with stream management
 fixed        the same load over 2, 16 and 64 connections
@@ -89,6 +90,23 @@ def resumptions(count=200):
     leave([client])
 
 
+def full(count=200, entries=50):
+    reader, sender = SERVER.online(0), SERVER.online(1)
+    cost, took = 0, []
+    for _ in range(count):
+        reader.cut()
+        sender.send(message(reader, "x" * 100) * entries + "<r xmlns='urn:xmpp:sm:3'/>")
+        while sender.read().tag != "{urn:xmpp:sm:3}a":
+            pass
+        wanted, before, begin = reader.handled + entries, SERVER.worked(), time.time()
+        reader.resume()
+        reader.until(lambda: reader.handled == wanted)
+        took.append(time.time() - begin)
+        cost += SERVER.worked() - before
+    print("full: %d resumptions of %d entries, %.2f ms in the middle, %.2f ms of processor each" % (count, entries, middle(took) * 1e3, cost * 1e3 / count))
+    leave([reader, sender])
+
+
 def tell_each(job, took, before):
     cost = (SERVER.spent() - before) / len(took)
     print("%s: %d, %.2f ms in the middle, %.2f ms of processor each" % (job, len(took), middle(took) * 1e3, cost * 1e3))
@@ -141,7 +159,7 @@ def quiet(connections=64, seconds=10):
     leave(clients)
 
 
-JOBS = {job.__name__: job for job in (idle, logins, resumptions, one_message, messages, fixed, quiet)}
+JOBS = {job.__name__: job for job in (idle, logins, resumptions, full, one_message, messages, fixed, quiet)}
 
 
 def main():
