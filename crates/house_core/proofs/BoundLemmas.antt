@@ -10,6 +10,7 @@ use Rattle.session_table.specs.declared.line.Line as stage
 use Rattle.session_table.specs.declared.line.Line.TheVariants.{Empty, Fresh, Logged, Bound, Over}
 use Rattle.session_table.specs.Tables.{Rises, TableRecord, conn_of, is_logged, line_of, number_at}
 use Rattle.stanza_tree.proofs.Bounds.{length-value_text-le, length-words_text-le}
+use Rattle.archive_table.specs.Tables.{archives_of}
 use Rattle.house_model.specs.declared.answer.Answer.{Answer}
 use Rattle.house_model.specs.declared.answer.Answer.TheVariants as answer
 use Rattle.house_model.specs.declared.reply.Reply.TheVariants as reply
@@ -29,11 +30,12 @@ use Rattle.house_core.specs.declared.gate.Pass as pass
 use Rattle.house_core.specs.Gates.{Passes}
 use Rattle.house_core.specs.Bindings.{begun_in, replaced_by, replaced_in}
 use Rattle.house_core.specs.Houses.{held}
-use Rattle.house_world.specs.Hosting.{Hosts}
+use Rattle.house_world.specs.Hosting.{Archived, Hosts}
 use Rattle.house_world.specs.Wholes.{IsTied, IsFew}
 use Rattle.house_world.specs.Worlds.{Did, Ends, KeepsLogged, seen}
 use Rattle.house_core.proofs.CallLemmas.{house}
 use Rattle.house_world.proofs.CastLemmas.{hosts_same}
+use Rattle.house_world.proofs.QuietLemmas.{archived_same}
 use Rattle.house_world.proofs.DidLemmas.{did_none, did_then}
 use Rattle.house_core.proofs.EndsLemmas.{ends_by}
 use Rattle.house_world.proofs.ActLemmas.{some_kept}
@@ -73,9 +75,14 @@ logged_is (Fresh c) is = absurd (cc)
 logged_is (Bound c s) is = absurd (cc)
 logged_is (Over c cause) is = absurd (cc)
 
--- an answer that waits leaves the rooms as they are
+-- an answer that waits leaves the rooms and the archives as they are
 pub said_hosts : (w : ℕ) (answer : Answer) (a b : code.World) → Did (At w (Say answer) ∷ []) 0 a b → Hosts a.rooms b.rooms
 said_hosts w answer a b did = hosts_same a.rooms b.rooms (ap (λ (x : World KeptTraffic). x.rooms) did.world)
+
+pub said_archives : (w : ℕ) (answer : Answer) (a b : code.World) → Did (At w (Say answer) ∷ []) 0 a b
+    → Archived (archives_of a.archives) (archives_of b.archives)
+said_archives w answer a b did =
+    archived_same (archives_of a.archives) (archives_of b.archives) (ap (λ (x : World KeptTraffic). x.archives) did.world)
 
 pub refused_ends : (k : Kept) (w c : ℕ) (a : Address) (id : List ℕ) (old new : code.World) → has_place k a ≡ false
     → Did (At w (Say (answer.Refused id)) ∷ []) 0 old new
@@ -132,7 +139,8 @@ room_then w address answer a b d same did =
 -- the session of an address, as the table finds it
 pub found_in : (a : code.World) (address : Address) → IsTied a.table → Rises 0 a.table.sessions a.table.made
     → session_in (seen a) address ≡ number_at address a.table.sessions
-found_in a address tied rises = at_is (some_kept (seen a) 0) address a.table a.answers.items a.book.book a.rooms tied rises refl
+found_in a address tied rises = at_is (some_kept (seen a) 0) address a.table a.answers.items a.book.book a.rooms (archives_of a.archives)
+    tied rises refl
 
 replaces_is : (k : Kept) (o : Option ℕ) → replaced_by k.world o ≡ replaces k o
 replaces_is k None = refl

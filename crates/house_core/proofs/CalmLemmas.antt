@@ -1,10 +1,11 @@
--- Events that leave the rooms as they are: all but those by which stanzas are acted on, or sessions depart.
+-- Events that leave the rooms and the archives as they are: all but those by which stanzas are acted on, or sessions depart.
 use Rattle.std.proofs.Common.{◌≡◌, ℕ, List, [], ◌∷◌, refl, ap, ◌∙◌}
 use Rattle.std.specs.Prelude.{⊤}
 use Rattle.sm_resume.specs.declared.decision.Cause.TheVariants.{Flood}
 use Rattle.house_model.specs.declared.event.Event.{Event}
 use Rattle.house_model.specs.declared.event.Event.TheVariants as event
-use Rattle.house_model.specs.Effects.{Effect, Open, At, Begin, On, Note, Hosts, Leave, Close, apply, apply_all}
+use Rattle.archive_table.specs.Tables.{archives_of}
+use Rattle.house_model.specs.Effects.{Effect, Open, At, Begin, On, Note, Hosts, Files, Leave, Close, apply, apply_all}
 use Rattle.house_model.specs.Gate.{Needs, Waits, Knows, Holds, Verdict, closed, gate_at, left, most_answers, to_act, to_ask, to_login, to_manage, to_pull}
 use Rattle.house_model.specs.States.{Kept, World}
 use Rattle.house_model.specs.Steps.{body, verdict}
@@ -24,10 +25,26 @@ one_simple (Begin w c address) world simple = refl
 one_simple (On s op) world simple = refl
 one_simple (Note change) world simple = refl
 one_simple (Hosts x) world simple = absurd simple
+one_simple (Files filing) world simple = absurd simple
 
-pub simple_rooms : (es : List Effect) (world : World KeptTraffic) → ArePlain es → (apply_all brief world es).rooms ≡ world.rooms
+simple_rooms : (es : List Effect) (world : World KeptTraffic) → ArePlain es → (apply_all brief world es).rooms ≡ world.rooms
 simple_rooms [] world plain = refl
 simple_rooms (e ∷ es) world plain = simple_rooms es (apply brief world e) plain.1 ∙ one_simple e world plain.0
+
+-- nor an archive
+
+one_quiet : (e : Effect) (world : World KeptTraffic) → IsSimple e → (apply brief world e).archives ≡ world.archives
+one_quiet (Open w) world simple = refl
+one_quiet (At w op) world simple = refl
+one_quiet (Begin w c address) world simple = refl
+one_quiet (On s op) world simple = refl
+one_quiet (Note change) world simple = refl
+one_quiet (Hosts x) world simple = absurd simple
+one_quiet (Files filing) world simple = absurd simple
+
+simple_archives : (es : List Effect) (world : World KeptTraffic) → ArePlain es → (apply_all brief world es).archives ≡ world.archives
+simple_archives [] world plain = refl
+simple_archives (e ∷ es) world plain = simple_archives es (apply brief world e) plain.1 ∙ one_quiet e world plain.0
 
 -- events of which no other come
 
@@ -79,3 +96,9 @@ verdict_calm k (event.Sweep w t) calm = absurd calm
 pub calm_rooms : (k : Kept) (e : Event) (a b : code.World) → IsCalm e → seen b ≡ apply_all brief (seen a) (verdict k e).effects → b.rooms ≡ a.rooms
 calm_rooms k e a b calm world =
     ap (λ (x : World KeptTraffic). x.rooms) world ∙ simple_rooms (verdict k e).effects (seen a) (verdict_calm k e calm)
+
+-- and of the archives
+pub calm_archives : (k : Kept) (e : Event) (a b : code.World) → IsCalm e → seen b ≡ apply_all brief (seen a) (verdict k e).effects
+    → archives_of b.archives ≡ archives_of a.archives
+calm_archives k e a b calm world =
+    ap (λ (x : World KeptTraffic). x.archives) world ∙ simple_archives (verdict k e).effects (seen a) (verdict_calm k e calm)

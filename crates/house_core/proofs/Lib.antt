@@ -11,3 +11,4 @@ pub mod TakeLemmas
 pub mod SweepLemmas
 pub mod OpenLemmas
 pub mod BoundLemmas
+pub mod ArchiveLemmas

@@ -3,6 +3,7 @@ use Rattle.std.proofs.Common.{◌≡◌, ℕ, ◌+◌, ◌<◌, List, [], length
 use Rattle.std.specs.Prelude.{bytes_eq}
 use Rattle.std.proofs.lemmas.List.Quantifiers.{position-Some}
 use Rattle.jid_core.specs.Addresses.{Address}
+use Rattle.archive_table.specs.Tables.{archives_of}
 use Rattle.house_model.specs.declared.event.Event.{Event}
 use Rattle.house_model.specs.declared.event.Event.TheVariants.{Login}
 use Rattle.house_model.specs.declared.reply.Reply.{Reply}
@@ -26,9 +27,10 @@ use Rattle.house_core.specs.Logins.{Enters}
 use Rattle.house_world.specs.Wholes.{AreUsers, IsFew, IsTied}
 use Rattle.house_core.specs.Wholes.{IsWhole}
 use Rattle.house_world.specs.Worlds.{Did, seen}
-use Rattle.house_core.proofs.CalmLemmas.{IsCalm, calm_rooms}
+use Rattle.house_core.proofs.CalmLemmas.{IsCalm, calm_archives, calm_rooms}
 use Rattle.house_core.proofs.CallLemmas.{house}
 use Rattle.house_world.proofs.CastLemmas.{hosts_same}
+use Rattle.house_world.proofs.QuietLemmas.{archived_same}
 use Rattle.house_world.proofs.WorldLemmas.{few_later}
 use Rattle.house_world.proofs.BookLemmas.{book_same}
 
@@ -91,9 +93,9 @@ waits_enters k w users user p r a b d same pass moved enters =
 
 -- the house after it
 pub whole_enters : (domain : Address) (users : List (List ℕ)) (turns moment : ℕ) (a b : code.World) (e : Event) (r : Reply)
-    → IsWhole domain.domain users turns moment a.table a.answers.items a.book a.rooms
+    → IsWhole domain.domain users turns moment a.table a.answers.items a.book a.rooms a.archives
     → Enters (verdict (turn e (held (house domain users turns moment a))) e) (length users) r a b → IsCalm e
-    → IsWhole domain.domain users (turns + 1) moment b.table b.answers.items b.book b.rooms
+    → IsWhole domain.domain users (turns + 1) moment b.table b.answers.items b.book b.rooms b.archives
 whole_enters domain users turns moment a b e r whole enters calm = record {
   prepared = whole.prepared;
   differ = whole.differ;
@@ -111,6 +113,9 @@ whole_enters domain users turns moment a b e r whole enters calm = record {
   hosted =
       hosts_same a.rooms b.rooms (calm_rooms (turn e (held (house domain users turns moment a))) e a b calm enters.world)
       turns whole.hosted;
+  archived =
+      archived_same (archives_of a.archives) (archives_of b.archives)
+      (calm_archives (turn e (held (house domain users turns moment a))) e a b calm enters.world) turns whole.archived;
 }
 
 pub state_enters : (domain : Address) (users : List (List ℕ)) (turns moment many : ℕ) (a b : code.World) (e : Event) (r : Reply)

@@ -11,6 +11,7 @@ use Rattle.session_table.specs.declared.life.Life.TheVariants.{Live}
 use Rattle.session_table.specs.Sessions as table
 use Rattle.session_table.specs.Sessions.{SessionRecord}
 use Rattle.session_table.specs.Tables.{IsFirst, Rises, TableRecord, first_due, session_of}
+use Rattle.archive_table.specs.Tables.{archives_of}
 use Rattle.house_model.specs.declared.answer.Answer.{Answer}
 use Rattle.house_model.specs.declared.event.Event.{Event}
 use Rattle.house_model.specs.declared.event.Event.TheVariants.{Pull}
@@ -57,7 +58,7 @@ given_did : (w : ℕ) (a : code.World) (now : List Answer) → IsTied a.table �
     → now ≡ drop 1 (get_or a.answers.items w [])
     → Did (At w Said ∷ []) 0 a (record a { answers = with_item a.answers w now })
 given_did w a now tied low is = record {
-  world = world_said a.table a.answers.items a.book.book a.rooms w now (drop 1 (get_or a.answers.items w [])) low is;
+  world = world_said a.table a.answers.items a.book.book a.rooms (archives_of a.archives) w now (drop 1 (get_or a.answers.items w [])) low is;
   tied = tied;
   known = λ many users. users;
   few = λ turns few. few_later turns (turns + 0) a.table few (omega arith);
@@ -70,7 +71,9 @@ given_did w a now tied low is = record {
 same_did : (w : ℕ) (a : code.World) (now : List Answer) → IsTied a.table → now ≡ get_or a.answers.items w []
     → Did [] 0 a (record a { answers = with_item a.answers w now })
 same_did w a now tied is = record {
-  world = ap (λ (xs : List (List Answer)). world_of a.table xs a.book.book a.rooms) (ap (set a.answers.items w) is ∙ set-get_or a.answers.items w []);
+  world =
+      ap (λ (xs : List (List Answer)). world_of a.table xs a.book.book a.rooms (archives_of a.archives))
+      (ap (set a.answers.items w) is ∙ set-get_or a.answers.items w []);
   tied = tied;
   known = λ many users. users;
   few = λ turns few. few_later turns (turns + 0) a.table few (omega arith);

@@ -6,7 +6,8 @@ ghost use Rattle.house_model.specs.Steps.{last_moment, verdict};
 ghost use Rattle.house_model.specs.Histories.{StandsFor, StanzaFits, Turn, ended, kept_step, passed};
 ghost use Rattle.roster_laws.specs.Keeping.{AreKept};
 ghost use Rattle.house_core.specs.Houses.{held};
-ghost use Rattle.house_world.specs.Hosting.{AreHosted, Hosts};
+ghost use Rattle.archive_table.specs.Tables.{archives_of};
+ghost use Rattle.house_world.specs.Hosting.{Archived, AreArchived, AreHosted, Hosts};
 ghost use Rattle.house_world.specs.Keeping.{AreShortNames};
 ghost use Rattle.house_world.specs.Wholes.{IsFew, IsTied};
 ghost use Rattle.house_world.specs.Worlds.{Did, Ends, seen};
@@ -46,17 +47,19 @@ fn act_at(
     requires names { AreShortNames world.old.book.book.asked }
     requires rosters { AreKept domain.now.domain world.old.book.book }
     requires hosted { AreHosted (2 ^ 63 + 2 ^ 62) world.old.rooms }
+    requires archived { AreArchived (2 ^ 63 + 2 ^ 62) (archives_of world.old.archives) }
     requires fits { StanzaFits stanza.now }
     ensures done { IfOk result (λ reply. (k : Kept) → k.world ≡ seen world.old → k.head.moment ≡ moment
         → k.head.domain ≡ domain.now → k.head.users ≡ users.now → (t : ℕ)
         → Ends (verdict k (Event.Act w stanza.now t)) 1 reply world.old world.new) }
     ensures hosts { OnOk result (Hosts world.old.rooms world.new.rooms) }
+    ensures archives { OnOk result (Archived (archives_of world.old.archives) (archives_of world.new.archives)) }
     ensures refused { OnErr result (Did [] 0 world.old world.new) }
 {
     match check(world, &TO_ACT, w, moment) {
         Pass::Stop(reply) => Ok(reply),
         Pass::Holds { session, .. } => {
-            let cast = effects_of(world, alloc, &domain.domain, users, session, stanza)?;
+            let cast = effects_of(world, alloc, &domain.domain, users, session, stanza, moment)?;
             world.prepare(cast.effects.as_slice())?;
             world.carry_out(session, cast);
             Ok(Reply::Done)

@@ -1,6 +1,7 @@
 //! The binding of a resource (RFC 6120, section 7).
 ghost use Rattle.std.specs.Prelude.{◌≡◌, ℕ, ◌+◌, ◌-◌, ◌^◌, ◌<◌, ◌≤◌, ◌++◌, ◌∷◌, [], List, length, true, slice_index_or, unwrap_or, IfOk, OnErr, OnOk};
 ghost use Rattle.std.specs.Option.{option_copied};
+ghost use Rattle.archive_table.specs.Tables.{archives_of};
 ghost use Rattle.session_table.specs.Tables.{Rises, conn_of, is_logged, line_of};
 ghost use Rattle.jid_core.specs.Addresses.{address_text};
 ghost use Rattle.house_model.specs.Answers.{answer_text};
@@ -12,7 +13,7 @@ ghost use Rattle.house_model.specs.Steps.{binds, has_place};
 ghost use Rattle.house_model.specs.declared.event.Event.{Event};
 ghost use Rattle.house_core.specs.Bindings.{begun_in, replaced_in, told_in};
 ghost use Rattle.house_core.specs.Houses.{held};
-ghost use Rattle.house_world.specs.Hosting.{AreHosted, Hosts, IsCast};
+ghost use Rattle.house_world.specs.Hosting.{Archived, AreHosted, Hosts, IsCast};
 ghost use Rattle.house_world.specs.Readiness.{AreNotable, AreReady};
 ghost use Rattle.house_world.specs.Wholes.{IsFew, IsTied};
 ghost use Rattle.house_world.specs.Worlds.{Did, Ends, KeepsLogged, seen};
@@ -93,6 +94,7 @@ fn replace(world: &mut World, address: &Jid, told: Cast)
     requires places { AreNotable told.effects.items world.old.book }
     ensures did { Did (replaced_in (seen world.old) address.now) 0 world.old world.new }
     ensures rooms { world.new.rooms ≡ unwrap_or told.rooms world.old.rooms }
+    ensures archives { Archived (archives_of world.old.archives) (archives_of world.new.archives) }
     ensures others { KeepsLogged world.old world.new }
     ensures room { world.old.table.spare ≤ world.new.table.spare }
 {
@@ -119,6 +121,7 @@ fn settle(world: &mut World, w: u32, address: Jid, answer: Answer, told: Cast)
     requires places { AreNotable told.effects.items world.old.book }
     ensures did { Did (begun_in (seen world.old) w (conn_of (line_of w world.old.table)) address answer) 1 world.old world.new }
     ensures rooms { world.new.rooms ≡ unwrap_or told.rooms world.old.rooms }
+    ensures archives { Archived (archives_of world.old.archives) (archives_of world.new.archives) }
 {
     replace(world, &address, told);
     world.begin(w, address);
@@ -150,6 +153,7 @@ fn bind_at(world: &mut World, w: u32, address: Jid, id: &Text) -> Result<(), NoM
     ensures done { OnOk result (Did (begun_in (seen world.old) w (conn_of (line_of w world.old.table)) address
         (Answer.Bound id.now (address_text address))) 1 world.old world.new) }
     ensures hosts { OnOk result (Hosts world.old.rooms world.new.rooms) }
+    ensures archives { OnOk result (Archived (archives_of world.old.archives) (archives_of world.new.archives)) }
     ensures refused { OnErr result (Did [] 0 world.old world.new) }
 {
     let alloc = *world.answers.allocator();
@@ -173,6 +177,7 @@ fn bind(world: &mut World, w: u32, address: Jid, id: &Text) -> Result<Reply, NoM
     ensures done { (k : Kept) → k.world ≡ seen world.old
         → IfOk result (λ r. Ends (binds (has_place k address) k w (conn_of (line_of w world.old.table)) address id.now) 1 r world.old world.new) }
     ensures hosts { OnOk result (Hosts world.old.rooms world.new.rooms) }
+    ensures archives { OnOk result (Archived (archives_of world.old.archives) (archives_of world.new.archives)) }
     ensures refused { OnErr result (Did [] 0 world.old world.new) }
 {
     if has_place(world, &address) {

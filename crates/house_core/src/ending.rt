@@ -4,10 +4,11 @@ ghost use Rattle.house_model.specs.declared.event.Event.{Event};
 ghost use Rattle.house_model.specs.Histories.{Turn, StandsFor, ended, kept_step, passed};
 ghost use Rattle.house_model.specs.States.{Kept, State};
 ghost use Rattle.house_model.specs.Steps.{departs, verdict};
+ghost use Rattle.archive_table.specs.Tables.{archives_of};
 ghost use Rattle.session_table.specs.Tables.{Rises, is_there};
 ghost use Rattle.sm_resume.specs.declared.decision.Cause.TheVariants.{Lost};
 ghost use Rattle.house_core.specs.Houses.{held};
-ghost use Rattle.house_world.specs.Hosting.{AreHosted, Hosts};
+ghost use Rattle.house_world.specs.Hosting.{Archived, AreHosted, Hosts};
 ghost use Rattle.house_world.specs.Wholes.{IsFew, IsTied};
 ghost use Rattle.house_world.specs.Worlds.{Did, Ends, seen};
 
@@ -27,6 +28,7 @@ fn sweep(world: &mut World, moment: u64) -> Result<Reply, NoMemory>
     ensures done { (k : Kept) (w t : ℕ) → k.world ≡ seen world.old → k.head.moment ≡ moment
         → IfOk result (λ r. Ends (verdict k (Event.Sweep w t)) 0 r world.old world.new) }
     ensures hosts { OnOk result (Hosts world.old.rooms world.new.rooms) }
+    ensures archives { OnOk result (Archived (archives_of world.old.archives) (archives_of world.new.archives)) }
     ensures refused { OnErr result (Did [] 0 world.old world.new) }
 {
     let Some(s) = world.table.due(moment) else {
@@ -46,6 +48,7 @@ fn sweep_away(world: &mut World, s: u64) -> Result<(), NoMemory>
     ensures rises { Rises 0 world.old.table.sessions world.old.table.made }
     ensures did { OnOk result (Did (departs (seen world.old) s Lost) 0 world.old world.new) }
     ensures hosts { OnOk result (Hosts world.old.rooms world.new.rooms) }
+    ensures archives { OnOk result (Archived (archives_of world.old.archives) (archives_of world.new.archives)) }
     ensures refused { OnErr result (Did [] 0 world.old world.new) }
 {
     let _ = world.table.session(s);

@@ -2,6 +2,7 @@
 //! many answers wait already.
 ghost use Rattle.std.specs.Prelude.{◌≡◌, ℕ, ◌<◌, ◌≤◌, ◌&&◌, ◌++◌, [], ◌∷◌, length, true, false, nat_le, slice_index_or};
 ghost use Rattle.sm_resume.specs.declared.decision.Cause.{Cause};
+ghost use Rattle.archive_table.specs.Tables.{archives_of};
 ghost use Rattle.session_table.specs.Tables.{conn_of, is_empty, line_of};
 ghost use Rattle.house_model.specs.Effects.{At, Close};
 ghost use Rattle.house_model.specs.Gate.{gate_at};
@@ -94,6 +95,7 @@ pub(crate) fn check(world: &mut World, needs: &Needs, w: u32, moment: u64) -> Pa
     ensures answered { length world.new.answers.items ≡ length world.old.answers.items }
     ensures few { (turns : ℕ) → IsFew turns world.old.table → IsFew turns world.new.table }
     ensures rooms { world.new.rooms ≡ world.old.rooms }
+    ensures archives { archives_of world.new.archives ≡ archives_of world.old.archives }
     ensures found { Found needs.now result world.new w }
     ensures passes { (k : Kept) → k.world ≡ seen world.old → k.head.moment ≡ moment
         → Passes result (gate_at (needs_of needs.now) k w (k.world.lines w) (k.world.lines w).stage) world.old world.new }

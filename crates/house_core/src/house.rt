@@ -8,6 +8,7 @@ ghost use Rattle.house_model.specs.States.{State, keep, opening};
 ghost use Rattle.house_model.specs.Histories.{StandsFor, Turn, openings};
 ghost use Rattle.house_core.specs.Houses.{held};
 
+use archive_table::Archives;
 use contact_table::Book;
 use house_world::{Answers, Stirred, World};
 use jid_core::{Jid, Part};
@@ -20,7 +21,7 @@ use std::marker::Model;
 /// The greatest moment: 9999-12-31T23:59:59.999Z, in milliseconds since 1970. A greater one counts as this.
 const LAST_MOMENT: u64 = 253_402_300_799_999;
 
-/// Lines, sessions and what waits for them, what is kept of users, and rooms. Each call names a line, `w`, below the number of workers.
+/// Lines, sessions and what waits for them, what is kept of users, rooms, and archives. Each call names a line, `w`, below the number of workers.
 #[derive(Drop)]
 pub struct House {
     pub(crate) domain: Jid,
@@ -45,9 +46,11 @@ impl Model for House {
       answers = h.world.answers.items;
       book = h.world.book;
       rooms = h.world.rooms;
+      archives = h.world.archives;
     } };
 
-    ghost invariant = { λ h. IsWhole h.domain.domain h.users.items h.turns h.moment h.world.table h.world.answers.items h.world.book h.world.rooms };
+    ghost invariant = { λ h. IsWhole h.domain.domain h.users.items h.turns h.moment h.world.table h.world.answers.items h.world.book h.world.rooms
+        h.world.archives };
 }
 
 impl House {
@@ -61,6 +64,7 @@ impl House {
     {
         let book = Book::new(alloc, domain.domain.copy(alloc)?);
         let rooms = Rooms::new(alloc);
+        let archives = Archives::new(alloc);
         Ok(House {
             domain: domain.copy(alloc)?,
             users: copies_of(alloc, users)?,
@@ -71,6 +75,7 @@ impl House {
                 answers: no_answers(alloc, workers)?,
                 book,
                 rooms,
+                archives,
                 stirred: Stirred::none(),
             },
         })

@@ -16,7 +16,7 @@ use Rattle.house_model.specs.Numbered.{least, or_here}
 use Rattle.house_model.specs.Sessions.{Hold, Held, Away, Ended, Gone, Rest, Session, Op, Part, End, begun, step_if, session_step}
 use Rattle.house_model.specs.Traffic.{Traffic, whole}
 use Rattle.house_model.specs.States.{World, State, Kept, keep, keep_by, keep_session, keep_world}
-use Rattle.house_model.specs.Effects.{Effect, Open, At, Begin, On, Note, Hosts, Say, Close, apply, apply_all}
+use Rattle.house_model.specs.Effects.{Effect, Open, At, Begin, On, Note, Hosts, Files, Say, Close, apply, apply_all}
 use Rattle.house_model.specs.Gate.{most_answers, to_bind, left}
 use Rattle.house_model.specs.Lookups.{goes_on, if_it_goes_on, is_at, is_there, is_there_by, live_at, session_at, session_in}
 use Rattle.house_model.specs.Routing.{departure}
@@ -80,6 +80,7 @@ effect_fades world (Open w) plain = λ r. same_fades (world.sessions r)
 effect_fades world (At w op) plain = λ r. same_fades (world.sessions r)
 effect_fades world (Note change) plain = λ r. same_fades (world.sessions r)
 effect_fades world (Hosts x) plain = λ r. same_fades (world.sessions r)
+effect_fades world (Files filing) plain = λ r. same_fades (world.sessions r)
 effect_fades world (On i op) plain =
     put_both (λ j (y : Session Traffic). Fades (world.sessions j) y) i (session_step whole (world.sessions i) op) world.sessions
     (session_fades (world.sessions i) op) (λ j other. same_fades (world.sessions j))

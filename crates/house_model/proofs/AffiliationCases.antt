@@ -16,7 +16,7 @@ use Rattle.stanza_model.specs.declared.condition.Condition.TheVariants.{BadReque
 use Rattle.stanza_model.specs.declared.effect.Change.{Change}
 use Rattle.stanza_model.specs.declared.effect.Change.TheVariants as change
 use Rattle.stanza_model.specs.declared.effect.Effect.{Effect}
-use Rattle.stanza_model.specs.declared.effect.Effect.TheVariants.{Queue, Broadcast, Enter, Leave, Set}
+use Rattle.stanza_model.specs.declared.effect.Effect.TheVariants.{Queue, Broadcast, Enter, Leave, Keep, Set}
 use Rattle.stanza_model.specs.declared.here.Here.{Here}
 use Rattle.stanza_model.specs.declared.kinds.IqForm.{IqForm}
 use Rattle.stanza_model.specs.declared.kinds.IqForm.TheVariants as iq
@@ -68,6 +68,7 @@ Mild (Queue s to rest origin) = ⊤
 Mild (Broadcast n item) = ⊤
 Mild (Enter n s address nick role) = ⊤
 Mild (Leave n s) = ⊤
+Mild (Keep user peer text moment) = ⊤
 Mild (Set c) = MildChange c
 
 set_mild : (rooms : Rooms) (c : Change) → MildChange c → ChangeKeepsSum rooms c
@@ -80,6 +81,7 @@ one_mild rooms (Queue s to rest origin) mild = tt
 one_mild rooms (Broadcast n item) mild = tt
 one_mild rooms (Enter n s address nick role) mild = tt
 one_mild rooms (Leave n s) mild = tt
+one_mild rooms (Keep user peer text moment) mild = tt
 one_mild rooms (Set c) mild = set_mild rooms c mild
 
 pub mild_sums : (es : List Effect) (rooms : Rooms) → AllByRecursion Mild es → AllKeepSums rooms es

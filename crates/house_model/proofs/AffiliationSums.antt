@@ -13,7 +13,7 @@ use Rattle.stanza_model.specs.Rooms.{affiliation_name}
 use Rattle.stanza_model.specs.declared.effect.Change.{Change}
 use Rattle.stanza_model.specs.declared.effect.Change.TheVariants as change
 use Rattle.stanza_model.specs.declared.effect.Effect.{Effect}
-use Rattle.stanza_model.specs.declared.effect.Effect.TheVariants.{Queue, Broadcast, Enter, Leave, Set}
+use Rattle.stanza_model.specs.declared.effect.Effect.TheVariants.{Queue, Broadcast, Enter, Leave, Keep, Set}
 use Rattle.stanza_model.specs.declared.room.Affiliated.{Affiliated}
 use Rattle.stanza_model.specs.declared.room.Affiliation.TheVariants.{Owner}
 use Rattle.stanza_model.specs.declared.room.Room.{Room}
@@ -58,6 +58,7 @@ KeepsSum rooms (Queue s to rest origin) = ⊤
 KeepsSum rooms (Broadcast n item) = ⊤
 KeepsSum rooms (Enter n s address nick role) = ⊤
 KeepsSum rooms (Leave n s) = ⊤
+KeepsSum rooms (Keep user peer text moment) = ⊤
 KeepsSum rooms (Set c) = ChangeKeepsSum rooms c
 
 -- each effect, by the rooms as they are when its turn comes
@@ -117,7 +118,7 @@ module _ (rooms : Rooms) (all : AreModest rooms) where
   set_modest (change.RoleSet n s role) keeps = changed_modest n (set_role s role) rooms.hosted (there n) all
   set_modest (change.Renamed n s nick) keeps = changed_modest n (renames s nick) rooms.hosted (there n) all
   set_modest (change.OccupantShown n s presence) keeps = changed_modest n (shows s presence) rooms.hosted (there n) all
-  set_modest (change.Subject n text) keeps = changed_modest n (has_subject text) rooms.hosted (there n) all
+  set_modest (change.Subject n text stamp) keeps = changed_modest n (has_subject text stamp) rooms.hosted (there n) all
   set_modest c keeps = all
 
   step_modest : (e : Effect) → KeepsSum rooms e → AreModest (step e rooms)
@@ -126,6 +127,7 @@ module _ (rooms : Rooms) (all : AreModest rooms) where
   step_modest (Enter n s address nick role) keeps =
       changed_modest n (enters (record { session = s; address = address; stay = rooms.stays + 1 }) nick role) rooms.hosted (there n) all
   step_modest (Leave n s) keeps = changed_modest n (leaves s) rooms.hosted (there n) all
+  step_modest (Keep user peer text moment) keeps = all
   step_modest (Set c) keeps = set_modest c keeps
 
 pub after_modest : (es : List Effect) (rooms : Rooms) → AllKeepSums rooms es → AreModest rooms → AreModest (after rooms es)
@@ -168,6 +170,7 @@ Tame (Queue s to rest origin) = ⊤
 Tame (Broadcast n item) = ⊤
 Tame (Enter n s address nick role) = ⊥
 Tame (Leave n s) = ⊤
+Tame (Keep user peer text moment) = ⊤
 Tame (Set c) = TameChange c
 
 set_sum : (rooms : Rooms) (c : Change) → TameChange c → ChangeKeepsSum rooms c
@@ -180,6 +183,7 @@ tame_sum rooms (Queue s to rest origin) tame = tt
 tame_sum rooms (Broadcast n item) tame = tt
 tame_sum rooms (Enter n s address nick role) tame = tt
 tame_sum rooms (Leave n s) tame = tt
+tame_sum rooms (Keep user peer text moment) tame = tt
 tame_sum rooms (Set c) tame = set_sum rooms c tame
 
 -- The room of a number has these affiliations.
@@ -220,6 +224,7 @@ module _ (m : ℕ) (l : List Affiliated) where
   tame_knows rooms (Broadcast n item) tame is = counted_knows n rooms.hosted is
   tame_knows rooms (Enter n s address nick role) tame is = absurd tame
   tame_knows rooms (Leave n s) tame is = changed_knows n (leaves s) rooms.hosted (λ x. refl) (λ x. refl) is
+  tame_knows rooms (Keep user peer text moment) tame is = is
   tame_knows rooms (Set c) tame is = set_knows rooms c tame is
 
   -- an affiliation of its own

@@ -8,7 +8,7 @@ use Rattle.house_model.specs.Numbered.{put}
 use Rattle.house_model.specs.Sessions.{Hold, Held, Away, Ended, Gone, session_step}
 use Rattle.house_model.specs.Traffic.{Traffic, whole}
 use Rattle.house_model.specs.States.{Line, World, empty_line}
-use Rattle.house_model.specs.Effects.{Effect, Open, At, Begin, On, Note, Hosts, LineOp, Log, Say, Said, Leave, Close, logged, line_step}
+use Rattle.house_model.specs.Effects.{Effect, Open, At, Begin, On, Note, Hosts, Files, LineOp, Log, Say, Said, Leave, Close, logged, line_step}
 use Rattle.house_model.specs.Effects.{fresh_line, over_line, bound_line, moved_if, settled, apply, apply_all}
 use Rattle.house_model.proofs.PutLemmas.{put_is}
 use Rattle.house_model.proofs.VerdictLemmas.{opens_one, opens_in}
@@ -100,6 +100,7 @@ effect_shrinks world (Begin v d a) is w c at =
     put_shrinks v (bound_line d (world.made + 1) (world.lines v)) world.lines (λ i bad. absurd (cc)) w c at
 effect_shrinks world (Note change) is w c at = at
 effect_shrinks world (Hosts x) is w c at = at
+effect_shrinks world (Files filing) is w c at = at
 effect_shrinks world (On s op) is w c at =
     settled_shrinks s (world.sessions s).hold (session_step whole (world.sessions s) op).hold world.lines w c at
 
@@ -168,6 +169,8 @@ effect_good world (Note change) cs g =
     shrink_good world (apply whole world (Note change)) cs (effect_shrinks world (Note change) refl) refl g
 effect_good world (Hosts x) cs g =
     shrink_good world (apply whole world (Hosts x)) cs (effect_shrinks world (Hosts x) refl) refl g
+effect_good world (Files filing) cs g =
+    shrink_good world (apply whole world (Files filing)) cs (effect_shrinks world (Files filing) refl) refl g
 effect_good world (On s op) cs g =
     shrink_good world (apply whole world (On s op)) cs (effect_shrinks world (On s op) refl) refl g
 

@@ -10,7 +10,7 @@ use Rattle.house_model.specs.Sessions.{Hold, Held, Away, Ended, Gone, Rest, Sess
 use Rattle.house_model.specs.Sessions.{Resume, End, Part, Marks, pushed, acked, resumed, begun, step_if, session_step}
 use Rattle.house_model.specs.Traffic.{Traffic, whole}
 use Rattle.house_model.specs.States.{Line, World, empty_line}
-use Rattle.house_model.specs.Effects.{Effect, Open, At, Begin, On, Note, Hosts, Log, Say, Said, Leave, Close, logged}
+use Rattle.house_model.specs.Effects.{Effect, Open, At, Begin, On, Note, Hosts, Files, Log, Say, Said, Leave, Close, logged}
 use Rattle.house_model.specs.Effects.{over_line, bound_line, moved_if, settled, touch, apply, apply_all}
 use Rattle.house_model.specs.Sound.{IsFree, FitsIn, Fits, Back}
 use Rattle.house_model.proofs.PutLemmas.{put_is, put_here}
@@ -218,6 +218,7 @@ apply_back world (Begin v d a) fits back s w c is =
     ]
 apply_back world (Note change) fits back s w c is = back s w c is
 apply_back world (Hosts x) fits back s w c is = back s w c is
+apply_back world (Files filing) fits back s w c is = back s w c is
 apply_back world (On j op) fits back s w c is = touch_back j op world fits back s w c is
 
 pub all_back : (world : World Traffic) (es : List Effect) → Fits world es → Back world → Back (apply_all whole world es)

@@ -14,6 +14,8 @@ use Rattle.muc_room.specs.Leaving.{leave}
 use Rattle.muc_room.specs.Views.{shown_children}
 use Rattle.muc_service.specs.Casting.{after}
 use Rattle.muc_service.specs.Rooms.{Hosted}
+use Rattle.archive_table.specs.Pages as pages
+use Rattle.house_model.specs.Archives as archives
 use Rattle.house_model.specs.Fitting.{AreShortAddresses, AreShortRooms, IsShortAddress, IsShortRoom}
 use Rattle.house_model.specs.Histories.{StanzaFits}
 use Rattle.house_model.specs.RoomLookups.{called, room_for, rooms_of}
@@ -21,20 +23,23 @@ use Rattle.house_model.specs.States.{World}
 use Rattle.house_model.specs.Traffic.{KeptTraffic}
 use Rattle.house_model.specs.Lookups.{here, sessions_of}
 use Rattle.house_model.specs.Presences.{asking, party}
-use Rattle.house_model.specs.Routing.{Scene, absent_from, asked_of, departure, effects_in, own_contacts, parted, present_in, to_all_in, to_one_in}
+use Rattle.house_model.specs.Routing.{Scene, absent_from, asked_of, departure, effects_in, own_contacts, parted, to_one_in}
 use Rattle.house_model.specs.Routing.{user_removed}
+use Rattle.house_model.proofs.CopySizes.{bare-le}
 use Rattle.house_model.proofs.EffectCases.{effects_all}
 use Rattle.house_model.proofs.FitRows.{called_are_found}
-use Rattle.house_model.proofs.Founds.{append_all, numbers_found}
+use Rattle.house_model.proofs.Founds.{append_all, every, numbers_found}
+use Rattle.house_model.proofs.IdSizes.{name-short}
 use Rattle.house_model.proofs.Outs.{rooms_all}
 use Rattle.house_model.proofs.PartSizes.{shown-le}
 use Rattle.house_model.proofs.PresenceCases.{Covers, departure_all}
 use Rattle.house_model.proofs.ReplySizes.{empty-reply-le, error-reply-le, spelt_length}
-use Rattle.house_model.proofs.RoomSmall.{IsShortStanza, absent_small, asked_small, present_small, to_all_small, to_one_small}
+use Rattle.house_model.proofs.RoomSlight.{present_slight, to_all_slight}
+use Rattle.house_model.proofs.RoomSmall.{IsShortStanza, absent_small, asked_small, to_one_small}
 use Rattle.house_model.proofs.RoomsShort.{AreShortBodies, after_short, bodies_of}
 use Rattle.house_model.proofs.RosterCases.{IsSeen, Reaches, all_told_at, found_at, parted_all, party_seen, set_all, tells}
 use Rattle.house_model.proofs.SmallEffects.{Slight, Small, left_small, slight_all}
-use Rattle.house_model.proofs.SmallLemmas.{bare-le, element-small, found-short, id-small, read-of, room-short, said-small, words-short}
+use Rattle.house_model.proofs.SmallLemmas.{element-small, found-short, id-small, read-of, room-short, said-small, words-short}
 
 abbrev Any : {X : Type 0} → X → Type 0
 Any x = ⊤
@@ -57,6 +62,7 @@ module _ (o : Scene) (s : ℕ) (st : Stanza) (fits : StanzaFits st) (addresses :
     bare_own = (let few = own in omega (arith, few, bare-le (here o.world s).address));
     refusal = λ condition. said-small (here o.world s) (error_of st condition) (error-reply-le st condition to id) own;
     element = λ e is. element-small st e fits is;
+    name = λ e is. name-short e st (read-of st e fits is);
     to = to;
     id = id;
   }
@@ -108,8 +114,14 @@ module _ (o : Scene) (s : ℕ) (st : Stanza) (fits : StanzaFits st) (addresses :
     found = λ place. tt;
     told = λ place. tt;
     form = tt;
-    page = tt;
+    shown = λ from list q asked short.
+        every (λ row. Slight (archives.shown_to (here o.world s) from q.queryid row)) (λ row. tt) (pages.shown list q.filter q.ask);
+    page = λ from list q asked. tt;
     copy = λ e h at is. tt;
+    plain = λ e r at is. tt;
+    numbered = λ e r at is. tt;
+    sent = λ e user at named. tt;
+    received = λ e user at named. tt;
     presence = λ e h small is. tt;
     show = λ h is. tt;
     asked = λ user. asks (asking o.domain o.world user);
@@ -125,9 +137,8 @@ module _ (o : Scene) (s : ℕ) (st : Stanza) (fits : StanzaFits st) (addresses :
         (found_at o.world (sessions_of o.world user) (numbers_found o.world user))
         (λ c. tt) tt (λ w wants list. tt));
     said = λ form e is.
-        slight_all (to_all_in o (here o.world s) st form e (room_for o.world.rooms (to_in st)))
-        (to_all_small (here o.world s) st whole o form e (room_for o.world.rooms (to_in st)) found
-        (found-short o.world (called o.domain o.world e) addresses (called_are_found o.domain o.world e)));
+        to_all_slight (here o.world s) st whole o form e (room_for o.world.rooms (to_in st)) found
+        (found-short o.world (called o.domain o.world e) addresses (called_are_found o.domain o.world e));
     whispered =
         slight_all (to_one_in (here o.world s) st (room_for o.world.rooms (to_in st)))
         (to_one_small (here o.world s) st whole (room_for o.world.rooms (to_in st)) found);
@@ -143,8 +154,7 @@ module _ (o : Scene) (s : ℕ) (st : Stanza) (fits : StanzaFits st) (addresses :
         (left_small s (Some st) (rooms_of s o.world.rooms) (words-short st (shown e is few))
         (rooms_all (λ (h : Hosted). IsShortRoom h.room) s o.world.rooms rooms)));
     present = λ e is few.
-        slight_all (present_in o.world.rooms (here o.world s) st (room_for o.world.rooms (to_in st)))
-        (present_small (here o.world s) st whole o.world.rooms (room_for o.world.rooms (to_in st)) found (shown e is few));
+        present_slight (here o.world s) st whole o.world (room_for o.world.rooms (to_in st)) found (shown e is few);
   }
 
   pub stanza_bodies : AreShortBodies (after o.world.rooms (effects_in o s st))

@@ -5,7 +5,7 @@ use Rattle.stanza_tree.specs.declared.frame.Origin.TheVariants.{Live}
 use Rattle.stanza_model.specs.declared.effect.Change.{Change}
 use Rattle.stanza_model.specs.declared.effect.Change.TheVariants as change
 use Rattle.stanza_model.specs.declared.effect.Effect.{Effect}
-use Rattle.stanza_model.specs.declared.effect.Effect.TheVariants.{Queue, Broadcast, Enter, Leave, Set}
+use Rattle.stanza_model.specs.declared.effect.Effect.TheVariants.{Queue, Broadcast, Enter, Leave, Keep, Set}
 use Rattle.stanza_model.specs.declared.room.Occupant.{Occupant}
 use Rattle.stanza_model.specs.declared.room.Role.{Role}
 use Rattle.stanza_model.specs.declared.room.Room.{Room}
@@ -60,7 +60,7 @@ change_keeps (change.Renamed n q nick) short = λ r is.
     mapped (renamed_if q nick) (λ o s. choose Sits (has_seat q o) (record o { nick = nick }) o (λ (_ : _). s) (λ (_ : _). s)) r is
 change_keeps (change.OccupantShown n q presence) short = λ r is.
     mapped (shown_if q presence) (λ o s. choose Sits (has_seat q o) (record o { presence = presence; spoke = q }) o (λ (_ : _). s) (λ (_ : _). s)) r is
-change_keeps (change.Subject n text) short = λ r is. is
+change_keeps (change.Subject n text stamp) short = λ r is. is
 change_keeps (change.RoomGone n) short = tt
 change_keeps c short = tt
 
@@ -76,6 +76,7 @@ entered_sits x nick role r short all =
 small_keeps : (e : Effect) → Small e → KeepsEach Seated e
 small_keeps (Queue s to rest origin) short = tt
 small_keeps (Broadcast n item) short = tt
+small_keeps (Keep user peer text moment) short = tt
 small_keeps (Enter n s address nick role) short =
     λ stay r is. (is.0, entered_sits (record { session = s; address = address; stay = stay }) nick role r short.0 is.1)
 small_keeps (Leave n s) short =
@@ -108,6 +109,7 @@ heard_small rooms (Broadcast n item) short each = found_small (hosted_as n rooms
 heard_small rooms (Queue s to rest origin) short each = tt
 heard_small rooms (Enter n s address nick role) short each = tt
 heard_small rooms (Leave n s) short each = tt
+heard_small rooms (Keep user peer text moment) short each = tt
 heard_small rooms (Set c) short each = tt
 
 pub cast_small : (es : List Effect) (rooms : Rooms) → AreShortRooms rooms → AllByRecursion Small es → AllByRecursion Small (cast rooms es)

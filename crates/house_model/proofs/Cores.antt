@@ -19,7 +19,7 @@ use Rattle.house_model.specs.Sessions.{session, pushed, acked, resumed, begun, s
 use Rattle.house_model.specs.Traffic as traffic
 use Rattle.house_model.specs.Traffic.{Traffic, whole}
 use Rattle.house_model.specs.States.{World, State, keep}
-use Rattle.house_model.specs.Effects.{Effect, Open, At, Begin, On, Note, Hosts, apply, apply_all}
+use Rattle.house_model.specs.Effects.{Effect, Open, At, Begin, On, Note, Hosts, Files, apply, apply_all}
 use Rattle.house_model.specs.Steps.{verdict, turn}
 use Rattle.house_model.specs.Histories.{Outcome, Made, Short, Turn, next_by, next, after, IsOpening}
 use Rattle.house_model.specs.Sound.{Sound}
@@ -117,6 +117,7 @@ apply_core k world (Open w) o = refl
 apply_core k world (At w op) o = refl
 apply_core k world (Note change) o = refl
 apply_core k world (Hosts x) o = refl
+apply_core k world (Files filing) o = refl
 apply_core k world (Begin w c a) o = begin_if (eqb k (world.made + 1)) k w c a world refl o
 apply_core k world (On s op) o = touch_if (eqb k s) k s op world refl
 

@@ -7,7 +7,7 @@ use Rattle.house_model.specs.Sessions.{Hold, Held, Away, Ended, Gone, Rest, Sess
 use Rattle.house_model.specs.Sessions.{Resume, End, Part, session, begun, pushed, acked, resumed, step_if, session_step}
 use Rattle.house_model.specs.Traffic.{Traffic, whole}
 use Rattle.house_model.specs.States.{World, State, keep, opening}
-use Rattle.house_model.specs.Effects.{Effect, Open, At, Begin, On, Note, Hosts, apply, apply_all}
+use Rattle.house_model.specs.Effects.{Effect, Open, At, Begin, On, Note, Hosts, Files, apply, apply_all}
 use Rattle.house_model.specs.Steps.{verdict, turn}
 use Rattle.house_model.specs.Histories.{Outcome, Made, Short, Turn, next_by, next, after, IsOpening}
 use Rattle.house_model.proofs.PutLemmas.{put_is}
@@ -65,6 +65,7 @@ effect_undue world (Open v) undue s = undue s
 effect_undue world (At v op) undue s = undue s
 effect_undue world (Note change) undue s = undue s
 effect_undue world (Hosts x) undue s = undue s
+effect_undue world (Files filing) undue s = undue s
 effect_undue world (Begin v d a) undue s = elim (put_is (world.made + 1) (begun whole v d a) world.sessions s) [
   | inl p ↦ subst IsUndue (sym p.1) (λ is. refl)
   | inr p ↦ subst IsUndue (sym p.1) (undue s)

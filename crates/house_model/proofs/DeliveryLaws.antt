@@ -1,21 +1,27 @@
 -- Who gets which entry of a stanza that is acted on.
-use Rattle.std.proofs.Common.{◌≡◌, ℕ, ◌<◌, ◌≤◌, List, [], ◌∷◌, ◌++◌, map, Option, Some, None, Bool, true, false, ◌==◌, bytes_eq}
+use Rattle.std.proofs.Common.{◌≡◌, ℕ, ◌<◌, ◌≤◌, List, [], ◌∷◌, ◌++◌, map, Option, Some, None, Bool, true, false, ◌==◌, ◌&&◌, bytes_eq}
 use Rattle.std.proofs.Common.{inl, inr, refl, sym, ap, ◌∙◌, subst, true≢false, if◌then◌else◌, arith}
 use Rattle.std.specs.List.{filter}
 use Rattle.std.proofs.lemmas.Bool.{and_from, cases_lt, eq-eqb}
-use Rattle.jid_core.specs.Addresses.{Address, address_text, same_part}
+use Rattle.jid_core.specs.Addresses.{Address, address_text, bare, same_part}
+use Rattle.stanza_tree.specs.Spelling.{text}
+use Rattle.stanza_tree.specs.Stamps.{sent_by}
 use Rattle.stanza_tree.specs.declared.frame.Entry.{Entry}
+use Rattle.stanza_tree.specs.declared.frame.Origin.TheVariants.{Direct}
 use Rattle.stanza_tree.specs.declared.node.Element.{Element}
+use Rattle.stanza_model.specs.Ids.{told_with_id, without_ids}
 use Rattle.stanza_model.specs.Replies.{error_of, may_be_answered, refused, said_to}
 use Rattle.stanza_model.specs.declared.condition.Condition.{Condition}
-use Rattle.stanza_model.specs.declared.condition.Condition.TheVariants.{RemoteServerNotFound, ServiceUnavailable}
+use Rattle.stanza_model.specs.declared.condition.Condition.TheVariants.{RemoteServerNotFound, ResourceConstraint, ServiceUnavailable}
 use Rattle.stanza_model.specs.declared.effect.Effect as stanza
 use Rattle.stanza_model.specs.declared.here.Here.{Here}
+use Rattle.stanza_model.specs.declared.keeping.Keeping.{Keeping}
 use Rattle.stanza_model.specs.declared.kinds.MessageForm.{MessageForm}
 use Rattle.stanza_model.specs.declared.kinds.MessageForm.TheVariants.{Chat, Normal, Headline, Groupchat, Error}
 use Rattle.stanza_model.specs.declared.stanza.Stanza.{Stanza}
 use Rattle.stanza_model.specs.declared.stanza.Stanza.TheVariants.{Message}
-use Rattle.stanza_router.specs.Messages.{addressed, copied, if_known, is_reached, of_user, route_of, routed, to_user}
+use Rattle.stanza_router.specs.Messages.{addressed, given, if_known, is_kept, is_reached, is_to_oneself, is_too_much, of_user, plain_text, queued_as}
+use Rattle.stanza_router.specs.Messages.{route_of, routed, row_of, row_text, rows_for, to_user, told_text}
 use Rattle.stanza_router.specs.Places.{at_server, at_service, place_of, service_domain}
 use Rattle.stanza_router.specs.declared.places.Place.{Place}
 use Rattle.stanza_router.specs.declared.places.Place.TheVariants.{Account, Server, User, UserAt, Service, Room, RoomAt, Foreign}
@@ -23,7 +29,7 @@ use Rattle.session_table.specs.declared.line.Line as stage
 use Rattle.session_table.specs.declared.line.Line.TheVariants.{Bound}
 use Rattle.contact_table.proofs.ByteLemmas.{bytes_equal, bytes_same}
 use Rattle.muc_service.specs.Casting.{cast}
-use Rattle.muc_service.specs.Rooms.{Rooms, step}
+use Rattle.muc_service.specs.Rooms.{Rooms}
 use Rattle.house_model.specs.declared.event.Event.TheVariants as event
 use Rattle.house_model.specs.declared.reply.Reply.TheVariants as reply
 use Rattle.house_model.specs.Sessions.{Hold, Gone, Session}
@@ -32,13 +38,13 @@ use Rattle.house_model.specs.States.{State, keep, keep_session, keep_world}
 use Rattle.house_model.specs.Effects.{Effect, apply_all}
 use Rattle.house_model.specs.Gate.{Verdict, to_act, gate_at}
 use Rattle.house_model.specs.Lookups.{is_of, is_there, sessions_of}
-use Rattle.house_model.specs.Routing.{scene_of, live_for, user_in, receivers, has_account, message, effects_by, effects}
+use Rattle.house_model.specs.ArchiveLookups.{keeping_for}
+use Rattle.house_model.specs.Routing.{Scene, scene_of, live_for, user_in, receivers, has_account, message, effects_by}
 use Rattle.house_model.specs.Histories as history
-use Rattle.house_model.specs.Histories.{Turn, after, IsOpening}
 use Rattle.house_model.specs.Stays.{takes, takes_entries}
 use Rattle.house_model.specs.Steps.{effect_of, acts, body, verdict, turn}
-use Rattle.house_model.specs.Deliveries.{entries_for, Gets, Sends, GetsBy, seen_as, place_for, found_for, IsRoutedAs, is_among}
-use Rattle.house_model.specs.Deliveries.{IsForUser, destination, message_from, error_for, address_at}
+use Rattle.house_model.specs.Deliveries.{entries_for, Gets, Sends, GetsBy, effects_of_act, seen_as, place_for, found_for, IsRoutedAs, is_among}
+use Rattle.house_model.specs.Deliveries.{IsForUser, destination, identified, message_from, message_of, passes, error_for, address_at}
 use Rattle.house_model.proofs.AddressLaws.{kept_there, takes_there}
 use Rattle.house_model.proofs.DeliverySteps.{stanza_mild, all_get}
 use Rattle.house_model.proofs.FoundOnce.{copies_in, receivers_copied, passing_among}
@@ -76,20 +82,20 @@ own_or true own user is = ap Some (sym (bytes_equal user own is))
 own_or false own user is = refl
 
 module _ (st : State) (known : Known st.world) where
-  abbrev table : ℕ → Stanza → List Effect
-  table s x = map effect_of (cast st.world.rooms (effects (keep st) s x))
+  abbrev table : (w s : ℕ) → Stanza → (t : ℕ) → List Effect
+  table w s x t = map effect_of (cast st.world.rooms (effects_of_act st w s x t))
 
   pub queues : (w s t r : ℕ) (own : List ℕ) (x : Stanza) → Sends st w s own → takes_entries (st.world.sessions r) ≡ true
-      → GetsBy st w x t r (entries_for r (table s x))
+      → GetsBy st w x t r (entries_for r (table w s x t))
   queues w s t r own x sent is =
-      subst (λ (v : Verdict). Gets (st.world.sessions r) ((apply_all whole st.world v.effects).sessions r) (entries_for r (table s x)))
+      subst (λ (v : Verdict). Gets (st.world.sessions r) ((apply_all whole st.world v.effects).sessions r) (entries_for r (table w s x t)))
       (sym (act_is st w sent.conn s t x sent.held))
       (all_get (acts (keep (turn (event.Act w x t) st)) s x).effects st.world r
-      (tt, stanza_mild (cast st.world.rooms (effects (keep st) s x))) is)
+      (tt, stanza_mild (cast st.world.rooms (effects_of_act st w s x t))) is)
 
   -- the same, where what the tables have for the session is known
   gets : (w s t r : ℕ) (own : List ℕ) (x : Stanza) (entries : List Entry) → Sends st w s own → takes_entries (st.world.sessions r) ≡ true
-      → entries_for r (table s x) ≡ entries → GetsBy st w x t r entries
+      → entries_for r (table w s x t) ≡ entries → GetsBy st w x t r entries
   gets w s t r own x entries sent is same = subst (GetsBy st w x t r) same (queues w s t r own x sent is)
 
   -- the sender
@@ -116,81 +122,126 @@ module _ (st : State) (known : Known st.world) where
   IsRouted other own to form p =
       route_of p (has_account st.head.users (user_in own p) (found_at own to form p)) form (found_at own to form p) ≡ to_user other
 
-  abbrev becomes : (other : MessageForm) (s : ℕ) (own : List ℕ) → Option Address → MessageForm → Element → Place → List stanza.Effect
-  becomes other s own to form e p =
-      routed (seen_as st s) (Message to form e) (map (copied (seen_as st s) to e) (found_at own to form p)) (to_user other)
+  abbrev scene : (w : ℕ) → Stanza → (t : ℕ) → Scene
+  scene w x t = scene_of (keep (turn (event.Act w x t) st))
 
-  at_place : (other : MessageForm) (s : ℕ) (own : List ℕ) (to : Option Address) (form : MessageForm) (e : Element) (p : Place)
+  abbrev keeping : (w s t : ℕ) → Option Address → MessageForm → Element → Keeping
+  keeping w s t to form e = keeping_for st.world.archives (seen_as st s) to (scene w (Message to form e) t).moment
+
+  abbrev all_given : (w s t : ℕ) (own : List ℕ) → Option Address → MessageForm → Element → Place → List stanza.Effect
+  all_given w s t own to form e p =
+      given (seen_as st s) (Message to form e) to form e (keeping w s t to form e) (map (λ (h : Here). h.session) (found_at own to form p))
+
+  abbrev becomes : (other : MessageForm) (w s t : ℕ) (own : List ℕ) → Option Address → MessageForm → Element → Place → List stanza.Effect
+  becomes other w s t own to form e p = routed (seen_as st s) (Message to form e) (all_given w s t own to form e p) (to_user other)
+
+  at_place : (other : MessageForm) (w s t : ℕ) (own : List ℕ) (to : Option Address) (form : MessageForm) (e : Element) (p : Place)
       → (to_user other ≡ to_user Error → ⊥) → IsRouted other own to form p
-      → message (scene_of (keep st)) own (seen_as st s) (Message to form e) form e p ≡ becomes other s own to form e p
-  at_place other s own to form e (Room room) acted is = absurd (acted (sym is))
-  at_place other s own to form e (RoomAt room nick) acted is = absurd (acted (sym is))
-  at_place other s own to form e Account acted is =
-      ap (routed (seen_as st s) (Message to form e) (map (copied (seen_as st s) to e) (found_at own to form Account))) is
-  at_place other s own to form e Server acted is =
-      ap (routed (seen_as st s) (Message to form e) (map (copied (seen_as st s) to e) (found_at own to form Server))) is
-  at_place other s own to form e (User user) acted is =
-      ap (routed (seen_as st s) (Message to form e) (map (copied (seen_as st s) to e) (found_at own to form (User user)))) is
-  at_place other s own to form e (UserAt user resource) acted is =
-      ap (routed (seen_as st s) (Message to form e) (map (copied (seen_as st s) to e) (found_at own to form (UserAt user resource)))) is
-  at_place other s own to form e Service acted is =
-      ap (routed (seen_as st s) (Message to form e) (map (copied (seen_as st s) to e) (found_at own to form Service))) is
-  at_place other s own to form e Foreign acted is =
-      ap (routed (seen_as st s) (Message to form e) (map (copied (seen_as st s) to e) (found_at own to form Foreign))) is
+      → message (scene w (Message to form e) t) own (seen_as st s) (Message to form e) form e p ≡ becomes other w s t own to form e p
+  at_place other w s t own to form e (Room room) acted is = absurd (acted (sym is))
+  at_place other w s t own to form e (RoomAt room nick) acted is = absurd (acted (sym is))
+  at_place other w s t own to form e Account acted is = ap (routed (seen_as st s) (Message to form e) (all_given w s t own to form e Account)) is
+  at_place other w s t own to form e Server acted is = ap (routed (seen_as st s) (Message to form e) (all_given w s t own to form e Server)) is
+  at_place other w s t own to form e (User user) acted is =
+      ap (routed (seen_as st s) (Message to form e) (all_given w s t own to form e (User user))) is
+  at_place other w s t own to form e (UserAt user resource) acted is =
+      ap (routed (seen_as st s) (Message to form e) (all_given w s t own to form e (UserAt user resource))) is
+  at_place other w s t own to form e Service acted is = ap (routed (seen_as st s) (Message to form e) (all_given w s t own to form e Service)) is
+  at_place other w s t own to form e Foreign acted is = ap (routed (seen_as st s) (Message to form e) (all_given w s t own to form e Foreign)) is
 
   -- a message of a user's session
-  of_user_is : (s : ℕ) (own : List ℕ) (to : Option Address) (form : MessageForm) (e : Element) → (seen_as st s).address.local ≡ Some own
-      → effects (keep st) s (Message to form e) ≡ message (scene_of (keep st)) own (seen_as st s) (Message to form e) form e (place_for st own to)
-  of_user_is s own to form e mine =
-      ap (λ (l : Option (List ℕ)). effects_by l (scene_of (keep st)) (seen_as st s) (Message to form e)) mine
+  of_user_is : (w s t : ℕ) (own : List ℕ) (to : Option Address) (form : MessageForm) (e : Element) → (seen_as st s).address.local ≡ Some own
+      → effects_of_act st w s (Message to form e) t
+      ≡ message (scene w (Message to form e) t) own (seen_as st s) (Message to form e) form e (place_for st own to)
+  of_user_is w s t own to form e mine =
+      ap (λ (l : Option (List ℕ)). effects_by l (scene w (Message to form e) t) (seen_as st s) (Message to form e)) mine
 
-  message_is : (other : MessageForm) (s : ℕ) (own : List ℕ) (to : Option Address) (form : MessageForm) (e : Element)
+  message_is : (other : MessageForm) (w s t : ℕ) (own : List ℕ) (to : Option Address) (form : MessageForm) (e : Element)
       → (to_user other ≡ to_user Error → ⊥) → (seen_as st s).address.local ≡ Some own → IsRoutedAs other st own to form
-      → effects (keep st) s (Message to form e) ≡ becomes other s own to form e (place_for st own to)
-  message_is other s own to form e acted mine is =
-      of_user_is s own to form e mine ∙ at_place other s own to form e (place_for st own to) acted is
+      → effects_of_act st w s (Message to form e) t ≡ becomes other w s t own to form e (place_for st own to)
+  message_is other w s t own to form e acted mine is =
+      of_user_is w s t own to form e mine ∙ at_place other w s t own to form e (place_for st own to) acted is
 
   -- the copies that a session gets
   destined : (who : Here) (to : Option Address) → addressed who to ≡ destination who.address to
   destined who None = refl
   destined who (Some to) = refl
 
-  abbrev copy_by : Here → Option Address → Element → Address → Entry
-  copy_by who to e a = record (message_from who.address to e) { to = address_text a }
+  abbrev copy_for : (to : Address) (rest : List ℕ) → Entry
+  copy_for to rest = record { to = address_text to; rest = rest; origin = Direct }
 
-  copies_for : (rooms : Rooms) (r : ℕ) (who : Here) (to : Option Address) (e : Element) (hs : List Here)
-      → entries_for r (map effect_of (cast rooms (map (copied who to e) hs))) ≡ copies_in r (copy_by who to e (addressed who to)) hs
-  copies_for rooms r who to e [] = refl
-  copies_for rooms r who to e (h ∷ hs) =
-      ap (λ (l : List Entry). (if r == h.session then copy_by who to e (addressed who to) ∷ [] else []) ++ l)
-      (copies_for (step (copied who to e h) rooms) r who to e hs)
+  -- of a message from this address to this one, or to its user
+  abbrev copy_at : (from : Address) → MessageForm → Element → (to : Address) → Entry
+  copy_at from form e to = copy_for to (text (sent_by (address_text from) (identified st.world.archives to form e)))
+
+  copies_for : (rooms : Rooms) (r : ℕ) (who : Here) (to : Option Address) (rest : List ℕ) (hs : List Here)
+      → entries_for r (map effect_of (cast rooms (map (queued_as who to rest) (map (λ (h : Here). h.session) hs))))
+      ≡ copies_in r (copy_for (addressed who to) rest) hs
+  copies_for rooms r who to rest [] = refl
+  copies_for rooms r who to rest (h ∷ hs) =
+      ap (λ (l : List Entry). (if r == h.session then copy_for (addressed who to) rest ∷ [] else []) ++ l) (copies_for rooms r who to rest hs)
+
+  copies_then : (rooms : Rooms) (r : ℕ) (who : Here) (to : Option Address) (rest : List ℕ) (hs : List Here) (more : List stanza.Effect)
+      → entries_for r (map effect_of (cast rooms more)) ≡ []
+      → entries_for r (map effect_of (cast rooms (map (queued_as who to rest) (map (λ (h : Here). h.session) hs) ++ more)))
+      ≡ copies_in r (copy_for (addressed who to) rest) hs
+  copies_then rooms r who to rest [] more none = none
+  copies_then rooms r who to rest (h ∷ hs) more none =
+      ap (λ (l : List Entry). (if r == h.session then copy_for (addressed who to) rest ∷ [] else []) ++ l)
+      (copies_then rooms r who to rest hs more none)
+
+  -- what is kept is queued for nobody
+  rows_none : (rooms : Rooms) (r : ℕ) (a b : Option (List ℕ)) (same : Bool) (to from : Address) (text : List ℕ) (moment : ℕ)
+      → entries_for r (map effect_of (cast rooms (row_of a to text moment ++ (if same then [] else row_of b from text moment)))) ≡ []
+  rows_none rooms r None b true to from text moment = refl
+  rows_none rooms r None None false to from text moment = refl
+  rows_none rooms r None (Some v) false to from text moment = refl
+  rows_none rooms r (Some u) b true to from text moment = refl
+  rows_none rooms r (Some u) None false to from text moment = refl
+  rows_none rooms r (Some u) (Some v) false to from text moment = refl
+
+  given_for : (rooms : Rooms) (r : ℕ) (who : Here) (x : Stanza) (to : Option Address) (e : Element) (row moment : ℕ) (hs : List Here)
+      (kept much : Bool) → (kept && much) ≡ false
+      → entries_for r (map effect_of (cast rooms (if kept then (if much then refused who x ResourceConstraint
+      else map (queued_as who to (told_text who to e row)) (map (λ (h : Here). h.session) hs) ++ rows_for who to (row_text who to e) moment)
+      else map (queued_as who to (plain_text who to e)) (map (λ (h : Here). h.session) hs))))
+      ≡ copies_in r (copy_for (addressed who to) (text (sent_by (address_text who.address)
+      (if kept then told_with_id (bare (addressed who to)) row e else without_ids (bare (addressed who to)) e)))) hs
+  given_for rooms r who x to e row moment hs true true is = absurd (true≢false is)
+  given_for rooms r who x to e row moment hs true false is =
+      copies_then rooms r who to (told_text who to e row) hs (rows_for who to (row_text who to e) moment)
+      (rows_none rooms r who.address.local (addressed who to).local (is_to_oneself who to) (addressed who to) who.address (row_text who to e) moment)
+  given_for rooms r who x to e row moment hs false much is = copies_for rooms r who to (plain_text who to e) hs
 
   -- from the sender's address
-  copy_is : (s : ℕ) (to : Option Address) (e : Element) → takes_entries (st.world.sessions s) ≡ true
-      → copy_by (seen_as st s) to e (addressed (seen_as st s) to) ≡ message_from (address_at st s) to e
-  copy_is s to e is =
-      ap (copy_by (seen_as st s) to e) (destined (seen_as st s) to) ∙ ap (λ (a : Address). message_from a to e) (seen_is s is)
+  copy_is : (s : ℕ) (to : Option Address) (form : MessageForm) (e : Element) → takes_entries (st.world.sessions s) ≡ true
+      → copy_at (seen_as st s).address form e (addressed (seen_as st s) to) ≡ message_of st s to form e
+  copy_is s to form e is =
+      ap (copy_at (seen_as st s).address form e) (destined (seen_as st s) to)
+      ∙ ap (λ (a : Address). message_from st.world.archives a to form e) (seen_is s is)
 
   pub delivered : (w s t r : ℕ) (own : List ℕ) (to : Option Address) (form : MessageForm) (e : Element)
-      → Sends st w s own → IsRoutedAs Chat st own to form → takes_entries (st.world.sessions r) ≡ true
-      → GetsBy st w (Message to form e) t r (if is_among r (found_for st own to form) then message_from (address_at st s) to e ∷ [] else [])
-  delivered w s t r own to form e sent route is =
+      → Sends st w s own → IsRoutedAs Chat st own to form → passes st s to form e ≡ false → takes_entries (st.world.sessions r) ≡ true
+      → GetsBy st w (Message to form e) t r (if is_among r (found_for st own to form) then message_of st s to form e ∷ [] else [])
+  delivered w s t r own to form e sent route fits is =
       let who : Here = seen_as st s in
-      gets w s t r own (Message to form e) (if is_among r (found_for st own to form) then message_from (address_at st s) to e ∷ [] else []) sent is
+      let hs : List Here = found_for st own to form in
+      gets w s t r own (Message to form e) (if is_among r hs then message_of st s to form e ∷ [] else []) sent is
       (ap (λ (es : List stanza.Effect). entries_for r (map effect_of (cast st.world.rooms es)))
-      (message_is Chat s own to form e (λ bad. cc) (seen_user w s own sent) route)
-      ∙ (copies_for st.world.rooms r who to e (found_for st own to form)
-      ∙ (receivers_copied (keep_world st.world) r (copy_by who to e (addressed who to)) form (place_for st own to) (user_in own (place_for st own to))
-      (live_for (keep_world st.world) (place_for st own to) to)
-      ∙ ap (λ (x : Entry). if is_among r (found_for st own to form) then x ∷ [] else []) (copy_is s to e (sender_takes w s own sent)))))
+      (message_is Chat w s t own to form e (λ bad. cc) (seen_user w s own sent) route)
+      ∙ (given_for st.world.rooms r who (Message to form e) to e (keeping w s t to form e).row (keeping w s t to form e).moment hs (is_kept form e)
+      (is_too_much who to e (keeping w s t to form e)) fits
+      ∙ (receivers_copied (keep_world st.world) r (copy_at who.address form e (addressed who to)) form (place_for st own to)
+      (user_in own (place_for st own to)) (live_for (keep_world st.world) (place_for st own to) to)
+      ∙ ap (λ (x : Entry). if is_among r hs then x ∷ [] else []) (copy_is s to form e (sender_takes w s own sent)))))
 
   -- one that it finds
   pub found : (w s t r : ℕ) (own : List ℕ) (to : Option Address) (form : MessageForm) (e : Element)
-      → Sends st w s own → IsRoutedAs Chat st own to form → takes_entries (st.world.sessions r) ≡ true → is_among r (found_for st own to form) ≡ true
-      → GetsBy st w (Message to form e) t r (message_from (address_at st s) to e ∷ [])
-  found w s t r own to form e sent route is among =
-      subst (GetsBy st w (Message to form e) t r) (ap (λ (b : Bool). if b then message_from (address_at st s) to e ∷ [] else []) among)
-      (delivered w s t r own to form e sent route is)
+      → Sends st w s own → IsRoutedAs Chat st own to form → passes st s to form e ≡ false → takes_entries (st.world.sessions r) ≡ true
+      → is_among r (found_for st own to form) ≡ true → GetsBy st w (Message to form e) t r (message_of st s to form e ∷ [])
+  found w s t r own to form e sent route fits is among =
+      subst (GetsBy st w (Message to form e) t r) (ap (λ (b : Bool). if b then message_of st s to form e ∷ [] else []) among)
+      (delivered w s t r own to form e sent route fits is)
 
   -- to a bare address: those of the user that are reached
 
@@ -261,11 +312,11 @@ module _ (st : State) (known : Known st.world) where
       (ap (λ (l : Option (List ℕ)). same_part l (Some user)) (ap (λ (a : Address). a.local) (seen_is r is) ∙ his) ∙ bytes_same user)
 
   pub to_bare : (w s t r : ℕ) (own user : List ℕ) (to : Option Address) (form : MessageForm) (e : Element)
-      → Sends st w s own → IsForUser st own user to → to_user form ≡ to_user Chat
+      → Sends st w s own → IsForUser st own user to → to_user form ≡ to_user Chat → passes st s to form e ≡ false
       → takes_entries (st.world.sessions r) ≡ true → (address_at st r).local ≡ Some user → is_reached (seen_as st r) ≡ true
-      → GetsBy st w (Message to form e) t r (message_from (address_at st s) to e ∷ [])
-  to_bare w s t r own user to form e sent for goes is his reached =
-      found w s t r own to form e sent (bare_route own user to form (place_for st own to) r bare goes among) is among
+      → GetsBy st w (Message to form e) t r (message_of st s to form e ∷ [])
+  to_bare w s t r own user to form e sent for goes fits is his reached =
+      found w s t r own to form e sent (bare_route own user to form (place_for st own to) r bare goes among) fits is among
     where
       bare : bare_user own (place_for st own to) ≡ Some user
       bare = for_user own user to for
@@ -288,7 +339,7 @@ module _ (st : State) (known : Known st.world) where
       ∙ ap (λ (b : Bool). (if b then error_for (seen_as st s).address x condition ∷ [] else []) ++ []) (eq-eqb s s refl)
 
   pub answered : (w s t : ℕ) (own : List ℕ) (x : Stanza) (condition : Condition)
-      → Sends st w s own → effects (keep st) s x ≡ refused (seen_as st s) x condition → may_be_answered x ≡ true
+      → Sends st w s own → effects_of_act st w s x t ≡ refused (seen_as st s) x condition → may_be_answered x ≡ true
       → GetsBy st w x t s (error_for (address_at st s) x condition ∷ [])
   answered w s t own x condition sent is may =
       let takes' : takes_entries (st.world.sessions s) ≡ true = sender_takes w s own sent in
@@ -296,17 +347,52 @@ module _ (st : State) (known : Known st.world) where
       (ap (λ (es : List stanza.Effect). entries_for s (map effect_of (cast st.world.rooms es))) is
       ∙ (error_is s x condition may ∙ ap (λ (a : Address). error_for a x condition ∷ []) (seen_is s takes')))
 
+  -- a message for whose rows there is no room
+  refused_by : (r s : ℕ) (x : Stanza) (condition : Condition) (may is : Bool) → (r == s) ≡ is
+      → entries_for r (map effect_of (cast st.world.rooms (if may then said_to (seen_as st s) (error_of x condition) ∷ [] else [])))
+      ≡ (if is && may then error_for (seen_as st s).address x condition ∷ [] else [])
+  refused_by r s x condition false true at = refl
+  refused_by r s x condition false false at = refl
+  refused_by r s x condition true true at =
+      ap (λ (b : Bool). (if b then error_for (seen_as st s).address x condition ∷ [] else []) ++ []) at
+  refused_by r s x condition true false at =
+      ap (λ (b : Bool). (if b then error_for (seen_as st s).address x condition ∷ [] else []) ++ []) at
+
+  full_by : (kept much : Bool) (a b c : List stanza.Effect) → (kept && much) ≡ true → (if kept then (if much then a else b) else c) ≡ a
+  full_by true true a b c is = refl
+  full_by true false a b c is = absurd (true≢false (sym is))
+  full_by false much a b c is = absurd (true≢false (sym is))
+
+  pub undelivered : (w s t r : ℕ) (own : List ℕ) (to : Option Address) (form : MessageForm) (e : Element)
+      → Sends st w s own → IsRoutedAs Chat st own to form → passes st s to form e ≡ true → takes_entries (st.world.sessions r) ≡ true
+      → GetsBy st w (Message to form e) t r
+      (if (r == s) && may_be_answered (Message to form e) then error_for (address_at st s) (Message to form e) ResourceConstraint ∷ [] else [])
+  undelivered w s t r own to form e sent route full is =
+      let who : Here = seen_as st s in
+      let x : Stanza = Message to form e in
+      let sessions : List ℕ = map (λ (h : Here). h.session) (found_for st own to form) in
+      gets w s t r own x _ sent is
+      (ap (λ (es : List stanza.Effect). entries_for r (map effect_of (cast st.world.rooms es)))
+      (message_is Chat w s t own to form e (λ bad. cc) (seen_user w s own sent) route
+      ∙ full_by (is_kept form e) (is_too_much who to e (keeping w s t to form e)) (refused who x ResourceConstraint)
+      (map (queued_as who to (told_text who to e (keeping w s t to form e).row)) sessions
+      ++ rows_for who to (row_text who to e) (keeping w s t to form e).moment)
+      (map (queued_as who to (plain_text who to e)) sessions) full)
+      ∙ (refused_by r s x ResourceConstraint (may_be_answered x) (r == s) refl
+      ∙ ap (λ (a : Address). if (r == s) && may_be_answered x then error_for a x ResourceConstraint ∷ [] else [])
+      (seen_is s (sender_takes w s own sent))))
+
   pub unserved : (w s t : ℕ) (own : List ℕ) (to : Option Address) (form : MessageForm) (e : Element)
       → Sends st w s own → IsRoutedAs Groupchat st own to form → may_be_answered (Message to form e) ≡ true
       → GetsBy st w (Message to form e) t s (error_for (address_at st s) (Message to form e) ServiceUnavailable ∷ [])
   unserved w s t own to form e sent route may =
       answered w s t own (Message to form e) ServiceUnavailable sent
-      (message_is Groupchat s own to form e (λ bad. cc) (seen_user w s own sent) route) may
+      (message_is Groupchat w s t own to form e (λ bad. cc) (seen_user w s own sent) route) may
 
   pub foreign : (w s t : ℕ) (own : List ℕ) (to : Option Address) (form : MessageForm) (e : Element)
       → Sends st w s own → place_for st own to ≡ Foreign → may_be_answered (Message to form e) ≡ true
       → GetsBy st w (Message to form e) t s (error_for (address_at st s) (Message to form e) RemoteServerNotFound ∷ [])
   foreign w s t own to form e sent place may =
       answered w s t own (Message to form e) RemoteServerNotFound sent
-      (of_user_is s own to form e (seen_user w s own sent)
-      ∙ ap (λ (p : Place). message (scene_of (keep st)) own (seen_as st s) (Message to form e) form e p) place) may
+      (of_user_is w s t own to form e (seen_user w s own sent)
+      ∙ ap (λ (p : Place). message (scene w (Message to form e) t) own (seen_as st s) (Message to form e) form e p) place) may

@@ -15,7 +15,7 @@ use Rattle.sm_resume.specs.declared.decision.Cause.TheVariants.{Overfull}
 use Rattle.house_model.specs.Sessions.{Hold, Held, Away, Ended, Gone, Rest, Session, Op, Push, Act, Marks, session, pushed, step_if, session_step}
 use Rattle.house_model.specs.Traffic.{Traffic, whole, waiting}
 use Rattle.house_model.specs.States.{World}
-use Rattle.house_model.specs.Effects.{Effect, Open, At, Begin, On, Note, Hosts, apply, apply_all}
+use Rattle.house_model.specs.Effects.{Effect, Open, At, Begin, On, Note, Hosts, Files, apply, apply_all}
 use Rattle.house_model.specs.Steps.{effect_of}
 use Rattle.house_model.specs.Stays.{takes_entries}
 use Rattle.house_model.specs.Queueing.{entry_for}
@@ -34,6 +34,7 @@ abbrev pub IsMild : Effect → Type 0
 IsMild (On s op) = IsMildOp op
 IsMild (Note change) = ⊤
 IsMild (Hosts x) = ⊤
+IsMild (Files filing) = ⊤
 IsMild e = ⊥
 
 abbrev pub AreMild : List Effect → Type 0
@@ -45,6 +46,7 @@ stanza_mild (Queue s to rest origin ∷ more) = (tt, stanza_mild more)
 stanza_mild (effect.Broadcast n item ∷ more) = (tt, stanza_mild more)
 stanza_mild (effect.Enter n s address nick role ∷ more) = (tt, stanza_mild more)
 stanza_mild (effect.Leave n s ∷ more) = (tt, stanza_mild more)
+stanza_mild (effect.Keep user peer text moment ∷ more) = (tt, stanza_mild more)
 stanza_mild (Set (change.WantsRoster s) ∷ more) = (tt, stanza_mild more)
 stanza_mild (Set (change.Pushed s pushes) ∷ more) = (tt, stanza_mild more)
 stanza_mild (Set (change.Contact user address name groups) ∷ more) = (tt, stanza_mild more)
@@ -62,7 +64,8 @@ stanza_mild (Set (change.Affiliated n address a) ∷ more) = (tt, stanza_mild mo
 stanza_mild (Set (change.RoleSet n s role) ∷ more) = (tt, stanza_mild more)
 stanza_mild (Set (change.Renamed n s nick) ∷ more) = (tt, stanza_mild more)
 stanza_mild (Set (change.OccupantShown n s presence) ∷ more) = (tt, stanza_mild more)
-stanza_mild (Set (change.Subject n text) ∷ more) = (tt, stanza_mild more)
+stanza_mild (Set (change.Subject n text stamp) ∷ more) = (tt, stanza_mild more)
+stanza_mild (Set (change.RoomRow n peer text moment) ∷ more) = (tt, stanza_mild more)
 
 -- One operation: the session goes on with what is pushed, or is over for it.
 
@@ -173,6 +176,7 @@ effect_takes r world (At w op) mild = absurd mild
 effect_takes r world (Begin w c a) mild = absurd mild
 effect_takes r world (Note change) mild = plain_takes (world.sessions r) (world.sessions r) refl refl
 effect_takes r world (Hosts x) mild = plain_takes (world.sessions r) (world.sessions r) refl refl
+effect_takes r world (Files filing) mild = plain_takes (world.sessions r) (world.sessions r) refl refl
 effect_takes r world (On i (Push e)) mild = push_on r i world e
 effect_takes r world (On i (Act a)) mild =
     plain_on r i world (Act a)
@@ -188,6 +192,7 @@ effect_stays r world (At w op) mild = absurd mild
 effect_stays r world (Begin w c a) mild = absurd mild
 effect_stays r world (Note change) mild = λ cause is. record { over = is; same = refl }
 effect_stays r world (Hosts x) mild = λ cause is. record { over = is; same = refl }
+effect_stays r world (Files filing) mild = λ cause is. record { over = is; same = refl }
 effect_stays r world (On i op) mild =
     put_both (λ j (y : Session Traffic). Stays (world.sessions j) y)
     i (session_step whole (world.sessions i) op) world.sessions

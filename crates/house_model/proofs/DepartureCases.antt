@@ -35,6 +35,7 @@ queued_mild (Set (change.Directed s addresses) ∷ more) = (tt, queued_mild more
 queued_mild (effect.Broadcast n item ∷ more) = (tt, queued_mild more)
 queued_mild (effect.Enter n s address nick role ∷ more) = (tt, queued_mild more)
 queued_mild (effect.Leave n s ∷ more) = (tt, queued_mild more)
+queued_mild (effect.Keep user peer text moment ∷ more) = (tt, queued_mild more)
 queued_mild (Set (change.RoomMade n address owner) ∷ more) = (tt, queued_mild more)
 queued_mild (Set (change.RoomGone n) ∷ more) = (tt, queued_mild more)
 queued_mild (Set (change.Unlocked n) ∷ more) = (tt, queued_mild more)
@@ -43,7 +44,8 @@ queued_mild (Set (change.Affiliated n address a) ∷ more) = (tt, queued_mild mo
 queued_mild (Set (change.RoleSet n s role) ∷ more) = (tt, queued_mild more)
 queued_mild (Set (change.Renamed n s nick) ∷ more) = (tt, queued_mild more)
 queued_mild (Set (change.OccupantShown n s presence) ∷ more) = (tt, queued_mild more)
-queued_mild (Set (change.Subject n text) ∷ more) = (tt, queued_mild more)
+queued_mild (Set (change.Subject n text stamp) ∷ more) = (tt, queued_mild more)
+queued_mild (Set (change.RoomRow n peer text moment) ∷ more) = (tt, queued_mild more)
 
 -- the session's own operations
 

@@ -16,7 +16,7 @@ use Rattle.stanza_model.specs.declared.condition.Condition.{Condition}
 use Rattle.stanza_model.specs.declared.stanza.Stanza.{Stanza}
 use Rattle.stanza_router.specs.Discovery.{info_space, items_space, rooms_space, query_in, node_of, identity, feature, described, described_as}
 use Rattle.stanza_router.specs.Discovery.{fitting, info_if, info_of, item, listed_at, most_items, no_items_if, room_features, room_identity}
-use Rattle.stanza_router.specs.Discovery.{room_item}
+use Rattle.stanza_router.specs.Discovery.{archive_space, ids_space, room_item}
 use Rattle.stanza_router.specs.Discovery.{server_items, listing, items_of, found_by, found, replied, discovery}
 use Rattle.stanza_router.specs.declared.listed.Listed.{Listed}
 use Rattle.stanza_router.specs.Places.{service_domain}
@@ -148,7 +148,8 @@ info-brief Server to rooms all =
     described-le (codes "server") (codes "im") (info_space ∷ items_space ∷ codes "urn:xmpp:ping" ∷ []) (omega arith) (omega arith)
     (omega arith, (omega arith, (omega arith, tt))) (omega arith)
 info-brief Account to rooms all =
-    described-le (codes "account") (codes "registered") (info_space ∷ []) (omega arith) (omega arith) (omega arith, tt) (omega arith)
+    described-le (codes "account") (codes "registered") (info_space ∷ archive_space ∷ ids_space ∷ []) (omega arith) (omega arith)
+    (omega arith, (omega arith, (omega arith, tt))) (omega arith)
 info-brief Service to rooms all =
     described-le (codes "conference") (codes "text") (info_space ∷ items_space ∷ rooms_space ∷ []) (omega arith)
     (omega arith) (omega arith, (omega arith, (omega arith, tt))) (omega arith)

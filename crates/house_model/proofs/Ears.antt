@@ -9,7 +9,7 @@ use Rattle.sm_account.proofs.Logs.{log_append}
 use Rattle.house_model.specs.Sessions.{Op, Push, Pull, Request, Enable, Ack, Tell, Act, Drop, Resume, End, Part, Marks}
 use Rattle.house_model.specs.Traffic.{Traffic, whole}
 use Rattle.house_model.specs.States.{World}
-use Rattle.house_model.specs.Effects.{Effect, Open, At, Begin, On, Note, Hosts, apply}
+use Rattle.house_model.specs.Effects.{Effect, Open, At, Begin, On, Note, Hosts, Files, apply}
 use Rattle.house_model.specs.Bridge.{op_ops, effect_ops, effects_ops}
 
 -- what is heard
@@ -90,6 +90,7 @@ effect_quiet r f k world (Open w) s q is = refl
 effect_quiet r f k world (At w op) s q is = refl
 effect_quiet r f k world (Note change) s q is = refl
 effect_quiet r f k world (Hosts x) s q is = refl
+effect_quiet r f k world (Files filing) s q is = refl
 effect_quiet r f k world (Begin w c a) s q is =
     quiet_if f (eqb k (world.made + 1)) (one.Begin c ∷ []) s (one_quiet r f s (one.Begin c) q (unheard r.begin is))
 effect_quiet r f k world (On j op) s q is = quiet_if f (eqb k j) (op_ops op) s (op_quiet r f op s q is)

@@ -16,7 +16,7 @@ use Rattle.house_model.specs.Sessions.{Hold, Held, Rest, Op, Push, Pull, Request
 use Rattle.house_model.specs.Sessions.{Resume, End, Part, Marks, step_if, session_step, Ways}
 use Rattle.house_model.specs.Traffic.{KeptTraffic, Traffic, whole}
 use Rattle.house_model.specs.States.{Line, World, Kept}
-use Rattle.house_model.specs.Effects.{Effect, Open, At, Begin, On, Note, Hosts, Leave, settled, touch, apply, apply_all}
+use Rattle.house_model.specs.Effects.{Effect, Open, At, Begin, On, Note, Hosts, Files, Leave, settled, touch, apply, apply_all}
 use Rattle.house_model.specs.Gate.{left_by, left, closed}
 use Rattle.house_model.specs.Routing.{departure}
 use Rattle.house_model.specs.Steps.{departs, effect_of, replaces, leaves}
@@ -41,6 +41,7 @@ AllOn [] = ⊤
 AllOn (On s op ∷ es) = IsNoResume op × AllOn es
 AllOn (Note change ∷ es) = AllOn es
 AllOn (Hosts x ∷ es) = AllOn es
+AllOn (Files filing ∷ es) = AllOn es
 AllOn (e ∷ es) = ⊥
 
 on_fits : (world : World Traffic) (s : ℕ) (op : Op) → IsNoResume op → FitsIn world (On s op)
@@ -93,6 +94,7 @@ all_on_fit world [] all = tt
 all_on_fit world (On s op ∷ es) all = (on_fits world s op all.0, all_on_fit (apply whole world (On s op)) es all.1)
 all_on_fit world (Note change ∷ es) all = (tt, all_on_fit (apply whole world (Note change)) es all)
 all_on_fit world (Hosts x ∷ es) all = (tt, all_on_fit (apply whole world (Hosts x)) es all)
+all_on_fit world (Files filing ∷ es) all = (tt, all_on_fit (apply whole world (Files filing)) es all)
 all_on_fit world (Open v ∷ es) all = absurd all
 all_on_fit world (At v op ∷ es) all = absurd all
 all_on_fit world (Begin v c a ∷ es) all = absurd all
@@ -107,6 +109,8 @@ free_all world (Note change ∷ es) w all m free =
     free_all (apply whole world (Note change)) es w all (matched_on world (Note change) tt m) free
 free_all world (Hosts x ∷ es) w all m free =
     free_all (apply whole world (Hosts x)) es w all (matched_on world (Hosts x) tt m) free
+free_all world (Files filing ∷ es) w all m free =
+    free_all (apply whole world (Files filing)) es w all (matched_on world (Files filing) tt m) free
 free_all world (Open v ∷ es) w all m free = absurd all
 free_all world (At v op ∷ es) w all m free = absurd all
 free_all world (Begin v c a ∷ es) w all m free = absurd all
@@ -131,6 +135,7 @@ queued_on (Set (change.Directed s addresses) ∷ more) = (tt, queued_on more)
 queued_on (effect.Broadcast n item ∷ more) = queued_on more
 queued_on (effect.Enter n s address nick role ∷ more) = queued_on more
 queued_on (effect.Leave n s ∷ more) = queued_on more
+queued_on (effect.Keep user peer text moment ∷ more) = queued_on more
 queued_on (Set (change.RoomMade n address owner) ∷ more) = queued_on more
 queued_on (Set (change.RoomGone n) ∷ more) = queued_on more
 queued_on (Set (change.Unlocked n) ∷ more) = queued_on more
@@ -139,13 +144,15 @@ queued_on (Set (change.Affiliated n address a) ∷ more) = queued_on more
 queued_on (Set (change.RoleSet n s role) ∷ more) = queued_on more
 queued_on (Set (change.Renamed n s nick) ∷ more) = queued_on more
 queued_on (Set (change.OccupantShown n s presence) ∷ more) = queued_on more
-queued_on (Set (change.Subject n text) ∷ more) = queued_on more
+queued_on (Set (change.Subject n text stamp) ∷ more) = queued_on more
+queued_on (Set (change.RoomRow n peer text moment) ∷ more) = queued_on more
 
 on_append : (xs ys : List Effect) → AllOn xs → AllOn ys → AllOn (xs ++ ys)
 on_append [] ys a b = b
 on_append (On s op ∷ xs) ys a b = (a.0, on_append xs ys a.1 b)
 on_append (Note change ∷ xs) ys a b = on_append xs ys a b
 on_append (Hosts x ∷ xs) ys a b = on_append xs ys a b
+on_append (Files filing ∷ xs) ys a b = on_append xs ys a b
 on_append (Open v ∷ xs) ys a b = absurd a
 on_append (At v op ∷ xs) ys a b = absurd a
 on_append (Begin v c x ∷ xs) ys a b = absurd a
@@ -156,6 +163,7 @@ on_made z world [] all = refl
 on_made z world (On s op ∷ es) all = on_made z (apply z world (On s op)) es all.1
 on_made z world (Note change ∷ es) all = on_made z (apply z world (Note change)) es all
 on_made z world (Hosts x ∷ es) all = on_made z (apply z world (Hosts x)) es all
+on_made z world (Files filing ∷ es) all = on_made z (apply z world (Files filing)) es all
 on_made z world (Open v ∷ es) all = absurd all
 on_made z world (At v op ∷ es) all = absurd all
 on_made z world (Begin v c a ∷ es) all = absurd all

@@ -49,6 +49,10 @@ filter_all P p [] all = tt
 filter_all P p (x ∷ xs) all =
     either_all P (p x) (x ∷ filter p xs) (filter p xs) (all.0, filter_all P p xs all.1) (filter_all P p xs all.1)
 
+pub every : {X : Type 0} (P : X → Type 0) → ((x : X) → P x) → (xs : List X) → AllByRecursion P xs
+every P each [] = tt
+every P each (x ∷ xs) = (each x, every P each xs)
+
 -- Which sessions are found.
 one_passing : (world : World KeptTraffic) (b : Bool) (n : ℕ) → (b ≡ true → is_there (world.sessions (suc n)) ≡ true)
     → suc n ≤ world.made → AllByRecursion (IsFound world) (if b then suc n ∷ [] else [])

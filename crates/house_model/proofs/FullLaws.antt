@@ -20,9 +20,9 @@ use Rattle.house_model.specs.Lookups.{goes_on, here, if_it_goes_on, is_at, is_th
 use Rattle.house_model.specs.Routing.{user_in, receivers, has_account}
 use Rattle.house_model.specs.Histories.{Turn, after, IsOpening}
 use Rattle.house_model.specs.Stays.{takes, takes_entries}
-use Rattle.house_model.specs.Deliveries.{Sends, GetsBy, seen_as, place_for, is_among, full_address, message_from, address_at, Deliveries}
+use Rattle.house_model.specs.Deliveries.{Sends, GetsBy, seen_as, place_for, is_among, full_address, message_of, passes, address_at, Deliveries}
 use Rattle.house_model.proofs.AddressLaws.{AreApart, there, address_finds, apart_after, at_there}
-use Rattle.house_model.proofs.DeliveryLaws.{queues, done, seen_is, delivered, found, to_bare, answered, unserved, foreign}
+use Rattle.house_model.proofs.DeliveryLaws.{queues, done, seen_is, delivered, undelivered, found, to_bare, answered, unserved, foreign}
 use Rattle.house_model.proofs.DeliveryLaws.{taking_made, taking_of, full_place, found_at, IsRouted}
 use Rattle.house_model.proofs.FoundOnce.{filter_both, filter_never, passing_among}
 use Rattle.house_model.proofs.HousedTurns.{Known}
@@ -54,10 +54,10 @@ module _ (st : State) (known : Known st.world) (apart : AreApart st.world) (user
       ∙ ap (λ (q : Place). route_of q true form (here (keep_world st.world) r ∷ [])) place
 
   to_session : (w s t r : ℕ) (own : List ℕ) (to : Address) (form : MessageForm) (e : Element)
-      → Sends st w s own → takes_entries (st.world.sessions r) ≡ true → address_at st r ≡ to
-      → GetsBy st w (Message (Some to) form e) t r (message_from (address_at st s) (Some to) e ∷ [])
-  to_session w s t r own to form e sent is at =
-      found st known w s t r own (Some to) form e sent (live_routed own user resource to form (place_for st own (Some to)) r place live) is
+      → Sends st w s own → passes st s (Some to) form e ≡ false → takes_entries (st.world.sessions r) ≡ true → address_at st r ≡ to
+      → GetsBy st w (Message (Some to) form e) t r (message_of st s (Some to) form e ∷ [])
+  to_session w s t r own to form e sent fits is at =
+      found st known w s t r own (Some to) form e sent (live_routed own user resource to form (place_for st own (Some to)) r place live) fits is
       (ap (is_among r) (live_found_at own user resource to form (place_for st own (Some to)) r place live)
       ∙ ap (λ (b : Bool). b || false) (eq-eqb r r refl))
     where
@@ -141,11 +141,12 @@ module _ (st : State) (known : Known st.world) (apart : AreApart st.world) (user
 
   to_user_at : (w s t r : ℕ) (own user resource : List ℕ) (e : Element) → Sends st w s own
       → ((q : ℕ) → takes_entries (st.world.sessions q) ≡ true → address_at st q ≡ full_address st user resource → ⊥)
+      → passes st s (Some (full_address st user resource)) Chat e ≡ false
       → takes_entries (st.world.sessions r) ≡ true → (address_at st r).local ≡ Some user → is_reached (seen_as st r) ≡ true
-      → GetsBy st w (Message (Some (full_address st user resource)) Chat e) t r
-      (message_from (address_at st s) (Some (full_address st user resource)) e ∷ [])
-  to_user_at w s t r own user resource e sent none is his reached =
-      found st known w s t r own (Some to) Chat e sent (else_routed own user resource (Some to) Chat (place_for st own (Some to)) r place among) is among
+      → GetsBy st w (Message (Some (full_address st user resource)) Chat e) t r (message_of st s (Some (full_address st user resource)) Chat e ∷ [])
+  to_user_at w s t r own user resource e sent none fits is his reached =
+      found st known w s t r own (Some to) Chat e sent (else_routed own user resource (Some to) Chat (place_for st own (Some to)) r place among)
+      fits is among
     where
       to : Address
       to = full_address st user resource
@@ -169,6 +170,7 @@ module _ (st : State) (known : Known st.world) (apart : AreApart st.world) (user
     done = done st known;
     queues = queues st known;
     delivered = delivered st known;
+    undelivered = undelivered st known;
     to_session = to_session;
     to_bare = to_bare st known;
     to_user_at = to_user_at;

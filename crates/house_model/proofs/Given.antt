@@ -6,7 +6,7 @@ use Rattle.house_model.specs.Sessions.{Hold, Held, Away, Ended, Gone, Rest, Sess
 use Rattle.house_model.specs.Sessions.{session, pushed, acked, resumed, begun, step_if, session_step}
 use Rattle.house_model.specs.Traffic.{Traffic, whole}
 use Rattle.house_model.specs.States.{World}
-use Rattle.house_model.specs.Effects.{Effect, Open, At, Begin, On, Note, Hosts, apply, apply_all}
+use Rattle.house_model.specs.Effects.{Effect, Open, At, Begin, On, Note, Hosts, Files, apply, apply_all}
 use Rattle.house_model.specs.Steps.{has_id}
 use Rattle.house_model.specs.Sound.{Sound}
 use Rattle.house_model.specs.Lines.{is_among}
@@ -66,6 +66,7 @@ effect_mark k world (Open v) o is = refl
 effect_mark k world (At v op) o is = refl
 effect_mark k world (Note change) o is = refl
 effect_mark k world (Hosts x) o is = refl
+effect_mark k world (Files filing) o is = refl
 effect_mark k world (Begin v c a) o is = elim (put_is (world.made + 1) (begun whole v c a) world.sessions k) [
   | inl p ↦ ap mark_of p.1
       ∙ ap mark_of (sym (o.later k (let same : k ≡ world.made + 1 = p.0 in omega arith)))

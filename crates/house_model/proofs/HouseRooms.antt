@@ -36,6 +36,10 @@ use Rattle.house_model.specs.Lookups.{here, sessions_of}
 use Rattle.house_model.specs.Presences.{asking, party}
 use Rattle.house_model.specs.Requests.{queries}
 use Rattle.house_model.specs.RoomFits.{AreOf}
+use Rattle.archive_table.specs.Pages as pages
+use Rattle.mam_wire.specs.Stamps.{stamp_text}
+use Rattle.house_model.specs.ArchiveLookups.{keeping_in, past_in}
+use Rattle.house_model.specs.Archives as archives
 use Rattle.house_model.specs.RoomLookups.{called, in_order, numbers_for, placed, room_for, rooms_of, stay_in}
 use Rattle.house_model.specs.Routing.{Scene, absent_from, asked_of, departure, departure_by, effects, effects_in, is_invitation, leaves_rooms}
 use Rattle.house_model.specs.Routing.{own_contacts, parted, present_in, scene_of, to_all_in, to_no_room, to_one_in, user_removed}
@@ -46,7 +50,7 @@ use Rattle.house_model.specs.Traffic.{KeptTraffic, Traffic}
 use Rattle.house_model.proofs.Removals.{Spoken, Well}
 use Rattle.house_model.proofs.AdminTables.{admin_of, invite_of, owner_of}
 use Rattle.house_model.proofs.EffectCases.{effects_all}
-use Rattle.house_model.proofs.Founds.{append_all, filter_all, numbers_found}
+use Rattle.house_model.proofs.Founds.{append_all, every, filter_all, numbers_found}
 use Rattle.house_model.proofs.HallLemmas.{found, found_number}
 use Rattle.house_model.proofs.Housed.{AllLive, Housed, Lives}
 use Rattle.house_model.proofs.HousedTurns.{Known}
@@ -177,7 +181,8 @@ module _ (o : Scene) (s : ℕ) (x : Stanza) (numbered : Numbered o.world.rooms) 
 
   said_of : (form : MessageForm) (e : Element) (f : Option Hosted) → room_for rooms (to_in x) ≡ f → AreOf rooms (to_all_in o who x form e f)
   said_of form e None is = no_of (to_no_room form e)
-  said_of message.Groupchat e (Some h) is = say_of rooms h.room (held (to_in x) h is) who x
+  said_of message.Groupchat e (Some h) is =
+      say_of rooms h.room (held (to_in x) h is) who x (keeping_in o.world.archives h o.moment) (stamp_text o.moment)
   said_of message.Chat e (Some h) is = called_of e h is
   said_of message.Normal e (Some h) is = called_of e h is
   said_of message.Headline e (Some h) is = called_of e h is
@@ -199,13 +204,15 @@ module _ (o : Scene) (s : ℕ) (x : Stanza) (numbered : Numbered o.world.rooms) 
   absent_of None is = tt
   absent_of (Some h) is = leave_of rooms h.room (held (to_in x) h is) who.session (Some x)
 
-  present_of : (f : Option Hosted) → room_for rooms (to_in x) ≡ f → AreOf rooms (present_in rooms who x f)
+  present_of : (f : Option Hosted) → room_for rooms (to_in x) ≡ f → AreOf rooms (present_in o.world who x f)
   present_of None is =
-      enter_of rooms (numbers_for rooms who.session) who refl None x (none_above rooms.made (rooms.made + 1) rooms.hosted numbered (omega arith))
+      enter_of rooms (numbers_for rooms who.session) who refl None x [] (none_above rooms.made (rooms.made + 1) rooms.hosted numbered (omega arith))
   present_of (Some h) is =
-      choose (AreOf rooms) (is_in who.session h) (rename h.room who x) (enter (Some h.room) (numbers_for rooms who.session) who x)
+      choose (AreOf rooms) (is_in who.session h) (rename h.room who x)
+      (enter (Some h.room) (numbers_for rooms who.session) who x (past_in o.world.archives h))
       (λ (_ : _). rename_of rooms h.room (held (to_in x) h is) who x)
-      (λ (out : _). enter_of rooms (numbers_for rooms who.session) who refl (Some h.room) x (h, hosted_by rooms (to_in x) h numbered is, refl, out))
+      (λ (out : _). enter_of rooms (numbers_for rooms who.session) who refl (Some h.room) x (past_in o.world.archives h)
+      (h, hosted_by rooms (to_in x) h numbered is, refl, out))
 
   covered : Covers o s x IsCalm (AreOf rooms)
   covered = record {
@@ -215,8 +222,14 @@ module _ (o : Scene) (s : ℕ) (x : Stanza) (numbered : Numbered o.world.rooms) 
     found = λ place. tt;
     told = λ place. tt;
     form = tt;
-    page = tt;
+    shown = λ from rows q asked short.
+        every (λ row. IsCalm (archives.shown_to who from q.queryid row)) (λ row. tt) (pages.shown rows q.filter q.ask);
+    page = λ from rows q asked. tt;
     copy = λ e h at is. tt;
+    plain = λ e r at is. tt;
+    numbered = λ e r at is. tt;
+    sent = λ e user at named. tt;
+    received = λ e user at named. tt;
     presence = λ e h small is. tt;
     show = λ h is. tt;
     asked = λ own. asks (asking o.domain o.world own);

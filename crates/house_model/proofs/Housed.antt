@@ -137,7 +137,7 @@ module _ (H : ℕ → Type 0) where
   change_keeps (change.RoleSet n s role) = λ r all. mapped_live (role_if s role) (role_lives s role) r.occupants all
   change_keeps (change.Renamed n s nick) = λ r all. mapped_live (renamed_if s nick) (renamed_lives s nick) r.occupants all
   change_keeps (change.OccupantShown n s presence) = λ r all. mapped_live (shown_if s presence) (shown_lives s presence) r.occupants all
-  change_keeps (change.Subject n text) = λ r all. all
+  change_keeps (change.Subject n text stamp) = λ r all. all
   change_keeps (change.RoomGone n) = tt
   change_keeps c = tt
 
@@ -148,6 +148,7 @@ module _ (H : ℕ → Type 0) where
   keeps_lives (effect.Enter n s address nick role) enters =
       λ stay r all. occupied_lives (record { session = s; address = address; stay = stay }) nick role r (enters n s address nick role refl) all
   keeps_lives (effect.Leave n s) enters = λ r all. left_live s r.occupants all
+  keeps_lives (effect.Keep user peer text moment) enters = tt
   keeps_lives (effect.Set c) enters = change_keeps c
 
 -- of other sessions
@@ -194,6 +195,7 @@ module _ (world : World Traffic) where
   heard_fit rooms (effect.Queue s to rest origin) fits each = tt
   heard_fit rooms (effect.Enter n s address nick role) fits each = tt
   heard_fit rooms (effect.Leave n s) fits each = tt
+  heard_fit rooms (effect.Keep user peer text moment) fits each = tt
   heard_fit rooms (effect.Set c) fits each = tt
 
   pub cast_fits : (es : List stanza.Effect) (rooms : Rooms) → EachRoom (AllLive here) rooms → AllByRecursion (EffectFits world) es

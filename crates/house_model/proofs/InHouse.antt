@@ -20,18 +20,20 @@ use Rattle.house_model.specs.Sessions.{Hold, Held, Away, Ended, Gone, Rest, Sess
 use Rattle.house_model.specs.Sessions.{session_step, Marks, Shown, Hidden, Directs, WantsRoster, Pushed}
 use Rattle.house_model.specs.Traffic.{KeptTraffic, Traffic, whole}
 use Rattle.house_model.specs.States.{World, State, keep, keep_by, keep_world}
-use Rattle.house_model.specs.Effects.{Effect, Open, At, Begin, On, Note, Hosts, apply, apply_all}
+use Rattle.house_model.specs.Effects.{Effect, Open, At, Begin, On, Note, Hosts, Files, apply, apply_all}
 use Rattle.house_model.specs.Fitting.{IsInHouse, EffectFits, AllFit}
 use Rattle.house_model.specs.Histories.{Outcome, Made, Short, next_by}
 use Rattle.house_model.specs.Lookups.{here, is_there, sessions_of}
 use Rattle.house_model.specs.Presences.{asking, party}
+use Rattle.archive_table.specs.Pages as pages
+use Rattle.house_model.specs.Archives as archives
 use Rattle.house_model.specs.RoomLookups.{called, room_for, rooms_of}
 use Rattle.house_model.specs.Routing.{Scene, departure, effects_in, own_contacts, parted, user_removed}
 use Rattle.house_model.specs.Sound.{Sound}
 use Rattle.house_model.specs.Steps.{effect_of, verdict, turn}
 use Rattle.house_model.proofs.EffectCases.{effects_all}
 use Rattle.house_model.proofs.FitRows.{absent_fits, all_left_fit, asked_fits, called_are_found, present_fits, said_fits, whispered_fits}
-use Rattle.house_model.proofs.Founds.{AreFound, IsFound, append_all, numbers_found}
+use Rattle.house_model.proofs.Founds.{AreFound, IsFound, append_all, every, numbers_found}
 use Rattle.house_model.proofs.Housed.{AllLive, Housed, housed_by}
 use Rattle.house_model.proofs.Outs.{each_listed, rooms_all}
 use Rattle.house_model.proofs.RoomCases.{found_all}
@@ -52,6 +54,7 @@ apply_no_zero world (Open w) none = none
 apply_no_zero world (At w op) none = none
 apply_no_zero world (Note change) none = none
 apply_no_zero world (Hosts x) none = none
+apply_no_zero world (Files filing) none = none
 apply_no_zero world (Begin w c a) none =
     put_else (world.made + 1) (begun whole w c a) world.sessions 0 (λ e. omega (arith, e)) ∙ none
 apply_no_zero world (On k op) none = elim (put_is k (session_step whole (world.sessions k) op) world.sessions 0) [
@@ -132,6 +135,7 @@ effect_keeps world s (Set (change.Asked a b now)) is = record { above = is.above
 effect_keeps world s (effect.Broadcast n item) is = record { above = is.above; made = is.made; stays = is.stays }
 effect_keeps world s (effect.Enter n k address nick role) is = record { above = is.above; made = is.made; stays = is.stays }
 effect_keeps world s (effect.Leave n k) is = record { above = is.above; made = is.made; stays = is.stays }
+effect_keeps world s (effect.Keep user peer text moment) is = record { above = is.above; made = is.made; stays = is.stays }
 effect_keeps world s (Set (change.RoomMade n address owner)) is = record { above = is.above; made = is.made; stays = is.stays }
 effect_keeps world s (Set (change.RoomGone n)) is = record { above = is.above; made = is.made; stays = is.stays }
 effect_keeps world s (Set (change.Unlocked n)) is = record { above = is.above; made = is.made; stays = is.stays }
@@ -140,7 +144,8 @@ effect_keeps world s (Set (change.Affiliated n address a)) is = record { above =
 effect_keeps world s (Set (change.RoleSet n k role)) is = record { above = is.above; made = is.made; stays = is.stays }
 effect_keeps world s (Set (change.Renamed n k nick)) is = record { above = is.above; made = is.made; stays = is.stays }
 effect_keeps world s (Set (change.OccupantShown n k presence)) is = record { above = is.above; made = is.made; stays = is.stays }
-effect_keeps world s (Set (change.Subject n text)) is = record { above = is.above; made = is.made; stays = is.stays }
+effect_keeps world s (Set (change.Subject n text stamp)) is = record { above = is.above; made = is.made; stays = is.stays }
+effect_keeps world s (Set (change.RoomRow n peer text moment)) is = record { above = is.above; made = is.made; stays = is.stays }
 
 queued_fits : (world : World Traffic) (e x : stanza.Effect) → EffectFits world e → EffectFits (apply whole world (effect_of x)) e
 queued_fits world (Queue s to rest origin) x fits = effect_keeps world s x fits
@@ -156,6 +161,7 @@ queued_fits world (Set (change.Asked a b now)) x fits = tt
 queued_fits world (effect.Broadcast n item) x fits = tt
 queued_fits world (effect.Enter n k address nick role) x fits = effect_keeps world k x fits
 queued_fits world (effect.Leave n k) x fits = effect_keeps world k x fits
+queued_fits world (effect.Keep user peer text moment) x fits = tt
 queued_fits world (Set (change.RoomMade n address owner)) x fits = tt
 queued_fits world (Set (change.RoomGone n)) x fits = tt
 queued_fits world (Set (change.Unlocked n)) x fits = tt
@@ -164,7 +170,8 @@ queued_fits world (Set (change.Affiliated n address a)) x fits = tt
 queued_fits world (Set (change.RoleSet n k role)) x fits = effect_keeps world k x fits
 queued_fits world (Set (change.Renamed n k nick)) x fits = effect_keeps world k x fits
 queued_fits world (Set (change.OccupantShown n k presence)) x fits = effect_keeps world k x fits
-queued_fits world (Set (change.Subject n text)) x fits = tt
+queued_fits world (Set (change.Subject n text stamp)) x fits = tt
+queued_fits world (Set (change.RoomRow n peer text moment)) x fits = tt
 
 later_fit : (world : World Traffic) (x : stanza.Effect) (es : List stanza.Effect) → AllByRecursion (EffectFits world) es
     → AllByRecursion (EffectFits (apply whole world (effect_of x))) es
@@ -203,8 +210,14 @@ covered world o s x same numbered housed is = record {
   found = λ place. mine;
   told = λ place. mine;
   form = mine;
-  page = mine;
+  shown = λ from rows q asked short.
+      every (λ row. FitsAfter world s x (archives.shown_to (here o.world s) from q.queryid row)) (λ row. mine) (pages.shown rows q.filter q.ask);
+  page = λ from rows q asked. mine;
   copy = λ e h at found. others h found;
+  plain = λ e r at found. reached r found;
+  numbered = λ e r at found. reached r found;
+  sent = λ e user at named. tt;
+  received = λ e user at named. tt;
   presence = λ e h small found. others h found.found;
   show = λ h found. mine;
   asked = λ own. asks (asking o.domain o.world own);
@@ -230,14 +243,17 @@ covered world o s x same numbered housed is = record {
       (all_left_fit (apply whole world (On s (Act x))) s (Some x) (rooms_of s o.world.rooms) mine
       (rooms_all (λ h. AllLive (IsInActed world s x) h.room) s o.world.rooms hosts));
   present = λ e at short.
-      present_fits (apply whole world (On s (Act x))) (here o.world s) x mine o.world.rooms (room_for o.world.rooms (to_in x)) (room (to_in x));
+      present_fits (apply whole world (On s (Act x))) (here o.world s) x mine o.world (room_for o.world.rooms (to_in x)) (room (to_in x));
 }
   where
     mine : IsInActed world s x s
     mine = acted_in_house world s x s is
 
+    reached : (r : ℕ) → IsFound o.world r → IsInActed world s x r
+    reached r found = acted_in_house world s x r (found_in_house world r (subst (λ k. IsFound k r) same found))
+
     others : (h : Here) → IsFound o.world h.session → IsInActed world s x h.session
-    others h found = acted_in_house world s x h.session (found_in_house world h.session (subst (λ k. IsFound k h.session) same found))
+    others h found = reached h.session found
 
     all_others : (hs : List Here) → AreFound o.world hs → AllByRecursion (λ h. IsInActed world s x h.session) hs
     all_others [] found = tt

@@ -6,7 +6,7 @@ use Rattle.house_model.specs.Sessions.{Hold, Held, Away, Ended, Gone, Rest, Sess
 use Rattle.house_model.specs.Sessions.{End, Part, session, over, pushed, acked, resumed, step_if, session_step, begun}
 use Rattle.house_model.specs.Traffic.{Traffic, KeptTraffic, Ordered, whole, brief, keep_traffic}
 use Rattle.house_model.specs.States.{Line, World, keep_by, keep_session, keep_world}
-use Rattle.house_model.specs.Effects.{Effect, Open, At, Begin, On, Note, Hosts, settled, touch, apply, apply_all}
+use Rattle.house_model.specs.Effects.{Effect, Open, At, Begin, On, Note, Hosts, Files, settled, touch, apply, apply_all}
 use Rattle.house_model.proofs.TrafficLemmas as traffic
 use Rattle.house_model.proofs.TrafficLemmas.{keep_option}
 use Rattle.house_model.proofs.OrderLemmas.{none_ordered, step_ordered}
@@ -140,6 +140,7 @@ module _ (s : ℕ) (op : Op) (world : World Traffic) (o : Ordered (world.session
     sessions = λ (k : ℕ). sessions_kept k i;
     book = world.book;
     rooms = world.rooms;
+    archives = world.archives;
   }
 
 pub apply_kept : (world : World Traffic) (e : Effect) → AreOrdered world
@@ -153,9 +154,11 @@ apply_kept world (Begin w c a) o = λ i. record {
   sessions = λ (k : ℕ). put_kept (world.made + 1) (begun whole w c a) world.sessions k i;
   book = world.book;
   rooms = world.rooms;
+  archives = world.archives;
 }
 apply_kept world (Note change) o = refl
 apply_kept world (Hosts x) o = refl
+apply_kept world (Files filing) o = refl
 apply_kept world (On s op) o = touch_kept s op world (o s)
 
 put_ordered : (b : Bool) (x y : Session Traffic) → Ordered x.traffic → Ordered y.traffic
@@ -168,6 +171,7 @@ apply_ordered world (Open w) o s = o s
 apply_ordered world (At w op) o s = o s
 apply_ordered world (Note change) o s = o s
 apply_ordered world (Hosts x) o s = o s
+apply_ordered world (Files filing) o s = o s
 apply_ordered world (Begin w c a) o s =
     put_ordered (eqb s (world.made + 1)) (begun whole w c a) (world.sessions s) none_ordered (o s)
 apply_ordered world (On k op) o s =

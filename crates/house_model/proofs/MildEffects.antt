@@ -10,7 +10,7 @@ use Rattle.house_model.specs.Sessions.{Hold, Held, Away, Ended, Gone, Rest, Sess
 use Rattle.house_model.specs.Sessions.{Resume, End, Part, Marks, session, pushed, step_if, session_step}
 use Rattle.house_model.specs.Traffic.{Traffic, whole, waiting}
 use Rattle.house_model.specs.States.{World}
-use Rattle.house_model.specs.Effects.{Effect, Open, At, Begin, On, Note, Hosts, Say, Said, apply, apply_all}
+use Rattle.house_model.specs.Effects.{Effect, Open, At, Begin, On, Note, Hosts, Files, Say, Said, apply, apply_all}
 use Rattle.house_model.specs.Resuming.{is_live}
 use Rattle.house_model.specs.Endings.{IsOverfull}
 use Rattle.house_model.specs.Losses.{StaysAway}
@@ -31,6 +31,7 @@ abbrev pub IsMild : Effect → Type 0
 IsMild (On s op) = IsMildOp op
 IsMild (Note change) = ⊤
 IsMild (Hosts x) = ⊤
+IsMild (Files filing) = ⊤
 IsMild (At w (Say a)) = ⊤
 IsMild (At w Said) = ⊤
 IsMild e = ⊥
@@ -56,6 +57,7 @@ mild_to s (Open w) mild = tt
 mild_to s (At w op) mild = tt
 mild_to s (Note change) mild = tt
 mild_to s (Hosts x) mild = tt
+mild_to s (Files filing) mild = tt
 
 pub all_mild_to : (s : ℕ) (es : List Effect) → AllMild es → AllMildTo s es
 all_mild_to s [] all = tt
@@ -177,6 +179,7 @@ one_takes world (Open w) s mild = inl (steady_same (world.sessions s))
 one_takes world (At w op) s mild = inl (steady_same (world.sessions s))
 one_takes world (Note change) s mild = inl (steady_same (world.sessions s))
 one_takes world (Hosts x) s mild = inl (steady_same (world.sessions s))
+one_takes world (Files filing) s mild = inl (steady_same (world.sessions s))
 
 -- All of them.
 

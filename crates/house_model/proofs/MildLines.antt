@@ -9,7 +9,8 @@ use Rattle.house_model.specs.Sessions.{Hold, Held, Away, Ended, Gone, Session, O
 use Rattle.house_model.specs.Sessions.{Resume, End, Part, Marks, session_step}
 use Rattle.house_model.specs.Traffic.{Traffic, whole}
 use Rattle.house_model.specs.States.{Line, World}
-use Rattle.house_model.specs.Effects.{Effect, Open, At, Begin, On, Note, Hosts, Log, Say, Said, Leave, Close, over_line, moved_if, settled, apply, apply_all}
+use Rattle.house_model.specs.Effects.{Effect, Open, At, Begin, On, Note, Hosts, Files, Log, Say, Said, Leave, Close, over_line, moved_if, settled}
+use Rattle.house_model.specs.Effects.{apply, apply_all}
 use Rattle.house_model.specs.Sound.{FitsIn}
 use Rattle.house_model.proofs.PutLemmas.{put_is, put_here}
 use Rattle.house_model.proofs.FitLemmas.{IsMatched, matched_on}
@@ -87,6 +88,7 @@ one_runs world (At v Leave) w mild = absurd mild
 one_runs world (At v (Close c cause)) w mild = absurd mild
 one_runs world (Note change) w mild = inl refl
 one_runs world (Hosts x) w mild = inl refl
+one_runs world (Files filing) w mild = inl refl
 one_runs world (Open v) w mild = absurd mild
 one_runs world (Begin v c a) w mild = absurd mild
 
@@ -108,6 +110,7 @@ mild_fits : (world : World Traffic) (e : Effect) → IsMild e → FitsIn world e
 mild_fits world (On s op) mild = mild_op_fits world s op mild
 mild_fits world (Note change) mild = tt
 mild_fits world (Hosts x) mild = tt
+mild_fits world (Files filing) mild = tt
 mild_fits world (At w (Say a)) mild = tt
 mild_fits world (At w Said) mild = tt
 mild_fits world (At w (Log user)) mild = absurd mild

@@ -8,7 +8,7 @@ use Rattle.sm_account.specs.Accounts.{Account, OperationFits, AllOperationsFit}
 use Rattle.house_model.specs.Sessions.{Op, Push, Pull, Request, Enable, Ack, Tell, Act, Drop, Resume, End, Part, Marks}
 use Rattle.house_model.specs.Traffic.{Traffic, whole}
 use Rattle.house_model.specs.States.{World}
-use Rattle.house_model.specs.Effects.{Effect, Open, At, Begin, On, Note, Hosts, apply}
+use Rattle.house_model.specs.Effects.{Effect, Open, At, Begin, On, Note, Hosts, Files, apply}
 use Rattle.house_model.specs.Bridge.{op_ops, effect_ops, effects_ops}
 use Rattle.house_model.proofs.Ears.{Ear, tells, plain, IsPlain, AllPlain}
 
@@ -76,6 +76,7 @@ effect_muted a x said k world (Open w) is = refl
 effect_muted a x said k world (At w op) is = refl
 effect_muted a x said k world (Note change) is = refl
 effect_muted a x said k world (Hosts o) is = refl
+effect_muted a x said k world (Files filing) is = refl
 effect_muted a x said k world (Begin w c address) is =
     muted_if (eqb k (world.made + 1)) a x said (one.Begin c ∷ []) (one_muted a x said (one.Begin c) refl)
 effect_muted a x said k world (On j op) is = muted_if (eqb k j) a x said (op_ops op) (op_muted a x said op is)

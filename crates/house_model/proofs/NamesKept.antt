@@ -17,7 +17,7 @@ use Rattle.house_model.specs.Sessions.{Act, Ended, End, Away, Gone, Held, Hold, 
 use Rattle.house_model.specs.Sessions as sessions
 use Rattle.house_model.specs.Traffic.{Traffic, whole}
 use Rattle.house_model.specs.States.{Kept, World, State, keep, keep_by, keep_world}
-use Rattle.house_model.specs.Effects.{Effect, Open, At, Begin, Note, Hosts, Leave, Close, On, apply, apply_all}
+use Rattle.house_model.specs.Effects.{Effect, Open, At, Begin, Note, Hosts, Files, Leave, Close, On, apply, apply_all}
 use Rattle.house_model.specs.Fitting.{AreShortAddresses, IsShortAddress}
 use Rattle.house_model.specs.Gate.{Waits, Knows, Holds, Needs, to_login, to_bind, to_manage, to_act, to_ask, to_pull, most_answers, left, closed, gate_at}
 use Rattle.house_model.specs.Histories.{IsOpening, Made, Outcome, Short, Turn, next, next_by}
@@ -63,6 +63,7 @@ one_all (At w op) world plain all = all
 one_all (Begin w c a) world plain all = absurd plain
 one_all (Note c) world plain all = all
 one_all (Hosts e) world plain all = absurd plain
+one_all (Files filing) world plain all = absurd plain
 one_all (On s op) world plain all = same_all world (apply whole world (On s op)) (touch_same world s op) all
 
 plain_all : (es : List Effect) (world : World Traffic) → Addressed world → ArePlain es → Ends world es

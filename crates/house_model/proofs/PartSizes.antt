@@ -34,11 +34,11 @@ node-length : (p : List ℕ) (n : Node) (ns : List Node)
     → length (texts_under p (n ∷ ns)) ≡ length (fold-Node Spelled Spelled node_text element_text n p) + length (texts_under p ns)
 node-length p n ns = length-append (fold-Node Spelled Spelled node_text element_text n p) (texts_under p ns)
 
-texts-both : (p : List ℕ) (ns ms : List Node) → length (texts_under p (ns ++ ms)) ≡ length (texts_under p ns) + length (texts_under p ms)
+pub texts-both : (p : List ℕ) (ns ms : List Node) → length (texts_under p (ns ++ ms)) ≡ length (texts_under p ns) + length (texts_under p ms)
 texts-both p [] ms = omega arith
 texts-both p (n ∷ ns) ms = omega (arith, node-length p n (ns ++ ms), node-length p n ns, texts-both p ns ms)
 
-filtered-le : (p : List ℕ) (test : Node → Bool) (ns : List Node) → length (texts_under p (filter test ns)) ≤ length (texts_under p ns)
+pub filtered-le : (p : List ℕ) (test : Node → Bool) (ns : List Node) → length (texts_under p (filter test ns)) ≤ length (texts_under p ns)
 filtered-le p test [] = omega arith
 filtered-le p test (n ∷ ns) =
     choose (λ (l : List Node). length (texts_under p l) ≤ length (texts_under p (n ∷ ns))) (test n) (n ∷ filter test ns) (filter test ns)
@@ -47,7 +47,7 @@ filtered-le p test (n ∷ ns) =
 
 -- what is inside of an element is no longer
 
-content-le : (local content : List ℕ) → length content ≤ length (closed local content)
+pub content-le : (local content : List ℕ) → length content ≤ length (closed local content)
 unfolding closed
 content-le local content = grind (arith, common_steps)
 
@@ -137,7 +137,7 @@ said-length p q (n ∷ ns) = by (out-Node n) refl (said-length p q ns)
 not-longer : (n : ℕ) → nat_lt 196608 n ≡ false → n ≤ 196608
 not-longer n short = grind (arith, common_steps)
 
-closed-more : (local less more : List ℕ) → length less ≤ length more → length (closed local less) ≤ length (closed local more)
+pub closed-more : (local less more : List ℕ) → length less ≤ length more → length (closed local less) ≤ length (closed local more)
 unfolding closed
 closed-more local less more few = grind (arith, common_steps)
 

@@ -19,7 +19,7 @@ use Rattle.house_model.specs.Sessions.{Part, pushed, acked, resumed, begun, step
 use Rattle.house_model.specs.Traffic.{Traffic, whole, KeptTraffic}
 use Rattle.house_model.specs.Routing.{departure}
 use Rattle.house_model.specs.States.{State, World, Kept, keep, keep_by, keep_session, keep_world}
-use Rattle.house_model.specs.Effects.{Effect, Open, At, Begin, On, Note, Hosts, Say, Close, apply, apply_all}
+use Rattle.house_model.specs.Effects.{Effect, Open, At, Begin, On, Note, Hosts, Files, Say, Close, apply, apply_all}
 use Rattle.house_model.specs.Gate.{Verdict, most_answers, to_bind, left}
 use Rattle.house_model.specs.Lookups.{is_there, is_at, session_at}
 use Rattle.house_model.specs.Steps.{replaces, binds, has_place, bound_address, resource_or, has_come, is_due, due, departs, effect_of, sweeps, verdict, turn}
@@ -100,6 +100,7 @@ effect_gone k world (Open v) spares is = is
 effect_gone k world (At v op) spares is = is
 effect_gone k world (Note change) spares is = is
 effect_gone k world (Hosts x) spares is = is
+effect_gone k world (Files filing) spares is = is
 effect_gone k world (Begin v c a) spares is = elim (put_is (world.made + 1) (begun whole v c a) world.sessions k) [
   | inl p ↦ absurd (let bad : Held v c ≡ Gone = ap (λ (s : Session Traffic). s.hold) (sym p.1) ∙ is in cc)
   | inr p ↦ ap (λ (s : Session Traffic). s.hold) (sym p.1) ∙ is
@@ -122,6 +123,7 @@ plain_spares k (At w op) is = tt
 plain_spares k (Begin w c a) is = tt
 plain_spares k (Note change) is = tt
 plain_spares k (Hosts x) is = tt
+plain_spares k (Files filing) is = tt
 
 plain_spare : (k : ℕ) (es : List Effect) → AllPlain part_ear es → AllSpare k es
 plain_spare k [] all = tt

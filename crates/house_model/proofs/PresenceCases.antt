@@ -14,8 +14,9 @@ use Rattle.stanza_model.specs.declared.condition.Condition.{Condition}
 use Rattle.stanza_model.specs.declared.condition.Condition.TheVariants.{BadRequest, NotAcceptable, ResourceConstraint}
 use Rattle.stanza_model.specs.declared.effect.Change.TheVariants as change
 use Rattle.stanza_model.specs.declared.effect.Effect.{Effect}
-use Rattle.stanza_model.specs.declared.effect.Effect.TheVariants.{Set}
+use Rattle.stanza_model.specs.declared.effect.Effect.TheVariants.{Keep, Set}
 use Rattle.stanza_model.specs.declared.here.Here.{Here}
+use Rattle.stanza_model.specs.declared.keeping.Keeping.{Keeping}
 use Rattle.stanza_model.specs.declared.kinds.MessageForm.{MessageForm}
 use Rattle.stanza_model.specs.declared.kinds.PresenceForm.{PresenceForm}
 use Rattle.stanza_model.specs.declared.kinds.PresenceForm.TheVariants.{Available, Unavailable, Subscribe, Subscribed, Unsubscribe}
@@ -23,7 +24,7 @@ use Rattle.stanza_model.specs.declared.kinds.PresenceForm.TheVariants.{Unsubscri
 use Rattle.stanza_model.specs.declared.stanza.Stanza.{Stanza}
 use Rattle.stanza_model.specs.declared.stanza.Stanza.TheVariants.{Presence}
 use Rattle.stanza_router.specs.Discovery.{discovery}
-use Rattle.stanza_router.specs.Messages.{copied}
+use Rattle.stanza_router.specs.Messages.{addressed, copied, plain_text, queued_as, row_text, told_text}
 use Rattle.stanza_router.specs.Places.{place_of}
 use Rattle.stanza_router.specs.declared.places.Place.{Place}
 use Rattle.stanza_router.specs.declared.places.Place.TheVariants.{Account, Server, User, UserAt, Service, Room, RoomAt, Foreign}
@@ -35,9 +36,15 @@ use Rattle.presence_core.specs.Copies.{copies, copy_to, presence_text}
 use Rattle.presence_core.specs.DirectedPresence.{delivered, directed, has_room, with_address, without_address}
 use Rattle.presence_core.specs.Priorities.{priority_in}
 use Rattle.muc_service.specs.Rooms.{Hosted}
+use Rattle.rsm_paging.specs.declared.ask.Row.{Row}
+use Rattle.archive_table.specs.Pages as pages
+use Rattle.archive_table.specs.Pages.{page_of}
 use Rattle.mam_wire.specs.Answers.{fin}
 use Rattle.mam_wire.specs.Forms.{query_form}
-use Rattle.house_model.specs.Archives.{empty_page}
+use Rattle.mam_wire.specs.Queries.{is_long}
+use Rattle.mam_wire.specs.declared.query.Query.{Query}
+use Rattle.house_model.specs.ArchiveLookups.{keeping_for, rows_in}
+use Rattle.house_model.specs.Archives as archives
 use Rattle.house_model.specs.Lookups.{has_user, here}
 use Rattle.house_model.specs.Presences.{asking, directed_by, in_sight, length_sent, most_of_presence, named, party, shown, shown_of, watchers}
 use Rattle.house_model.specs.Routing.{Scene, between, broadcast, departure, departure_by, directed_if, error_to}
@@ -51,9 +58,19 @@ use Rattle.house_model.proofs.PairCases.{Tells, subscription_all}
 use Rattle.house_model.proofs.Founds.{AreFound, IsFound, IsHere, append_all, either_all, filter_all}
 use Rattle.house_model.proofs.Founds.{in_sight_found, live_for_found, named_found, watchers_found}
 
--- What holds of all that the server says to a stanza's sender, of the stanza's copies for sessions that are found, of what is kept of the
--- sender, and of what a room gives out; and what holds of a list of such effects, or of those of a session that is present in a room, leaves one
--- or all that it is in, of what is said in one, and of what comes of a request to one
+-- an archive that a stanza may ask for: that of a user, or of the room at its address
+abbrev pub IsAsked : Scene → Stanza → Option Address → List Row → Type 0
+IsAsked o st None rows = (own : List ℕ) × (rows ≡ (o.world.archives.users own).kept)
+IsAsked o st (Some from) rows =
+    (h : Hosted) × (room_for o.world.rooms (to_in st) ≡ Some h) × (from ≡ h.room.address) × (rows ≡ (rows_in o.world.archives h).kept)
+
+-- where a message is kept
+abbrev pub keeping_of : Scene → ℕ → Stanza → Keeping
+keeping_of o s st = keeping_for o.world.archives (here o.world s) (to_in st) o.moment
+
+-- What holds of all that the server says to a stanza's sender, of the rows that it is shown, of the stanza's copies for sessions that are found,
+-- of what is kept of it and of its sender, and of what a room gives out; and what holds of a list of such effects, or of those of a session that is
+-- present in a room, leaves one or all that it is in, of what is said in one, and of what comes of a request to one
 pub record Covers (o : Scene) (s : ℕ) (st : Stanza) (P : Effect → Type 0) (Q : List Effect → Type 0) : Type 0 where
   pub all : (es : List Effect) → AllByRecursion P es → Q es
   pub refusal : (condition : Condition) → P (said_to (here o.world s) (error_of st condition))
@@ -61,9 +78,20 @@ pub record Covers (o : Scene) (s : ℕ) (st : Stanza) (P : Effect → Type 0) (Q
   pub found : (place : Place) → P (said_to (here o.world s) (discovery place st []))
   pub told : (place : Place) → P (said_to (here o.world s) (discovery place st (listed o.world.rooms)))
   pub form : P (said_to (here o.world s) (result_of st (one_child query_form)))
-  pub page : P (said_to (here o.world s) (result_of st (one_child (fin empty_page))))
+  pub shown : (from : Option Address) (rows : List Row) (q : Query) → IsAsked o st from rows → is_long q.queryid ≡ false
+      → AllByRecursion (λ row. P (archives.shown_to (here o.world s) from q.queryid row)) (pages.shown rows q.filter q.ask)
+  pub page : (from : Option Address) (rows : List Row) (q : Query) → IsAsked o st from rows
+      → P (said_to (here o.world s) (result_of st (one_child (fin (page_of rows q.filter q.ask)))))
   pub copy : (e : Element) (h : Here) → element_in st ≡ Some e → IsFound o.world h.session
       → P (copied (here o.world s) (to_in st) e h)
+  pub plain : (e : Element) (r : ℕ) → element_in st ≡ Some e → IsFound o.world r
+      → P (queued_as (here o.world s) (to_in st) (plain_text (here o.world s) (to_in st) e) r)
+  pub numbered : (e : Element) (r : ℕ) → element_in st ≡ Some e → IsFound o.world r
+      → P (queued_as (here o.world s) (to_in st) (told_text (here o.world s) (to_in st) e (keeping_of o s st).row) r)
+  pub sent : (e : Element) (user : List ℕ) → element_in st ≡ Some e → (here o.world s).address.local ≡ Some user
+      → P (Keep user (addressed (here o.world s) (to_in st)) (row_text (here o.world s) (to_in st) e) o.moment)
+  pub received : (e : Element) (user : List ℕ) → element_in st ≡ Some e → (addressed (here o.world s) (to_in st)).local ≡ Some user
+      → P (Keep user (here o.world s).address (row_text (here o.world s) (to_in st) e) o.moment)
   pub presence : (e : Element) (h : Here) → length (presence_text (here o.world s) e) ≤ 16384 → IsHere o.world h
       → P (copy_to (presence_text (here o.world s) e) h)
   pub show : (h : Here) → IsHere o.world h → P (shown_to (here o.world s) (shown_of o.world (here o.world s) h))
@@ -86,7 +114,7 @@ pub record Covers (o : Scene) (s : ℕ) (st : Stanza) (P : Effect → Type 0) (Q
   pub leaves : (e : Element) → element_in st ≡ Some e → length (presence_text (here o.world s) e) ≤ 16384
       → (es : List Effect) → AllByRecursion P es → Q (es ++ leaves_rooms o.world.rooms s (Some st))
   pub present : (e : Element) → element_in st ≡ Some e → length (presence_text (here o.world s) e) ≤ 16384
-      → Q (present_in o.world.rooms (here o.world s) st (room_for o.world.rooms (to_in st)))
+      → Q (present_in o.world (here o.world s) st (room_for o.world.rooms (to_in st)))
 
 -- Copies of a text.
 pub copies_all : (world : World KeptTraffic) (P : Effect → Type 0) (rest : List ℕ) → ((h : Here) → IsHere world h → P (copy_to rest h))
@@ -265,7 +293,7 @@ user_all o s to Probe e P Q all own mine short place at = tt
 -- in a room
 in_room_all : (o : Scene) (s : ℕ) (to : Address) (form : PresenceForm) (e : Element) (P : Effect → Type 0) (Q : List Effect → Type 0)
     → Covers o s (Presence (Some to) form e) P Q → length (presence_text (here o.world s) e) ≤ 16384
-    → Q (to_be_in o.world.rooms (here o.world s) (Presence (Some to) form e) form (room_for o.world.rooms (Some to)))
+    → Q (to_be_in o.world (here o.world s) (Presence (Some to) form e) form (room_for o.world.rooms (Some to)))
 in_room_all o s to Available e P Q all short = all.present e refl short
 in_room_all o s to Unavailable e P Q all short = all.absent e refl short
 in_room_all o s to Subscribe e P Q all short = all.all [] tt

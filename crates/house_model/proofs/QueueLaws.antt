@@ -8,7 +8,7 @@ use Rattle.house_model.specs.Sessions.{Hold, Held, Away, Ended, Gone, Rest, Sess
 use Rattle.house_model.specs.Sessions.{End, Part, Marks, pushed, step_if, begun, session_step}
 use Rattle.house_model.specs.Traffic.{Traffic, whole}
 use Rattle.house_model.specs.States.{World, State, keep}
-use Rattle.house_model.specs.Effects.{Effect, Open, At, Begin, On, Note, Hosts, apply, apply_all}
+use Rattle.house_model.specs.Effects.{Effect, Open, At, Begin, On, Note, Hosts, Files, apply, apply_all}
 use Rattle.house_model.specs.Steps.{verdict, turn}
 use Rattle.house_model.specs.Histories.{Outcome, Made, Short, Turn, next, next_by, after, IsOpening}
 use Rattle.house_model.specs.Lines.{told}
@@ -119,6 +119,7 @@ effect_grows s world (Open w) o = idle_here s world
 effect_grows s world (At w op) o = idle_here s world
 effect_grows s world (Note change) o = idle_here s world
 effect_grows s world (Hosts x) o = idle_here s world
+effect_grows s world (Files filing) o = idle_here s world
 effect_grows s world (Begin w c a) o = begin_here s w c a world o
 effect_grows s world (On i op) o = on_grows s i world op
 

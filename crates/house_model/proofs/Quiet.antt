@@ -73,6 +73,7 @@ queued_plain r (Set (change.Directed s addresses) ∷ more) = (refl, queued_plai
 queued_plain r (effect.Broadcast n item ∷ more) = (tt, queued_plain r more)
 queued_plain r (effect.Enter n s address nick role ∷ more) = (tt, queued_plain r more)
 queued_plain r (effect.Leave n s ∷ more) = (tt, queued_plain r more)
+queued_plain r (effect.Keep user peer text moment ∷ more) = (tt, queued_plain r more)
 queued_plain r (Set (change.RoomMade n address owner) ∷ more) = (tt, queued_plain r more)
 queued_plain r (Set (change.RoomGone n) ∷ more) = (tt, queued_plain r more)
 queued_plain r (Set (change.Unlocked n) ∷ more) = (tt, queued_plain r more)
@@ -81,7 +82,8 @@ queued_plain r (Set (change.Affiliated n address a) ∷ more) = (tt, queued_plai
 queued_plain r (Set (change.RoleSet n s role) ∷ more) = (tt, queued_plain r more)
 queued_plain r (Set (change.Renamed n s nick) ∷ more) = (tt, queued_plain r more)
 queued_plain r (Set (change.OccupantShown n s presence) ∷ more) = (tt, queued_plain r more)
-queued_plain r (Set (change.Subject n text) ∷ more) = (tt, queued_plain r more)
+queued_plain r (Set (change.Subject n text stamp) ∷ more) = (tt, queued_plain r more)
+queued_plain r (Set (change.RoomRow n peer text moment) ∷ more) = (tt, queued_plain r more)
 
 departs_plain : (r : Ear) (k : World KeptTraffic) (s : ℕ) (cause : Cause) → not r.part ≡ true → AllPlain r (departs k s cause)
 departs_plain r k s cause is =

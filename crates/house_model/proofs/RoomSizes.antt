@@ -1,6 +1,6 @@
 -- How long it is what a room answers, and what is queued of its subject, of a private message and of an invitation.
 use Rattle.std.proofs.Common.{◌≡◌, ℕ, ◌+◌, ◌-◌, ◌*◌, ◌≤◌, ◌==◌, List, [], ◌∷◌, map, length, nat_le, Option, Some, None, Bool, true, false}
-use Rattle.std.proofs.Common.{codes, refl, ap, arith, sum, length-append, if◌then◌else◌}
+use Rattle.std.proofs.Common.{not, ◌&&◌, codes, refl, sym, ap, arith, sum, true≢false, length-append, if◌then◌else◌}
 use Rattle.std.specs.Prelude.{IfSome}
 use Rattle.std.specs.Fmt.{decimal}
 use Rattle.std.specs.List.{filter}
@@ -8,6 +8,7 @@ use Rattle.std.proofs.lemmas.Bool.{leb-true}
 use Rattle.std.proofs.lemmas.List.Sums.{sum_by-cons}
 use Rattle.jid_core.specs.Addresses.{Address, address_text, bare}
 use Rattle.stanza_tree.specs.Spelling.{client_space, text, text_under, texts_under, words_text}
+use Rattle.stanza_tree.specs.Stamps.{sent_by}
 use Rattle.stanza_tree.specs.declared.node.Attr.{Attr}
 use Rattle.stanza_tree.specs.declared.node.Element.{Element}
 use Rattle.stanza_tree.specs.declared.node.Node.{Node}
@@ -16,19 +17,20 @@ use Rattle.stanza_tree.specs.declared.node.Node.TheViews.{roll-Node, out-roll-No
 use Rattle.stanza_tree.proofs.Bounds.{length-text-sent-le, length-value_text-le, length-words_text-le}
 use Rattle.stanza_tree.proofs.SpellingLemmas.{texts-words}
 use Rattle.stanza_model.specs.Errors.{element_of, plain_attr}
+use Rattle.stanza_model.specs.Ids.{has_body, told_with_id, without_ids}
 use Rattle.stanza_model.specs.Replies.{one_child, result_of}
 use Rattle.stanza_model.specs.Stanzas.{id_in, to_in}
 use Rattle.stanza_model.specs.declared.here.Here.{Here}
 use Rattle.stanza_model.specs.declared.room.Affiliated.{Affiliated}
 use Rattle.stanza_model.specs.declared.room.Affiliation.{Affiliation}
+use Rattle.stanza_model.specs.declared.room.Delayed.{Delayed}
 use Rattle.stanza_model.specs.declared.room.Occupant.{Occupant}
 use Rattle.stanza_model.specs.declared.room.Role.{Role}
 use Rattle.stanza_model.specs.declared.room.Room.{Room}
-use Rattle.stanza_model.specs.declared.room.Subject.{Subject}
 use Rattle.stanza_model.specs.declared.shared.Config.{Config}
 use Rattle.stanza_model.specs.declared.stanza.Stanza.{Stanza}
 use Rattle.muc_room.specs.Entries.{no_subject, subject_text}
-use Rattle.muc_room.specs.Saying.{marked, message_text, private_text}
+use Rattle.muc_room.specs.Saying.{has_child, is_subject, marked, message_text, private_text}
 use Rattle.muc_room.specs.Views.{at, child_node, reason_nodes, user_space, x_of}
 use Rattle.muc_admin.specs.Administration.{occupants_in}
 use Rattle.muc_owner.specs.Inviting.{call_element, decline_nodes, invite_nodes, message_with, password_element, password_nodes}
@@ -42,22 +44,53 @@ use Rattle.muc_settings.specs.declared.setting.Setting.{Setting}
 use Rattle.muc_settings.specs.declared.setting.Setting.TheVariants.{FormType, Title, Persistent, MembersOnly, Moderated}
 use Rattle.muc_settings.specs.declared.setting.Setting.TheVariants.{ChangeSubject, Whois, Guarded, Secret, Most}
 use Rattle.house_model.specs.Fitting.{IsShortAddress}
+use Rattle.house_model.proofs.IdSizes.{numbered-le, without-le}
 use Rattle.house_model.proofs.PartSizes.{marked-le}
 use Rattle.house_model.proofs.ReplySizes.{first-length, one-attribute-le, plain-attributes, plain-declared, reply-le, spelt_length, under-le}
+use Rattle.house_model.proofs.ResultSizes.{IsShortDelayed, delayed-le}
 use Rattle.house_model.proofs.StayLemmas.{choose}
 use Rattle.house_model.proofs.ViewSizes.{IsShortNick, at-le}
 
 -- messages
 
-pub message-le : (room : Room) (o : Occupant) (e : Element) → length (text e) ≤ 196608 → IsShortAddress room.address → IsShortNick o.nick
-    → length (message_text room o e) ≤ 300000
-message-le room o e small host few =
+without-ids-le : (room : Room) (o : Occupant) (e : Element) → length (text e) ≤ 196608 → IsShortAddress room.address → IsShortNick o.nick
+    → length (text (sent_by (address_text (at room.address (Some o.nick))) (without_ids room.address e))) ≤ 300000
+without-ids-le room o e small host few =
     omega (
       arith,
       small,
+      without-le room.address e,
       at-le room.address o.nick host few,
-      length-text-sent-le (address_text (at room.address (Some o.nick))) e,
+      length-text-sent-le (address_text (at room.address (Some o.nick))) (without_ids room.address e),
     )
+
+pub message-le : (room : Room) (o : Occupant) (row : ℕ) (e : Element) → length (text e) ≤ 196608 → length e.name.local ≤ 8
+    → IsShortAddress room.address → IsShortNick o.nick → row ≤ 18446744073709551618 → length (message_text room o row e) ≤ 300000
+message-le room o row e small named host few low =
+    choose (λ (y : Element). length (text (sent_by (address_text (at room.address (Some o.nick))) y)) ≤ 300000) (has_body e)
+    (told_with_id room.address row e) (without_ids room.address e)
+    (λ (_ : _). omega (
+      arith,
+      small,
+      numbered-le room.address row e named host low,
+      at-le room.address o.nick host few,
+      length-text-sent-le (address_text (at room.address (Some o.nick))) (told_with_id room.address row e),
+    ))
+    (λ (_ : _). without-ids-le room o e small host few)
+
+-- a subject has no body, and no id
+pub subject-message-le : (room : Room) (o : Occupant) (row : ℕ) (e : Element) → length (text e) ≤ 196608 → IsShortAddress room.address
+    → IsShortNick o.nick → is_subject e ≡ true → length (message_text room o row e) ≤ 300000
+subject-message-le room o row e small host few is =
+    by (has_child (codes "subject") e) (has_body e) (has_child (codes "thread") e) is
+  where
+    by : (a b c : Bool) → (a && not b && not c) ≡ true
+        → length (text (sent_by (address_text (at room.address (Some o.nick)))
+        (if b then told_with_id room.address row e else without_ids room.address e))) ≤ 300000
+    by a false c is = without-ids-le room o e small host few
+    by true true true is = absurd (true≢false (sym is))
+    by true true false is = absurd (true≢false (sym is))
+    by false true c is = absurd (true≢false (sym is))
 
 pub private-le : (room : Room) (o : Occupant) (e : Element) → length (text e) ≤ 196608 → IsShortAddress room.address → IsShortNick o.nick
     → length (private_text room o e) ≤ 500000
@@ -89,10 +122,10 @@ no-subject-le room host =
       under-le client_space client_space (codes "subject") [] [],
     )
 
-pub subject-le : (room : Address) (subject : Option Subject) → IsShortAddress room → IfSome subject (λ s. length s.text ≤ 300000)
-    → length (subject_text room subject) ≤ 300000
-subject-le room None host few = no-subject-le room host
-subject-le room (Some s) host few = few
+pub subject-le : (room : Address) (subject : Option Delayed) → IsShortAddress room → IfSome subject IsShortDelayed
+    → length (subject_text room subject) ≤ 320000
+subject-le room None host few = (let short = no-subject-le room host in omega (arith, short))
+subject-le room (Some s) host few = delayed-le room s host few
 
 -- lists of affiliations and of roles
 

@@ -13,6 +13,7 @@ use Rattle.stanza_model.specs.Stanzas.{element_in, id_in, to_in}
 use Rattle.stanza_model.specs.declared.condition.Condition.{Condition}
 use Rattle.stanza_model.specs.declared.condition.Condition.TheVariants.{BadRequest, ItemNotFound, ServiceUnavailable}
 use Rattle.stanza_model.specs.declared.here.Here.{Here}
+use Rattle.stanza_model.specs.declared.keeping.Keeping.{Keeping}
 use Rattle.stanza_model.specs.declared.kinds.MessageForm.{MessageForm}
 use Rattle.stanza_model.specs.declared.kinds.MessageForm.TheVariants as message
 use Rattle.stanza_model.specs.declared.kinds.PresenceForm.TheVariants as presence
@@ -25,6 +26,7 @@ use Rattle.stanza_model.specs.declared.stanza.Stanza.TheVariants.{Presence}
 use Rattle.muc_room.specs.Entering.{new_room}
 use Rattle.muc_roles.specs.Roles.{sees_addresses}
 use Rattle.muc_room.specs.Entries.{present, subject_text}
+use Rattle.muc_room.specs.Histories.{delayed_text}
 use Rattle.muc_room.specs.Leaving.{last_words}
 use Rattle.muc_room.specs.Saying.{private_text}
 use Rattle.muc_room.specs.Views.{seen, shown_children, user_space}
@@ -33,18 +35,24 @@ use Rattle.muc_owner.specs.Inviting.{copies, invite}
 use Rattle.muc_admin.specs.Items.{address_at, admin_space}
 use Rattle.muc_owner.specs.Owning.{nicks_of, owner_space, seat_nick, told_reason}
 use Rattle.muc_owner.specs.declared.invitation.Invitation.{Invitation}
-use Rattle.muc_service.specs.Rooms.{Hosted, Rooms, is_in}
+use Rattle.muc_service.specs.Rooms.{Hosted, is_in}
+use Rattle.mam_wire.specs.Stamps.{stamp_text}
+use Rattle.mam_wire.proofs.StampLemmas.{stamp_length}
+use Rattle.house_model.specs.ArchiveLookups.{keeping_in, past_in, rows_in}
 use Rattle.house_model.specs.Fitting.{IsShortAddress, IsShortOccupant, IsShortRoom}
 use Rattle.house_model.specs.Requests.{queries}
 use Rattle.house_model.specs.RoomLookups.{called, numbers_for}
 use Rattle.house_model.specs.Routing.{Scene, absent_from, asked_of, is_invitation, present_in, to_all_in, to_no_room, to_one_in}
+use Rattle.house_model.specs.States.{World}
+use Rattle.house_model.specs.Traffic.{KeptTraffic}
 use Rattle.house_model.proofs.ConfigSizes.{config_short}
 use Rattle.house_model.proofs.Founds.{append_all, either_all}
 use Rattle.house_model.proofs.PartSizes.{carried-le, child-inside, told-le}
 use Rattle.house_model.proofs.ReplySizes.{spelt_length}
 use Rattle.house_model.proofs.RequestCases.{IsCall, IsReason, Manages, Owns, Sets, admin_rows, invite_rows, owner_rows}
-use Rattle.house_model.proofs.RoomCases.{Enters, Says, Shows, direct_rows, enter_rows, refused_rows, rename_rows, say_rows}
+use Rattle.house_model.proofs.RoomCases.{Enters, Says, Shows, Whispers, direct_rows, enter_rows, refused_rows, rename_rows, say_rows}
 use Rattle.house_model.proofs.RoomSizes.{affiliations-le, declined-le, form-le, invited-le, message-le, private-le, roles-le, subject-le}
+use Rattle.house_model.proofs.ResultSizes.{IsShortDelayed, delayed-le}
 use Rattle.house_model.proofs.RosterSizes.{number-le}
 use Rattle.house_model.proofs.ViewSizes.{IsShortNick, seen-le}
 use Rattle.house_model.proofs.SmallEffects.{Small, queued, R, spoken_short, code_short, own_code, entry_codes, entry_few, leave_small}
@@ -54,22 +62,22 @@ use Rattle.house_model.proofs.SmallEffects.{Small, queued, R, spoken_short, code
 record IsShortHall (r : Room) : Type 0 where
   pub address : IsShortAddress r.address
   pub occupants : AllByRecursion IsShortOccupant r.occupants
-  pub subject : IfSome r.subject (λ s. length s.text ≤ 300000)
+  pub subject : IfSome r.subject IsShortDelayed
 
 hall_of_room : (r : Room) → IsShortRoom r → IsShortHall r
 hall_of_room r short = record { address = short.address; occupants = short.occupants; subject = short.subject }
 
+pub new_short : (n : ℕ) (to : Address) (who : Here) → IsShortAddress to → IsShortAddress (new_room n to who).address
+new_short n to who short =
+    omega (
+      arith,
+      short,
+      length-append (local_text to.local ++ to.domain) (resource_text to.resource),
+      length-append (local_text to.local ++ to.domain) [],
+    )
+
 new_hall : (n : ℕ) (to : Address) (who : Here) → IsShortAddress to → IsShortHall (new_room n to who)
-new_hall n to who short = record {
-  address = omega (
-    arith,
-    short,
-    length-append (local_text to.local ++ to.domain) (resource_text to.resource),
-    length-append (local_text to.local ++ to.domain) [],
-  );
-  occupants = tt;
-  subject = tt;
-}
+new_hall n to who short = record { address = new_short n to who short; occupants = tt; subject = tt }
 
 -- what is said
 
@@ -79,10 +87,11 @@ pub record IsShortStanza (who : Here) (st : Stanza) : Type 0 where
   pub bare_own : length (address_text (bare who.address)) ≤ 3071
   pub refusal : (c : Condition) → Small (said_to who (error_of st c))
   pub element : (e : Element) → element_in st ≡ Some e → length (text e) ≤ 196608
+  pub name : (e : Element) → element_in st ≡ Some e → length e.name.local ≤ 8
   pub to : IfSome (to_in st) IsShortAddress
   pub id : spelt_length (id_in st) ≤ 196608
 
-nick-le : (a : Address) (nick : List ℕ) → a.resource ≡ Some nick → IsShortAddress a → IsShortNick nick
+pub nick-le : (a : Address) (nick : List ℕ) → a.resource ≡ Some nick → IsShortAddress a → IsShortNick nick
 nick-le a nick is short =
     omega (
       arith,
@@ -91,23 +100,34 @@ nick-le a nick is short =
       ap (λ (r : Option (List ℕ)). length (resource_text r)) is,
     )
 
-to-short : (who : Here) (st : Stanza) (to : Address) (e : Element) → IsShortStanza who st → st ≡ Presence (Some to) presence.Available e → IsShortAddress to
+pub to-short : (who : Here) (st : Stanza) (to : Address) (e : Element) → IsShortStanza who st → st ≡ Presence (Some to) presence.Available e
+    → IsShortAddress to
 to-short who st to e short is = subst (λ (x : Stanza). IfSome (to_in x) IsShortAddress) is short.to
 
 module _ (who : Here) (st : Stanza) (fits : IsShortStanza who st) where
-  says : (room : Room) → IsShortRoom room → Says room who st Small IsShortOccupant R
-  says room short = record {
+  says : (room : Room) (keeping : Keeping) (moment : ℕ) → IsShortRoom room → keeping.row ≤ 18446744073709551618
+      → Says room who st keeping (stamp_text moment) Small IsShortOccupant
+  says room keeping moment short low = record {
+    refusal = fits.refusal;
+    item = λ o e is at. message-le room o keeping.row e (fits.element e at) (fits.name e at) short.address is.nick low;
+    row = λ o e is at has. message-le room o keeping.row e (fits.element e at) (fits.name e at) short.address is.nick low;
+    subject = λ o e is at has. (
+      message-le room o keeping.row e (fits.element e at) (fits.name e at) short.address is.nick low,
+      omega (arith, stamp_length moment),
+    );
+  }
+
+  whispers : (room : Room) → IsShortRoom room → Whispers room who st Small IsShortOccupant R
+  whispers room short = record {
     refusal = fits.refusal;
     seats = λ o is. is.seats;
-    item = λ o e is at. message-le room o e (fits.element e at) short.address is.nick;
-    subject = λ o e is at. message-le room o e (fits.element e at) short.address is.nick;
     private = λ o e x is here at.
         queued x.session x.address (private_text room o e) Direct here (private-le room o e (fits.element e at) short.address is.nick);
   }
 
   -- presence
   module _ (e : Element) (shown : length (shown_children e.children) ≤ 16384) where
-    shows : (room : Room) → Shows room who st e Small IsShortOccupant
+    pub shows : (room : Room) → Shows room who st e Small IsShortOccupant
     shows room = record {
       refusal = fits.refusal;
       shown = shown;
@@ -126,7 +146,7 @@ module _ (who : Here) (st : Stanza) (fits : IsShortStanza who st) where
       renamed = λ to nick at named. nick-le to nick named (to-short who st to e fits at);
     }
 
-    enters_small : Enters who st e Small IsShortOccupant IsShortHall
+    enters_small : Enters who st e Small IsShortOccupant IsShortHall IsShortDelayed
     enters_small = record {
       refusal = fits.refusal;
       occupants = λ room short. short.occupants;
@@ -151,6 +171,8 @@ module _ (who : Here) (st : Stanza) (fits : IsShortStanza who st) where
         omega arith,
         entry_few room.config.anyone made,
       );
+      past = λ room stay d short is. queued who.session who.address (delayed_text room.address d) (Opening room.number stay) fits.own
+          (omega (arith, delayed-le room.address d short.address is));
       subject = λ room stay short. queued who.session who.address (subject_text room.address room.subject) (Opening room.number stay) fits.own
           (omega (arith, subject-le room.address room.subject short.address short.subject));
     }
@@ -258,10 +280,11 @@ module _ (who : Here) (st : Stanza) (fits : IsShortStanza who st) where
   copies_small rest [] few all = tt
   copies_small rest (h ∷ hs) few all = (queued h.session h.address rest Direct all.0 few, copies_small rest hs few all.1)
 
-  no : (c : Condition) → AllByRecursion Small (refused who st c)
+  pub no : (c : Condition) → AllByRecursion Small (refused who st c)
   no c = refused_rows Small who st fits.refusal c
 
-  invited_small : (o : Scene) (e : Element) (h : Hosted) → IsShortRoom h.room → AllByRecursion (λ x. IsShortAddress x.address) (called o.domain o.world e)
+  pub invited_small : (o : Scene) (e : Element) (h : Hosted) → IsShortRoom h.room
+      → AllByRecursion (λ x. IsShortAddress x.address) (called o.domain o.world e)
       → AllByRecursion Small (if is_invitation e then invite h.room who st (called o.domain o.world e) else refused who st BadRequest)
   invited_small o e h short found =
       either_all Small (is_invitation e) _ _
@@ -276,17 +299,21 @@ module _ (who : Here) (st : Stanza) (fits : IsShortStanza who st) where
 
   -- the rows
   pub to_all_small : (o : Scene) (form : MessageForm) (e : Element) (found : Option Hosted) → IfSome found (λ h. IsShortRoom h.room)
-      → AllByRecursion (λ x. IsShortAddress x.address) (called o.domain o.world e) → AllByRecursion Small (to_all_in o who st form e found)
-  to_all_small o form e None short found = no (to_no_room form e)
-  to_all_small o message.Groupchat e (Some h) short found = say_rows h.room who st Small IsShortOccupant R (says h.room short) short.occupants
-  to_all_small o message.Chat e (Some h) short found = invited_small o e h short found
-  to_all_small o message.Normal e (Some h) short found = invited_small o e h short found
-  to_all_small o message.Headline e (Some h) short found = invited_small o e h short found
-  to_all_small o message.Error e (Some h) short found = invited_small o e h short found
+      → AllByRecursion (λ x. IsShortAddress x.address) (called o.domain o.world e)
+      → ((h : Hosted) → (rows_in o.world.archives h).made ≤ 18446744073709551616) → AllByRecursion Small (to_all_in o who st form e found)
+  to_all_small o form e None short found few = no (to_no_room form e)
+  to_all_small o message.Groupchat e (Some h) short found few =
+      let keeping : Keeping = keeping_in o.world.archives h o.moment in
+      say_rows h.room who st keeping (stamp_text o.moment) Small IsShortOccupant
+      (says h.room keeping o.moment short (let low = few h in omega (arith, low))) short.occupants
+  to_all_small o message.Chat e (Some h) short found few = invited_small o e h short found
+  to_all_small o message.Normal e (Some h) short found few = invited_small o e h short found
+  to_all_small o message.Headline e (Some h) short found few = invited_small o e h short found
+  to_all_small o message.Error e (Some h) short found few = invited_small o e h short found
 
   pub to_one_small : (found : Option Hosted) → IfSome found (λ h. IsShortRoom h.room) → AllByRecursion Small (to_one_in who st found)
   to_one_small None short = no ItemNotFound
-  to_one_small (Some h) short = direct_rows h.room who st Small IsShortOccupant R (says h.room short) short.occupants
+  to_one_small (Some h) short = direct_rows h.room who st Small IsShortOccupant R (whispers h.room short) short.occupants
 
   pub asked_small : (h : Hosted) → IsShortRoom h.room → Small (said_to who (result_of st [])) → AllByRecursion Small (asked_of who st (Some h))
   asked_small h short result =
@@ -298,14 +325,16 @@ module _ (who : Here) (st : Stanza) (fits : IsShortStanza who st) where
   absent_small None short few = tt
   absent_small (Some h) short few = leave_small h.room who.session (Some st) short few
 
-  pub present_small : (rooms : Rooms) (found : Option Hosted) → IfSome found (λ h. IsShortRoom h.room)
-      → ((e : Element) → element_in st ≡ Some e → length (shown_children e.children) ≤ 16384) → AllByRecursion Small (present_in rooms who st found)
-  present_small rooms None short few =
-      enter_rows None (numbers_for rooms who.session) who st Small IsShortOccupant IsShortHall (λ e at. enters_small e (few e at)) tt
-      (λ to e at. new_hall (numbers_for rooms who.session).next_room to who (to-short who st to e fits at))
-  present_small rooms (Some h) short few =
+  pub present_small : (world : World KeptTraffic) (found : Option Hosted) → IfSome found (λ h. IsShortRoom h.room)
+      → ((h : Hosted) → AllByRecursion IsShortDelayed (past_in world.archives h))
+      → ((e : Element) → element_in st ≡ Some e → length (shown_children e.children) ≤ 16384) → AllByRecursion Small (present_in world who st found)
+  present_small world None short past few =
+      enter_rows None (numbers_for world.rooms who.session) who st [] Small IsShortOccupant IsShortHall IsShortDelayed
+      (λ e at. enters_small e (few e at)) tt
+      (λ to e at. new_hall (numbers_for world.rooms who.session).next_room to who (to-short who st to e fits at)) tt
+  present_small world (Some h) short past few =
       either_all Small (is_in who.session h) _ _
       (rename_rows h.room who st Small IsShortOccupant (λ e at. shows e (few e at) h.room) short.occupants)
-      (enter_rows (Some h.room) (numbers_for rooms who.session) who st Small IsShortOccupant IsShortHall (λ e at. enters_small e (few e at))
-      (hall_of_room h.room short)
-      (λ to e at. new_hall (numbers_for rooms who.session).next_room to who (to-short who st to e fits at)))
+      (enter_rows (Some h.room) (numbers_for world.rooms who.session) who st (past_in world.archives h) Small IsShortOccupant IsShortHall
+      IsShortDelayed (λ e at. enters_small e (few e at)) (hall_of_room h.room short)
+      (λ to e at. new_hall (numbers_for world.rooms who.session).next_room to who (to-short who st to e fits at)) (past h))

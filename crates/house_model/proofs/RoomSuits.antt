@@ -6,6 +6,7 @@ use Rattle.std.specs.List.{AllByRecursion, filter}
 use Rattle.std.specs.Option.{option_map}
 use Rattle.jid_core.specs.Addresses.{Address, bare}
 use Rattle.stanza_tree.specs.declared.node.Element.{Element}
+use Rattle.stanza_model.specs.Ids.{has_body}
 use Rattle.stanza_model.specs.Replies.{may_be_answered, error_of, said_to, refused}
 use Rattle.stanza_model.specs.declared.condition.Condition.{Condition}
 use Rattle.stanza_model.specs.declared.condition.Condition.TheVariants.{BadRequest, Conflict, Forbidden, ItemNotFound, JidMalformed, NotAcceptable}
@@ -13,11 +14,13 @@ use Rattle.stanza_model.specs.declared.condition.Condition.TheVariants.{Resource
 use Rattle.stanza_model.specs.declared.effect.Change.{Change}
 use Rattle.stanza_model.specs.declared.effect.Change.TheVariants.{RoomMade, Renamed}
 use Rattle.stanza_model.specs.declared.effect.Effect as stanza
-use Rattle.stanza_model.specs.declared.effect.Effect.TheVariants.{Queue, Broadcast, Enter, Leave, Set}
+use Rattle.stanza_model.specs.declared.effect.Effect.TheVariants.{Queue, Broadcast, Enter, Leave, Keep, Set}
 use Rattle.stanza_model.specs.declared.here.Here.{Here}
+use Rattle.stanza_model.specs.declared.keeping.Keeping.{Keeping}
 use Rattle.stanza_model.specs.declared.kinds.MessageForm.{MessageForm}
 use Rattle.stanza_model.specs.declared.kinds.MessageForm.TheVariants as message
 use Rattle.stanza_model.specs.declared.kinds.PresenceForm.TheVariants as presence
+use Rattle.stanza_model.specs.declared.room.Delayed.{Delayed}
 use Rattle.stanza_model.specs.declared.room.Occupant.{Occupant}
 use Rattle.stanza_model.specs.declared.room.Role.{Role}
 use Rattle.stanza_model.specs.declared.room.Room.{Room}
@@ -28,10 +31,11 @@ use Rattle.muc_room.specs.Entering.{enter, enters_at, enters_by, most_rooms, new
 use Rattle.muc_room.specs.Entries.{entry_role, opening, openings, subject_for, told_entry}
 use Rattle.muc_room.specs.Leaving.{goes, leave, leaves_as}
 use Rattle.muc_room.specs.Renaming.{rename, renamed, renames_by, shows}
-use Rattle.muc_room.specs.Saying.{direct, is_groupchat, is_silent, is_subject, may_change_subject, private_text, private_to, say, says_as, subject_if}
-use Rattle.muc_room.specs.Saying.{whispers, whispers_as, whispers_at}
+use Rattle.muc_room.specs.Histories.{history, wanted_of}
+use Rattle.muc_room.specs.Saying.{direct, is_groupchat, is_silent, is_subject, is_too_much, may_change_subject, message_text, private_text}
+use Rattle.muc_room.specs.Saying.{private_to, row_if, say, says_as, subject_if, whispers, whispers_as, whispers_at}
 use Rattle.muc_room.specs.Seats.{has_nick, holder_of, occupant_of}
-use Rattle.muc_room.specs.Views.{shown_children}
+use Rattle.muc_room.specs.Views.{at, shown_children}
 use Rattle.muc_room.specs.declared.entering.Numbers.{Numbers}
 use Rattle.muc_service.specs.Rooms.{Hosted, Rooms, counted, counted_in, hosted_as, is_in, made_room, step, with_room}
 use Rattle.house_model.specs.Casts.{IsNotLive, IsFreeIn, ChangeSuits, Suits, AllSuit}
@@ -52,6 +56,7 @@ Easy (Queue s to rest origin) = IsNotLive origin
 Easy (Broadcast n item) = ⊤
 Easy (Enter n s address nick role) = ⊥
 Easy (Leave n s) = ⊤
+Easy (Keep user peer text moment) = ⊤
 Easy (Set change) = EasyChange change
 
 set_easy : (rooms : Rooms) (c : Change) → EasyChange c → ChangeSuits rooms c
@@ -64,6 +69,7 @@ one_easy made addresses rooms (Queue s to rest origin) easy = easy
 one_easy made addresses rooms (Broadcast n item) easy = tt
 one_easy made addresses rooms (Enter n s address nick role) easy = absurd easy
 one_easy made addresses rooms (Leave n s) easy = tt
+one_easy made addresses rooms (Keep user peer text moment) easy = tt
 one_easy made addresses rooms (Set c) easy = set_easy rooms c easy
 
 pub easy_suits : (made : ℕ) (addresses : ℕ → Address) (rooms : Rooms) (es : List stanza.Effect) → AllByRecursion Easy es → AllSuit made addresses rooms es
@@ -84,27 +90,32 @@ leaves_easy room s (Some o) children =
 pub leave_easy : (room : Room) (s : ℕ) (st : Option Stanza) → AllByRecursion Easy (leave room s st)
 leave_easy room s st = leaves_easy room s (occupant_of s room.occupants) _
 
-subject_easy : (b : Bool) (n : ℕ) (text : List ℕ) → AllByRecursion Easy (subject_if b n text)
-subject_easy false n text = tt
-subject_easy true n text = (tt, tt)
+kept_easy : (kept subject : Bool) (n : ℕ) (from : Address) (text : List ℕ) (moment : ℕ) (stamp : List ℕ)
+    → AllByRecursion Easy (row_if kept n from text moment ++ subject_if subject n text stamp)
+kept_easy false false n from text moment stamp = tt
+kept_easy false true n from text moment stamp = (tt, tt)
+kept_easy true false n from text moment stamp = (tt, tt)
+kept_easy true true n from text moment stamp = (tt, (tt, tt))
 
-says_easy : (room : Room) (who : Here) (st : Stanza) (e : Element) (o : Option Occupant) → AllByRecursion Easy (says_as room who st e o)
-says_easy room who st e None = refused_easy who st NotAcceptable
-says_easy room who st e (Some o) =
+says_easy : (room : Room) (who : Here) (st : Stanza) (keeping : Keeping) (stamp : List ℕ) (e : Element) (o : Option Occupant)
+    → AllByRecursion Easy (says_as room who st keeping stamp e o)
+says_easy room who st keeping stamp e None = refused_easy who st NotAcceptable
+says_easy room who st keeping stamp e (Some o) =
     either_all Easy (is_silent o.role room.config.moderated) _ _ (refused_easy who st Forbidden)
     (either_all Easy (is_subject e && not (may_change_subject o.role room.config.change_subject)) _ _ (refused_easy who st Forbidden)
-    (tt, subject_easy (is_subject e) room.number _))
+    (either_all Easy (is_too_much room o keeping e) _ _ (refused_easy who st ResourceConstraint)
+    (tt, kept_easy (has_body e) (is_subject e) room.number (at room.address (Some o.nick)) (message_text room o keeping.row e) keeping.moment stamp)))
 
-pub say_easy : (room : Room) (who : Here) (st : Stanza) → AllByRecursion Easy (say room who st)
-say_easy room who (Message to message.Groupchat e) =
-    says_easy room who (Message to message.Groupchat e) e (occupant_of who.session room.occupants)
-say_easy room who (Message to message.Chat e) = tt
-say_easy room who (Message to message.Normal e) = tt
-say_easy room who (Message to message.Headline e) = tt
-say_easy room who (Message to message.Error e) = tt
-say_easy room who (Presence to form e) = tt
-say_easy room who (Iq to id form e) = tt
-say_easy room who (Faulty kind to id answered c) = tt
+pub say_easy : (room : Room) (who : Here) (st : Stanza) (keeping : Keeping) (stamp : List ℕ) → AllByRecursion Easy (say room who st keeping stamp)
+say_easy room who (Message to message.Groupchat e) keeping stamp =
+    says_easy room who (Message to message.Groupchat e) keeping stamp e (occupant_of who.session room.occupants)
+say_easy room who (Message to message.Chat e) keeping stamp = tt
+say_easy room who (Message to message.Normal e) keeping stamp = tt
+say_easy room who (Message to message.Headline e) keeping stamp = tt
+say_easy room who (Message to message.Error e) keeping stamp = tt
+say_easy room who (Presence to form e) keeping stamp = tt
+say_easy room who (Iq to id form e) keeping stamp = tt
+say_easy room who (Faulty kind to id answered c) keeping stamp = tt
 
 private_easy : (rest : List ℕ) (seats : List Seat) → AllByRecursion Easy (map (private_to rest) seats)
 private_easy rest [] = tt
@@ -193,21 +204,30 @@ module _ (made : ℕ) (addresses : ℕ → Address) (rooms : Rooms) where
   unless_suits who st None es is = is
   unless_suits who st (Some c) es is = easy_suits made addresses rooms (refused who st c) (refused_easy who st c)
 
-  openings_suit : (room : Room) (stay : ℕ) (who : Here) (role : Role) (rest last : List stanza.Effect) (os : List Occupant)
-      → AllSuit made addresses rooms (rest ++ last) → AllSuit made addresses rooms ((map (opening room stay who role) os ++ rest) ++ last)
-  openings_suit room stay who role rest last [] is = is
-  openings_suit room stay who role rest last (o ∷ os) is = (tt, openings_suit room stay who role rest last os is)
+  openings_suit : (room : Room) (stay : ℕ) (who : Here) (role : Role) (rest past last : List stanza.Effect) (os : List Occupant)
+      → AllSuit made addresses rooms ((rest ++ past) ++ last)
+      → AllSuit made addresses rooms (((map (opening room stay who role) os ++ rest) ++ past) ++ last)
+  openings_suit room stay who role rest past last [] is = is
+  openings_suit room stay who role rest past last (o ∷ os) is = (tt, openings_suit room stay who role rest past last os is)
 
+  past_suits : (room : Room) (stay : ℕ) (who : Here) (past : List Delayed)
+      → AllSuit made addresses rooms (history room stay who past ++ subject_for room stay who ∷ [])
+  past_suits room stay who [] = (tt, tt)
+  past_suits room stay who (d ∷ past) = (tt, past_suits room stay who past)
+
+module _ (made : ℕ) (addresses : ℕ → Address) (rooms : Rooms) where
   -- an entry into the room that is there
-  entry_suits : (room : Room) (new : Bool) (numbers : Numbers) (who : Here) (children nick : List ℕ) (holder : Option Occupant) (h : Hosted)
-      → hosted_as room.number rooms ≡ Some h → is_in who.session h ≡ false → who.session ≤ made → who.address ≡ addresses who.session
+  entry_suits : (room : Room) (new : Bool) (numbers : Numbers) (who : Here) (children nick : List ℕ) (holder : Option Occupant) (past : List Delayed)
+      (h : Hosted) → hosted_as room.number rooms ≡ Some h → is_in who.session h ≡ false → who.session ≤ made → who.address ≡ addresses who.session
       → AllSuit made addresses rooms (openings room numbers.next_stay who (entry_role room who holder) nick
-      ++ told_entry room new who children nick holder ++ subject_for room numbers.next_stay who ∷ [])
-  entry_suits room new numbers who children nick holder h is out known own =
-      openings_suit room numbers.next_stay who (entry_role room who holder)
-      (told_entry room new who children nick holder) (subject_for room numbers.next_stay who ∷ [])
-      (filter (λ o. not (has_nick nick o)) room.occupants)
-      (record { made = known; address = own; host = h; hosted = is; outside = out }, (tt, (tt, (tt, tt))))
+      ++ told_entry room new who children nick holder ++ history room numbers.next_stay who past ++ subject_for room numbers.next_stay who ∷ [])
+  entry_suits room new numbers who children nick holder past h is out known own =
+      openings_suit made addresses rooms room numbers.next_stay who (entry_role room who holder)
+      (told_entry room new who children nick holder) (history room numbers.next_stay who past) (subject_for room numbers.next_stay who ∷ [])
+      (filter (λ o. not (has_nick nick o)) room.occupants) (
+        record { made = known; address = own; host = h; hosted = is; outside = out },
+        (tt, (tt, past_suits made addresses _ room numbers.next_stay who past)),
+      )
 
 -- the room that is made is there, and nobody is in it
 pub new_hosted : (n : ℕ) (address owner : Address) (rooms : Rooms) → hosted_as n rooms ≡ None
@@ -218,13 +238,13 @@ new_hosted n address owner rooms out =
 
 module _ (made : ℕ) (addresses : ℕ → Address) (rooms : Rooms) (numbers : Numbers) (who : Here)
     (next : numbers.next_room ≡ rooms.made + 1) (known : who.session ≤ made) (own : who.address ≡ addresses who.session) where
-  enters_suits : (st : Stanza) (to : Address) (e : Element) (nick : List ℕ) (room : Option Room) → IsMet rooms who.session room
-      → AllSuit made addresses rooms (enters_by room numbers who st to e nick)
-  enters_suits st to e nick (Some room) met =
+  enters_suits : (st : Stanza) (to : Address) (e : Element) (nick : List ℕ) (past : List Delayed) (room : Option Room) → IsMet rooms who.session room
+      → AllSuit made addresses rooms (enters_by room numbers who st to e nick past)
+  enters_suits st to e nick past (Some room) met =
       unless_suits made addresses rooms who st (refusal room numbers who e nick) _
-      (entry_suits made addresses rooms room false numbers who (shown_children e.children) nick (holder_of nick room.occupants) met.0
-      met.1 met.3 known own)
-  enters_suits st to e nick None met =
+      (entry_suits made addresses rooms room false numbers who (shown_children e.children) nick (holder_of nick room.occupants)
+      (wanted_of e past) met.0 met.1 met.3 known own)
+  enters_suits st to e nick past None met =
       let n : ℕ = numbers.next_room in
       let room : Room = new_room n to who in
       let after : Rooms = with_room n room.address (bare who.address) rooms in
@@ -234,26 +254,27 @@ module _ (made : ℕ) (addresses : ℕ → Address) (rooms : Rooms) (numbers : N
       (λ (_ : _). easy_suits made addresses rooms (refused who st ResourceConstraint) (refused_easy who st ResourceConstraint))
       (λ (_ : _). unless_suits made addresses rooms who st (refusal room numbers who e nick) _ (
         next,
-        entry_suits made addresses after room true numbers who (shown_children e.children) nick (holder_of nick room.occupants) new
+        entry_suits made addresses after room true numbers who (shown_children e.children) nick (holder_of nick room.occupants) (wanted_of e []) new
             (new_hosted n room.address (bare who.address) rooms out) refl known own,
       ))
 
-  enters_at_suits : (st : Stanza) (to : Address) (e : Element) (nick : Option (List ℕ)) (room : Option Room) → IsMet rooms who.session room
-      → AllSuit made addresses rooms (enters_at room numbers who st to e nick)
-  enters_at_suits st to e None room met = easy_suits made addresses rooms (refused who st JidMalformed) (refused_easy who st JidMalformed)
-  enters_at_suits st to e (Some nick) room met = enters_suits st to e nick room met
+  enters_at_suits : (st : Stanza) (to : Address) (e : Element) (nick : Option (List ℕ)) (past : List Delayed) (room : Option Room)
+      → IsMet rooms who.session room → AllSuit made addresses rooms (enters_at room numbers who st to e nick past)
+  enters_at_suits st to e None past room met = easy_suits made addresses rooms (refused who st JidMalformed) (refused_easy who st JidMalformed)
+  enters_at_suits st to e (Some nick) past room met = enters_suits st to e nick past room met
 
-  pub enter_suits : (room : Option Room) (st : Stanza) → IsMet rooms who.session room → AllSuit made addresses rooms (enter room numbers who st)
-  enter_suits room (Presence (Some to) presence.Available e) met =
-      enters_at_suits (Presence (Some to) presence.Available e) to e to.resource room met
-  enter_suits room (Presence None form e) met = tt
-  enter_suits room (Presence (Some to) presence.Unavailable e) met = tt
-  enter_suits room (Presence (Some to) presence.Subscribe e) met = tt
-  enter_suits room (Presence (Some to) presence.Subscribed e) met = tt
-  enter_suits room (Presence (Some to) presence.Unsubscribe e) met = tt
-  enter_suits room (Presence (Some to) presence.Unsubscribed e) met = tt
-  enter_suits room (Presence (Some to) presence.Probe e) met = tt
-  enter_suits room (Presence (Some to) presence.Error e) met = tt
-  enter_suits room (Message to form e) met = tt
-  enter_suits room (Iq to id form e) met = tt
-  enter_suits room (Faulty kind to id answered c) met = tt
+  pub enter_suits : (room : Option Room) (st : Stanza) (past : List Delayed) → IsMet rooms who.session room
+      → AllSuit made addresses rooms (enter room numbers who st past)
+  enter_suits room (Presence (Some to) presence.Available e) past met =
+      enters_at_suits (Presence (Some to) presence.Available e) to e to.resource past room met
+  enter_suits room (Presence None form e) past met = tt
+  enter_suits room (Presence (Some to) presence.Unavailable e) past met = tt
+  enter_suits room (Presence (Some to) presence.Subscribe e) past met = tt
+  enter_suits room (Presence (Some to) presence.Subscribed e) past met = tt
+  enter_suits room (Presence (Some to) presence.Unsubscribe e) past met = tt
+  enter_suits room (Presence (Some to) presence.Unsubscribed e) past met = tt
+  enter_suits room (Presence (Some to) presence.Probe e) past met = tt
+  enter_suits room (Presence (Some to) presence.Error e) past met = tt
+  enter_suits room (Message to form e) past met = tt
+  enter_suits room (Iq to id form e) past met = tt
+  enter_suits room (Faulty kind to id answered c) past met = tt

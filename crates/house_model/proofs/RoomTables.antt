@@ -5,6 +5,7 @@ use Rattle.std.specs.Prelude.{⊤}
 use Rattle.std.specs.List.{AllByRecursion, filter}
 use Rattle.jid_core.specs.Addresses.{Address, bare}
 use Rattle.stanza_tree.specs.declared.node.Element.{Element}
+use Rattle.stanza_model.specs.Ids.{has_body}
 use Rattle.stanza_model.specs.Replies.{error_of, may_be_answered, refused, said_to}
 use Rattle.stanza_model.specs.declared.condition.Condition.{Condition}
 use Rattle.stanza_model.specs.declared.condition.Condition.TheVariants.{BadRequest, Conflict, Forbidden, ItemNotFound, JidMalformed, NotAcceptable}
@@ -13,9 +14,11 @@ use Rattle.stanza_model.specs.declared.effect.Change.TheVariants.{OccupantShown}
 use Rattle.stanza_model.specs.declared.effect.Effect.{Effect}
 use Rattle.stanza_model.specs.declared.effect.Effect.TheVariants.{Broadcast, Leave, Set}
 use Rattle.stanza_model.specs.declared.here.Here.{Here}
+use Rattle.stanza_model.specs.declared.keeping.Keeping.{Keeping}
 use Rattle.stanza_model.specs.declared.kinds.MessageForm.{MessageForm}
 use Rattle.stanza_model.specs.declared.kinds.MessageForm.TheVariants as message
 use Rattle.stanza_model.specs.declared.kinds.PresenceForm.TheVariants as presence
+use Rattle.stanza_model.specs.declared.room.Delayed.{Delayed}
 use Rattle.stanza_model.specs.declared.room.Occupant.{Occupant}
 use Rattle.stanza_model.specs.declared.room.Role.{Role}
 use Rattle.stanza_model.specs.declared.room.Room.{Room}
@@ -26,10 +29,11 @@ use Rattle.muc_room.specs.Entering.{enter, enters_at, enters_by, most_rooms, new
 use Rattle.muc_room.specs.Entries.{entry, entry_role, opening, openings, subject_for, told_entry}
 use Rattle.muc_room.specs.Leaving.{farewell, goes, gone_if_empty, last_words, leave, leaves_as, occupant_leaves, seat_leaves}
 use Rattle.muc_room.specs.Renaming.{rename, renamed, renames_by, shows}
-use Rattle.muc_room.specs.Saying.{direct, is_groupchat, is_silent, is_subject, may_change_subject, message_text, private_text, private_to, said, say}
-use Rattle.muc_room.specs.Saying.{says_as, subject_if, whispers, whispers_as, whispers_at}
+use Rattle.muc_room.specs.Histories.{history, wanted_of}
+use Rattle.muc_room.specs.Saying.{direct, is_groupchat, is_silent, is_subject, is_too_much, may_change_subject, message_text, private_text}
+use Rattle.muc_room.specs.Saying.{private_to, row_if, said, say, says_as, subject_if, whispers, whispers_as, whispers_at}
 use Rattle.muc_room.specs.Seats.{has_nick, holder_of, occupant_of}
-use Rattle.muc_room.specs.Views.{shown_children}
+use Rattle.muc_room.specs.Views.{at, shown_children}
 use Rattle.muc_room.specs.declared.entering.Numbers.{Numbers}
 use Rattle.muc_service.specs.Casting.{after}
 use Rattle.muc_service.specs.Rooms.{Hosted, Rooms, entered, hosted_as, is_in, made_room, with_room}
@@ -108,27 +112,36 @@ module _ (rooms : Rooms) (room : Room) (holds : Holds rooms room.number (seats_o
   leave_of s st = leaves_of s (last_words st) (occupant_of s room.occupants) refl
 
   -- what is said
-  subject_meets : (b : Bool) (text : List ℕ) → AllMeet room.number (seats_of room.occupants) (subject_if b room.number text)
-  subject_meets false text = tt
-  subject_meets true text = (refl, tt)
+  kept_meets : (kept subject : Bool) (from : Address) (text : List ℕ) (moment : ℕ) (stamp : List ℕ)
+      → AllMeet room.number (seats_of room.occupants) (row_if kept room.number from text moment ++ subject_if subject room.number text stamp)
+  kept_meets false false from text moment stamp = tt
+  kept_meets false true from text moment stamp = (refl, tt)
+  kept_meets true false from text moment stamp = (refl, tt)
+  kept_meets true true from text moment stamp = (refl, (refl, tt))
 
-  says_of : (who : Here) (st : Stanza) (e : Element) (o : Option Occupant) → AreOf rooms (says_as room who st e o)
-  says_of who st e None = no who st NotAcceptable
-  says_of who st e (Some o) =
+  says_of : (who : Here) (st : Stanza) (keeping : Keeping) (stamp : List ℕ) (e : Element) (o : Option Occupant)
+      → AreOf rooms (says_as room who st keeping stamp e o)
+  says_of who st keeping stamp e None = no who st NotAcceptable
+  says_of who st keeping stamp e (Some o) =
       choose (AreOf rooms) (is_silent o.role room.config.moderated) _ _ (λ (_ : _). no who st Forbidden)
       (λ (_ : _). choose (AreOf rooms) (is_subject e && not (may_change_subject o.role room.config.change_subject)) _ _
       (λ (_ : _). no who st Forbidden)
-      (λ (_ : _). meet (said room o e) (refl, subject_meets (is_subject e) (message_text room o e))))
+      (λ (_ : _). choose (AreOf rooms) (is_too_much room o keeping e) _ _ (λ (_ : _). no who st ResourceConstraint)
+      (λ (_ : _). meet (said room o keeping stamp e) (
+        refl,
+        kept_meets (has_body e) (is_subject e) (at room.address (Some o.nick)) (message_text room o keeping.row e) keeping.moment stamp,
+      ))))
 
-  pub say_of : (who : Here) (st : Stanza) → AreOf rooms (say room who st)
-  say_of who (Message to message.Groupchat e) = says_of who (Message to message.Groupchat e) e (occupant_of who.session room.occupants)
-  say_of who (Message to message.Chat e) = tt
-  say_of who (Message to message.Normal e) = tt
-  say_of who (Message to message.Headline e) = tt
-  say_of who (Message to message.Error e) = tt
-  say_of who (Presence to form e) = tt
-  say_of who (Iq to id form e) = tt
-  say_of who (Faulty kind to id answered c) = tt
+  pub say_of : (who : Here) (st : Stanza) (keeping : Keeping) (stamp : List ℕ) → AreOf rooms (say room who st keeping stamp)
+  say_of who (Message to message.Groupchat e) keeping stamp =
+      says_of who (Message to message.Groupchat e) keeping stamp e (occupant_of who.session room.occupants)
+  say_of who (Message to message.Chat e) keeping stamp = tt
+  say_of who (Message to message.Normal e) keeping stamp = tt
+  say_of who (Message to message.Headline e) keeping stamp = tt
+  say_of who (Message to message.Error e) keeping stamp = tt
+  say_of who (Presence to form e) keeping stamp = tt
+  say_of who (Iq to id form e) keeping stamp = tt
+  say_of who (Faulty kind to id answered c) keeping stamp = tt
 
   -- what an occupant shows, and its nick
   shows_of : (who : Here) (o : Occupant) (nick children : List ℕ) → occupant_of who.session room.occupants ≡ Some o
@@ -176,12 +189,16 @@ openings_calm : (room : Room) (stay : ℕ) (who : Here) (role : Role) (os : List
 openings_calm room stay who role [] = tt
 openings_calm room stay who role (o ∷ os) = (tt, openings_calm room stay who role os)
 
+past_calm : (room : Room) (stay : ℕ) (who : Here) (past : List Delayed) → AllByRecursion IsCalm (history room stay who past)
+past_calm room stay who [] = tt
+past_calm room stay who (d ∷ past) = (tt, past_calm room stay who past)
+
 module _ (rooms : Rooms) (who : Here) where
-  entry_of : (room : Room) (new : Bool) (numbers : Numbers) (children nick : List ℕ) (holder : Option Occupant) (h : Hosted)
+  entry_of : (room : Room) (new : Bool) (numbers : Numbers) (children nick : List ℕ) (holder : Option Occupant) (past : List Delayed) (h : Hosted)
       → hosted_as room.number rooms ≡ Some h → is_in who.session h ≡ false
       → AreOf rooms (openings room numbers.next_stay who (entry_role room who holder) nick
-      ++ told_entry room new who children nick holder ++ subject_for room numbers.next_stay who ∷ [])
-  entry_of room new numbers children nick holder h is out =
+      ++ told_entry room new who children nick holder ++ history room numbers.next_stay who past ++ subject_for room numbers.next_stay who ∷ [])
+  entry_of room new numbers children nick holder past h is out =
       let n : ℕ = room.number in
       let role : Role = entry_role room who holder in
       let x : Seat = record { session = who.session; address = who.address; stay = 0 } in
@@ -190,26 +207,29 @@ module _ (rooms : Rooms) (who : Here) where
       let told : List Effect = told_entry room new who children nick holder in
       let shown : Effect = Set (OccupantShown n who.session children) in
       let item : Effect = Broadcast n (entry room new who children nick holder) in
+      let earlier : List Effect = history room numbers.next_stay who past in
       let last : List Effect = subject_for room numbers.next_stay who ∷ [] in
-      of_then (greeted ++ told) last rooms
+      of_then (greeted ++ told ++ earlier) last rooms
+      (of_then (greeted ++ told) earlier rooms
       (calm_then greeted told rooms (openings_calm room numbers.next_stay who role (filter (λ o. not (has_nick nick o)) room.occupants)) (
         (ap is_some is, ap (has_in who.session) is ∙ out),
         all_of (shown ∷ item ∷ []) later n (x ∷ []) (entered_holds rooms n who.session who.address nick role h is x refl)
             ((refl, sits_one x []), (refl, tt)),
       ))
-      (calm_of last (after rooms (greeted ++ told)) (tt, tt))
+      (calm_of earlier (after rooms (greeted ++ told)) (past_calm room numbers.next_stay who past)))
+      (calm_of last (after rooms (greeted ++ told ++ earlier)) (tt, tt))
 
   pub unless_of : (st : Stanza) (c : Option Condition) (es : List Effect) → AreOf rooms es → AreOf rooms (unless_refused who st c es)
   unless_of st None es is = is
   unless_of st (Some c) es is = calm_of (refused who st c) rooms (refused_calm who st c)
 
 module _ (rooms : Rooms) (numbers : Numbers) (who : Here) (next : numbers.next_room ≡ rooms.made + 1) where
-  enters_of : (st : Stanza) (to : Address) (e : Element) (nick : List ℕ) (room : Option Room) → IsMet rooms who.session room
-      → AreOf rooms (enters_by room numbers who st to e nick)
-  enters_of st to e nick (Some room) met =
+  enters_of : (st : Stanza) (to : Address) (e : Element) (nick : List ℕ) (past : List Delayed) (room : Option Room) → IsMet rooms who.session room
+      → AreOf rooms (enters_by room numbers who st to e nick past)
+  enters_of st to e nick past (Some room) met =
       unless_of rooms who st (refusal room numbers who e nick) _
-      (entry_of rooms who room false numbers (shown_children e.children) nick (holder_of nick room.occupants) met.0 met.1 met.3)
-  enters_of st to e nick None met =
+      (entry_of rooms who room false numbers (shown_children e.children) nick (holder_of nick room.occupants) (wanted_of e past) met.0 met.1 met.3)
+  enters_of st to e nick past None met =
       let n : ℕ = numbers.next_room in
       let room : Room = new_room n to who in
       let later : Rooms = with_room n room.address (bare who.address) rooms in
@@ -219,25 +239,27 @@ module _ (rooms : Rooms) (numbers : Numbers) (who : Here) (next : numbers.next_r
       (λ (_ : _). calm_of (refused who st ResourceConstraint) rooms (refused_calm who st ResourceConstraint))
       (λ (_ : _). unless_of rooms who st (refusal room numbers who e nick) _ (
         (next, ap is_some out),
-        entry_of later who room true numbers (shown_children e.children) nick (holder_of nick room.occupants) new
+        entry_of later who room true numbers (shown_children e.children) nick (holder_of nick room.occupants) (wanted_of e []) new
             (new_hosted n room.address (bare who.address) rooms out) refl,
       ))
 
-  enters_at_of : (st : Stanza) (to : Address) (e : Element) (nick : Option (List ℕ)) (room : Option Room) → IsMet rooms who.session room
-      → AreOf rooms (enters_at room numbers who st to e nick)
-  enters_at_of st to e None room met = calm_of (refused who st JidMalformed) rooms (refused_calm who st JidMalformed)
-  enters_at_of st to e (Some nick) room met = enters_of st to e nick room met
+  enters_at_of : (st : Stanza) (to : Address) (e : Element) (nick : Option (List ℕ)) (past : List Delayed) (room : Option Room)
+      → IsMet rooms who.session room → AreOf rooms (enters_at room numbers who st to e nick past)
+  enters_at_of st to e None past room met = calm_of (refused who st JidMalformed) rooms (refused_calm who st JidMalformed)
+  enters_at_of st to e (Some nick) past room met = enters_of st to e nick past room met
 
-  pub enter_of : (room : Option Room) (st : Stanza) → IsMet rooms who.session room → AreOf rooms (enter room numbers who st)
-  enter_of room (Presence (Some to) presence.Available e) met = enters_at_of (Presence (Some to) presence.Available e) to e to.resource room met
-  enter_of room (Presence None form e) met = tt
-  enter_of room (Presence (Some to) presence.Unavailable e) met = tt
-  enter_of room (Presence (Some to) presence.Subscribe e) met = tt
-  enter_of room (Presence (Some to) presence.Subscribed e) met = tt
-  enter_of room (Presence (Some to) presence.Unsubscribe e) met = tt
-  enter_of room (Presence (Some to) presence.Unsubscribed e) met = tt
-  enter_of room (Presence (Some to) presence.Probe e) met = tt
-  enter_of room (Presence (Some to) presence.Error e) met = tt
-  enter_of room (Message to form e) met = tt
-  enter_of room (Iq to id form e) met = tt
-  enter_of room (Faulty kind to id answered c) met = tt
+  pub enter_of : (room : Option Room) (st : Stanza) (past : List Delayed) → IsMet rooms who.session room
+      → AreOf rooms (enter room numbers who st past)
+  enter_of room (Presence (Some to) presence.Available e) past met =
+      enters_at_of (Presence (Some to) presence.Available e) to e to.resource past room met
+  enter_of room (Presence None form e) past met = tt
+  enter_of room (Presence (Some to) presence.Unavailable e) past met = tt
+  enter_of room (Presence (Some to) presence.Subscribe e) past met = tt
+  enter_of room (Presence (Some to) presence.Subscribed e) past met = tt
+  enter_of room (Presence (Some to) presence.Unsubscribe e) past met = tt
+  enter_of room (Presence (Some to) presence.Unsubscribed e) past met = tt
+  enter_of room (Presence (Some to) presence.Probe e) past met = tt
+  enter_of room (Presence (Some to) presence.Error e) past met = tt
+  enter_of room (Message to form e) past met = tt
+  enter_of room (Iq to id form e) past met = tt
+  enter_of room (Faulty kind to id answered c) past met = tt

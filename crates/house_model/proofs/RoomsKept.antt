@@ -32,7 +32,7 @@ ChangeKeeps V (change.Affiliated n address a) = (r : Room) → V r → V (set_af
 ChangeKeeps V (change.RoleSet n s role) = (r : Room) → V r → V (set_role s role r)
 ChangeKeeps V (change.Renamed n s nick) = (r : Room) → V r → V (renames s nick r)
 ChangeKeeps V (change.OccupantShown n s presence) = (r : Room) → V r → V (shows s presence r)
-ChangeKeeps V (change.Subject n text) = (r : Room) → V r → V (has_subject text r)
+ChangeKeeps V (change.Subject n text stamp) = (r : Room) → V r → V (has_subject text stamp r)
 ChangeKeeps V c = ⊤
 
 abbrev pub KeepsEach : (Room → Type 0) → stanza.Effect → Type 0
@@ -40,6 +40,7 @@ KeepsEach V (effect.Queue s to rest origin) = ⊤
 KeepsEach V (effect.Broadcast n item) = ⊤
 KeepsEach V (effect.Enter n s address nick role) = (stay : ℕ) (r : Room) → V r → V (enters (record { session = s; address = address; stay = stay }) nick role r)
 KeepsEach V (effect.Leave n s) = (r : Room) → V r → V (leaves s r)
+KeepsEach V (effect.Keep user peer text moment) = ⊤
 KeepsEach V (effect.Set c) = ChangeKeeps V c
 
 put_each : (V : Room → Type 0) (rooms rooms' : Rooms) (n : ℕ) (v : Option Hosted)
@@ -78,7 +79,7 @@ set_each V rooms (change.Affiliated n address a) keeps each = change_each V room
 set_each V rooms (change.RoleSet n s role) keeps each = change_each V rooms n (set_role s role) (λ x. refl) keeps each
 set_each V rooms (change.Renamed n s nick) keeps each = change_each V rooms n (renames s nick) (λ x. refl) keeps each
 set_each V rooms (change.OccupantShown n s presence) keeps each = change_each V rooms n (shows s presence) (λ x. refl) keeps each
-set_each V rooms (change.Subject n text) keeps each = change_each V rooms n (has_subject text) (λ x. refl) keeps each
+set_each V rooms (change.Subject n text stamp) keeps each = change_each V rooms n (has_subject text stamp) (λ x. refl) keeps each
 set_each V rooms c keeps each = each
 
 pub step_each : (V : Room → Type 0) (rooms : Rooms) (e : stanza.Effect) → KeepsEach V e → EachRoom V rooms → EachRoom V (step e rooms)
@@ -90,6 +91,7 @@ step_each V rooms (effect.Enter n s address nick role) keeps each =
     λ r. change_each V rooms n (enters (record { session = s; address = address; stay = rooms.stays + 1 }) nick role) (λ x. refl)
     (keeps (rooms.stays + 1)) each r
 step_each V rooms (effect.Leave n s) keeps each = change_each V rooms n (leaves s) (λ x. refl) keeps each
+step_each V rooms (effect.Keep user peer text moment) keeps each = each
 step_each V rooms (effect.Set c) keeps each = set_each V rooms c keeps each
 
 -- what holds of each effect of a list holds of all that is cast, and of the rooms afterwards

@@ -1,18 +1,22 @@
 -- What comes of a stanza for a room notes nothing of users, and neither do the views that are queued of a broadcast.
-use Rattle.std.proofs.Common.{◌≡◌, ℕ, List, [], ◌∷◌, flat_map, codes, refl, ap, ◌∙◌, Option, Some, None, Result, Ok, Err, IfSome, if◌then◌else◌}
+use Rattle.std.proofs.Common.{◌≡◌, ℕ, List, [], ◌∷◌, map, flat_map, codes, refl, ap, ◌∙◌, Bool, Option, Some, None, Result, Ok, Err, IfSome}
+use Rattle.std.proofs.Common.{if◌then◌else◌}
 use Rattle.std.specs.Prelude.{⊤}
 use Rattle.std.specs.List.{AllByRecursion}
+use Rattle.jid_core.specs.Addresses.{Address}
 use Rattle.stanza_tree.specs.declared.node.Element.{Element}
 use Rattle.stanza_model.specs.Replies.{refused}
 use Rattle.stanza_model.specs.declared.condition.Condition.TheVariants.{BadRequest, FeatureNotImplemented, Forbidden, ItemNotFound, ServiceUnavailable}
 use Rattle.stanza_model.specs.declared.effect.Effect.{Effect}
-use Rattle.stanza_model.specs.declared.effect.Effect.TheVariants.{Queue, Broadcast, Enter, Leave, Set}
+use Rattle.stanza_model.specs.declared.effect.Effect.TheVariants.{Queue, Broadcast, Enter, Leave, Keep, Set}
 use Rattle.stanza_model.specs.declared.here.Here.{Here}
+use Rattle.stanza_model.specs.declared.keeping.Keeping.{Keeping}
 use Rattle.stanza_model.specs.declared.kinds.MessageForm.{MessageForm}
 use Rattle.stanza_model.specs.declared.kinds.MessageForm.TheVariants as message
 use Rattle.stanza_model.specs.declared.kinds.PresenceForm.{PresenceForm}
 use Rattle.stanza_model.specs.declared.kinds.PresenceForm.TheVariants.{Available, Unavailable, Subscribe, Subscribed, Unsubscribe}
 use Rattle.stanza_model.specs.declared.kinds.PresenceForm.TheVariants.{Unsubscribed, Probe, Error}
+use Rattle.stanza_model.specs.declared.room.Delayed.{Delayed}
 use Rattle.stanza_model.specs.declared.room.Occupant.{Occupant}
 use Rattle.stanza_model.specs.declared.room.Room.{Room}
 use Rattle.stanza_model.specs.declared.room.RoomItem.{RoomItem}
@@ -30,18 +34,26 @@ use Rattle.muc_admin.specs.Items.{admin_space}
 use Rattle.muc_owner.specs.Owning.{owner, owner_space}
 use Rattle.muc_service.specs.Casting.{cast, copies_for, copies_in, copy_for, heard}
 use Rattle.muc_service.specs.Rooms.{Hosted, Rooms, hosted_as, is_in, step}
+use Rattle.rsm_paging.specs.Pages.{asked_id, is_known}
+use Rattle.rsm_paging.specs.declared.ask.Row.{Row}
+use Rattle.archive_table.specs.Archives.{Archives}
+use Rattle.archive_table.specs.Pages.{shown}
 use Rattle.mam_wire.specs.Answers.{mam_space}
 use Rattle.mam_wire.specs.Queries.{query_of}
+use Rattle.mam_wire.specs.Stamps.{stamp_text}
 use Rattle.mam_wire.specs.declared.query.Query.{Query}
 use Rattle.mam_wire.specs.declared.fault.QueryFault.{QueryFault}
 use Rattle.mam_wire.specs.declared.fault.QueryFault.TheVariants as fault
-use Rattle.house_model.specs.Archives.{archived, may_read, names_a_row, paged, queried, query_in}
+use Rattle.house_model.specs.ArchiveLookups.{keeping_in, past_in, rows_in}
+use Rattle.house_model.specs.Archives.{archived, asked, may_read, paged, queried, query_in, shown_to}
 use Rattle.house_model.specs.Requests.{asks_a_room, discovers, gets, pings, queries}
 use Rattle.house_model.specs.RoomLookups.{called, numbers_for, rooms_of}
 use Rattle.house_model.specs.Routing.{Scene, absent_from, asked_of, is_invitation, leaves_rooms, present_in, to_all_in, to_be_in}
 use Rattle.house_model.specs.Routing.{to_no_room, to_one_in, to_room}
+use Rattle.house_model.specs.States.{World}
+use Rattle.house_model.specs.Traffic.{KeptTraffic}
 use Rattle.stanza_router.specs.declared.places.Place.{Place}
-use Rattle.house_model.proofs.RoomCases.{Enters, Leaves, Says, Shows, direct_rows, enter_rows, leave_rows, rename_rows, say_rows}
+use Rattle.house_model.proofs.RoomCases.{Enters, Leaves, Says, Shows, Whispers, direct_rows, enter_rows, leave_rows, rename_rows, say_rows}
 use Rattle.house_model.proofs.RequestCases.{Calls, Manages, Owns, Sets, admin_rows, invite_rows, owner_rows}
 
 abbrev Any : {X : Type 0} → X → Type 0
@@ -66,20 +78,23 @@ leave_quiet room s st = all_quiet (leave room s st) (leave_rows room s st One An
   each = record { item = λ o is k. refl; told = λ o is k. refl; left = λ k. refl; gone = λ k. refl }
 
 module _ (room : Room) (who : Here) (st : Stanza) where
-  says : Says room who st One Any Any
-  says = record {
+  says : (keeping : Keeping) (stamp : List ℕ) → Says room who st keeping stamp One Any
+  says keeping stamp = record {
     refusal = λ c k. refl;
-    seats = λ o is. any_all o.seats;
     item = λ o e is at k. refl;
-    subject = λ o e is at k. refl;
-    private = λ o e x is fits at k. refl;
+    row = λ o e is at has k. refl;
+    subject = λ o e is at has k. refl;
   }
 
-  say_quiet : IsQuiet (say room who st)
-  say_quiet = all_quiet (say room who st) (say_rows room who st One Any Any says (any_all room.occupants))
+  whispers : Whispers room who st One Any Any
+  whispers = record { refusal = λ c k. refl; seats = λ o is. any_all o.seats; private = λ o e x is fits at k. refl }
+
+  say_quiet : (keeping : Keeping) (stamp : List ℕ) → IsQuiet (say room who st keeping stamp)
+  say_quiet keeping stamp =
+      all_quiet (say room who st keeping stamp) (say_rows room who st keeping stamp One Any (says keeping stamp) (any_all room.occupants))
 
   direct_quiet : IsQuiet (direct room who st)
-  direct_quiet = all_quiet (direct room who st) (direct_rows room who st One Any Any says (any_all room.occupants))
+  direct_quiet = all_quiet (direct room who st) (direct_rows room who st One Any Any whispers (any_all room.occupants))
 
   shows : (e : Element) → Shows room who st e One Any
   shows e = record {
@@ -134,11 +149,12 @@ module _ (room : Room) (who : Here) (st : Stanza) where
     each : Calls room who st hs One Any Any
     each = record { refusal = λ c k. refl; sets = sets; invited = λ i is. sent_quiet _ hs; declined = λ i is. sent_quiet _ hs }
 
-enter_quiet : (room : Option Room) (s : ℕ) (rooms : Rooms) (who : Here) (st : Stanza) → IsQuiet (enter room (numbers_for rooms s) who st)
-enter_quiet room s rooms who st =
-    all_quiet (enter room (numbers_for rooms s) who st)
-    (enter_rows room (numbers_for rooms s) who st One Any Any (λ e at. each e) (by room) (λ to e at. tt)) where
-      each : (e : Element) → Enters who st e One Any Any
+enter_quiet : (room : Option Room) (s : ℕ) (rooms : Rooms) (who : Here) (st : Stanza) (past : List Delayed)
+    → IsQuiet (enter room (numbers_for rooms s) who st past)
+enter_quiet room s rooms who st past =
+    all_quiet (enter room (numbers_for rooms s) who st past)
+    (enter_rows room (numbers_for rooms s) who st past One Any Any Any (λ e at. each e) (by room) (λ to e at. tt) (any_all past)) where
+      each : (e : Element) → Enters who st e One Any Any Any
       each e = record {
         refusal = λ c k. refl;
         occupants = λ room is. any_all room.occupants;
@@ -147,6 +163,7 @@ enter_quiet room s rooms who st =
         enter = λ room to nick role at named k. refl;
         shown = λ room k. refl;
         item = λ room made to nick holder is at named k. refl;
+        past = λ room stay d is fits k. refl;
         subject = λ room stay is k. refl;
       }
 
@@ -163,7 +180,7 @@ called_quiet o who st e h =
 
 pub to_all_quiet : (o : Scene) (who : Here) (st : Stanza) (form : MessageForm) (e : Element) (found : Option Hosted) → IsQuiet (to_all_in o who st form e found)
 to_all_quiet o who st form e None = quiet_refused who st (to_no_room form e)
-to_all_quiet o who st message.Groupchat e (Some h) = say_quiet h.room who st
+to_all_quiet o who st message.Groupchat e (Some h) = say_quiet h.room who st (keeping_in o.world.archives h o.moment) (stamp_text o.moment)
 to_all_quiet o who st message.Chat e (Some h) = called_quiet o who st e h
 to_all_quiet o who st message.Normal e (Some h) = called_quiet o who st e h
 to_all_quiet o who st message.Headline e (Some h) = called_quiet o who st e h
@@ -179,26 +196,37 @@ asked_quiet who st (Some h) =
     quiet_either (queries admin_space st) _ _ (admin_quiet h.room who st)
     (quiet_either (queries owner_space st) _ _ (owner_quiet h.room who st) (quiet_refused who st ServiceUnavailable))
 
-paged_quiet : (who : Here) (st : Stanza) (query : Result Query QueryFault) → IsQuiet (paged who st query)
-paged_quiet who st (Ok query) = quiet_either (names_a_row query.ask) _ _ (quiet_refused who st ItemNotFound) (λ k. refl)
-paged_quiet who st (Err fault.NotImplemented) = quiet_refused who st FeatureNotImplemented
-paged_quiet who st (Err fault.BadRequest) = quiet_refused who st BadRequest
-paged_quiet who st (Err fault.NoMemory) = quiet_refused who st BadRequest
+paged_quiet : (who : Here) (st : Stanza) (from : Option Address) (rows : List Row) (query : Result Query QueryFault)
+    → IsQuiet (paged who st from rows query)
+paged_quiet who st from rows (Ok q) =
+    quiet_either (is_known rows (asked_id q.ask.after q.ask.before)) _ _
+    (quiet_both (map (shown_to who from q.queryid) (shown rows q.filter q.ask)) _
+    (quiet_map (shown_to who from q.queryid) (λ row k. refl) (shown rows q.filter q.ask)) (λ k. refl))
+    (quiet_refused who st ItemNotFound)
+paged_quiet who st from rows (Err fault.NotImplemented) = quiet_refused who st FeatureNotImplemented
+paged_quiet who st from rows (Err fault.BadRequest) = quiet_refused who st BadRequest
+paged_quiet who st from rows (Err fault.NoMemory) = quiet_refused who st BadRequest
 
-queried_quiet : (who : Here) (st : Stanza) (query : Option Element) → IsQuiet (queried who st query)
-queried_quiet who st None = quiet_refused who st BadRequest
-queried_quiet who st (Some query) = paged_quiet who st (query_of query)
+queried_quiet : (who : Here) (st : Stanza) (from : Option Address) (rows : List Row) (query : Option Element)
+    → IsQuiet (queried who st from rows query)
+queried_quiet who st from rows None = quiet_refused who st BadRequest
+queried_quiet who st from rows (Some query) = paged_quiet who st from rows (query_of query)
 
-archived_quiet : (who : Here) (st : Stanza) (found : Option Hosted) → IsQuiet (archived who st found)
-archived_quiet who st None = quiet_refused who st ItemNotFound
-archived_quiet who st (Some h) =
+pub archive_quiet : (may : Bool) (who : Here) (st : Stanza) (from : Option Address) (rows : List Row) → IsQuiet (asked may who st from rows)
+archive_quiet may who st from rows =
     quiet_either (gets mam_space (codes "query") st) _ _ (λ k. refl)
-    (quiet_either (may_read h who) _ _ (queried_quiet who st (query_in st)) (quiet_refused who st Forbidden))
+    (quiet_either may _ _ (queried_quiet who st from rows (query_in st)) (quiet_refused who st Forbidden))
 
-pub room_quiet : (rooms : Rooms) (who : Here) (st : Stanza) (place : Place) (found : Option Hosted) → IsQuiet (to_room rooms who st place found)
-room_quiet rooms who st place found =
+archived_quiet : (a : Archives) (who : Here) (st : Stanza) (found : Option Hosted) → IsQuiet (archived a who st found)
+archived_quiet a who st None = quiet_refused who st ItemNotFound
+archived_quiet a who st (Some h) = archive_quiet (may_read h who) who st (Some h.room.address) (rows_in a h).kept
+
+pub room_quiet : (world : World KeptTraffic) (who : Here) (st : Stanza) (place : Place) (found : Option Hosted)
+    → IsQuiet (to_room world who st place found)
+room_quiet world who st place found =
     quiet_either (discovers st) _ _ (λ k. refl)
-    (quiet_either (pings st) _ _ (λ k. refl) (quiet_either (queries mam_space st) _ _ (archived_quiet who st found) (asked_quiet who st found)))
+    (quiet_either (pings st) _ _ (λ k. refl)
+    (quiet_either (queries mam_space st) _ _ (archived_quiet world.archives who st found) (asked_quiet who st found)))
 
 left_quiet : (s : ℕ) (st : Option Stanza) (hs : List Hosted) → IsQuiet (flat_map (λ h. leave h.room s st) hs)
 left_quiet s st [] = λ k. refl
@@ -207,24 +235,26 @@ left_quiet s st (h ∷ hs) = quiet_both (leave h.room s st) (flat_map (λ x. lea
 pub rooms_left_quiet : (rooms : Rooms) (s : ℕ) (st : Option Stanza) → IsQuiet (leaves_rooms rooms s st)
 rooms_left_quiet rooms s st = left_quiet s st (rooms_of s rooms)
 
-present_quiet : (rooms : Rooms) (who : Here) (st : Stanza) (found : Option Hosted) → IsQuiet (present_in rooms who st found)
-present_quiet rooms who st None = enter_quiet None who.session rooms who st
-present_quiet rooms who st (Some h) =
-    quiet_either (is_in who.session h) _ _ (rename_quiet h.room who st) (enter_quiet (Some h.room) who.session rooms who st)
+present_quiet : (world : World KeptTraffic) (who : Here) (st : Stanza) (found : Option Hosted) → IsQuiet (present_in world who st found)
+present_quiet world who st None = enter_quiet None who.session world.rooms who st []
+present_quiet world who st (Some h) =
+    quiet_either (is_in who.session h) _ _ (rename_quiet h.room who st)
+    (enter_quiet (Some h.room) who.session world.rooms who st (past_in world.archives h))
 
 absent_quiet : (who : Here) (st : Stanza) (found : Option Hosted) → IsQuiet (absent_from who st found)
 absent_quiet who st None = λ k. refl
 absent_quiet who st (Some h) = leave_quiet h.room who.session (Some st)
 
-pub in_room_quiet : (rooms : Rooms) (who : Here) (st : Stanza) (form : PresenceForm) (found : Option Hosted) → IsQuiet (to_be_in rooms who st form found)
-in_room_quiet rooms who st Available found = present_quiet rooms who st found
-in_room_quiet rooms who st Unavailable found = absent_quiet who st found
-in_room_quiet rooms who st Subscribe found = λ k. refl
-in_room_quiet rooms who st Subscribed found = λ k. refl
-in_room_quiet rooms who st Unsubscribe found = λ k. refl
-in_room_quiet rooms who st Unsubscribed found = λ k. refl
-in_room_quiet rooms who st Probe found = λ k. refl
-in_room_quiet rooms who st Error found = λ k. refl
+pub in_room_quiet : (world : World KeptTraffic) (who : Here) (st : Stanza) (form : PresenceForm) (found : Option Hosted)
+    → IsQuiet (to_be_in world who st form found)
+in_room_quiet world who st Available found = present_quiet world who st found
+in_room_quiet world who st Unavailable found = absent_quiet who st found
+in_room_quiet world who st Subscribe found = λ k. refl
+in_room_quiet world who st Subscribed found = λ k. refl
+in_room_quiet world who st Unsubscribe found = λ k. refl
+in_room_quiet world who st Unsubscribed found = λ k. refl
+in_room_quiet world who st Probe found = λ k. refl
+in_room_quiet world who st Error found = λ k. refl
 
 -- what is cast
 
@@ -242,6 +272,7 @@ heard_quiet rooms (Broadcast n item) = copies_in_quiet (hosted_as n rooms) item
 heard_quiet rooms (Queue s to rest origin) = λ k. refl
 heard_quiet rooms (Enter n s address nick role) = λ k. refl
 heard_quiet rooms (Leave n s) = λ k. refl
+heard_quiet rooms (Keep user peer text moment) = λ k. refl
 heard_quiet rooms (Set c) = λ k. refl
 
 -- one effect, and then others
@@ -251,6 +282,7 @@ one_noted (Queue s to rest origin) xs ys same k = same k
 one_noted (Broadcast n item) xs ys same k = same k
 one_noted (Enter n s address nick role) xs ys same k = same k
 one_noted (Leave n s) xs ys same k = same k
+one_noted (Keep user peer text moment) xs ys same k = same k
 
 pub cast_noted : (es : List Effect) (rooms : Rooms) (k : Book) → noted_all (cast rooms es) k ≡ noted_all es k
 cast_noted [] rooms k = refl

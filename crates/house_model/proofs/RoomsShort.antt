@@ -4,7 +4,7 @@ use Rattle.std.specs.List.{AllByRecursion, filter, list_any}
 use Rattle.stanza_model.specs.declared.effect.Change.{Change}
 use Rattle.stanza_model.specs.declared.effect.Change.TheVariants as change
 use Rattle.stanza_model.specs.declared.effect.Effect.{Effect}
-use Rattle.stanza_model.specs.declared.effect.Effect.TheVariants.{Queue, Broadcast, Enter, Leave, Set}
+use Rattle.stanza_model.specs.declared.effect.Effect.TheVariants.{Queue, Broadcast, Enter, Leave, Keep, Set}
 use Rattle.stanza_model.specs.declared.room.Occupant.{Occupant}
 use Rattle.stanza_model.specs.declared.room.Role.{Role}
 use Rattle.stanza_model.specs.declared.room.Room.{Room}
@@ -19,7 +19,7 @@ use Rattle.house_model.specs.Fitting.{IsShortAddress, IsShortOccupant, IsShortRo
 use Rattle.house_model.proofs.ConfigSizes.{IsShortConfig}
 use Rattle.house_model.proofs.Founds.{append_all, filter_all}
 use Rattle.house_model.proofs.RoomCases.{map_all}
-use Rattle.house_model.proofs.SmallEffects.{R, Slight, SmallChange}
+use Rattle.house_model.proofs.SmallEffects.{R, Slight, SlightChange}
 use Rattle.house_model.proofs.StayLemmas.{choose}
 
 -- a room but for its affiliations
@@ -27,7 +27,7 @@ pub record IsShortBody (r : Room) : Type 0 where
   pub address : IsShortAddress r.address
   pub config : IsShortConfig r.config
   pub occupants : AllByRecursion IsShortOccupant r.occupants
-  pub subject : IfSome r.subject (λ s. length s.text ≤ 300000)
+  pub subject : IfSome r.subject (λ s. (length s.text ≤ 300000) × (length s.stamp ≤ 24))
 
 abbrev pub AreShortBodies : Rooms → Type 0
 AreShortBodies rooms = AllByRecursion (λ (h : Hosted). IsShortBody h.room) rooms.hosted
@@ -92,7 +92,7 @@ left_short s r short =
 
 -- what is set
 
-set_short : (c : Change) (rooms : Rooms) → SmallChange c → AreShortBodies rooms → AreShortBodies (service.set c rooms)
+set_short : (c : Change) (rooms : Rooms) → SlightChange c → AreShortBodies rooms → AreShortBodies (service.set c rooms)
 set_short (change.RoomMade n address owner) rooms small all =
     append_all (λ (h : Hosted). IsShortBody h.room) rooms.hosted (record { room = made_room n address owner; items = 0 } ∷ []) all
     (record { address = small; config = record { title = omega arith; secret = omega arith; most = omega arith }; occupants = tt; subject = tt }, tt)
@@ -123,8 +123,9 @@ set_short (change.OccupantShown n q presence) rooms small all =
     changed_bodies n (shows q presence)
     (mapped (shown_if q presence) (λ o is. choose IsShortOccupant (has_seat q o) (record o { presence = presence; spoke = q }) o
     (λ (_ : _). record { seats = is.seats; nick = is.nick; presence = small }) (λ (_ : _). is))) rooms.hosted all
-set_short (change.Subject n text) rooms small all =
-    changed_bodies n (has_subject text) (λ r s. record { address = s.address; config = s.config; occupants = s.occupants; subject = small }) rooms.hosted all
+set_short (change.Subject n text stamp) rooms small all =
+    changed_bodies n (has_subject text stamp)
+    (λ r s. record { address = s.address; config = s.config; occupants = s.occupants; subject = small }) rooms.hosted all
 set_short c rooms small all = all
 
 step_short : (e : Effect) (rooms : Rooms) → Slight e → AreShortBodies rooms → AreShortBodies (step e rooms)
@@ -134,6 +135,7 @@ step_short (Enter n s address nick role) rooms small all =
     changed_bodies n (enters (record { session = s; address = address; stay = rooms.stays + 1 }) nick role)
     (λ r short. entered_short (record { session = s; address = address; stay = rooms.stays + 1 }) nick role r small.0 small.1 short) rooms.hosted all
 step_short (Leave n s) rooms small all = changed_bodies n (leaves s) (λ r short. left_short s r short) rooms.hosted all
+step_short (Keep user peer text moment) rooms small all = all
 step_short (Set c) rooms small all = set_short c rooms small all
 
 pub after_short : (es : List Effect) (rooms : Rooms) → AllByRecursion Slight es → AreShortBodies rooms → AreShortBodies (after rooms es)

@@ -9,7 +9,7 @@ use Rattle.jid_core.specs.Addresses.{Address}
 use Rattle.stanza_model.specs.declared.effect.Change.{Change}
 use Rattle.stanza_model.specs.declared.effect.Change.TheVariants as change
 use Rattle.stanza_model.specs.declared.effect.Effect.{Effect}
-use Rattle.stanza_model.specs.declared.effect.Effect.TheVariants.{Queue, Broadcast, Enter, Leave, Set}
+use Rattle.stanza_model.specs.declared.effect.Effect.TheVariants.{Queue, Broadcast, Enter, Leave, Keep, Set}
 use Rattle.stanza_model.specs.declared.room.Role.{Role}
 use Rattle.stanza_model.specs.declared.room.Room.{Room}
 use Rattle.stanza_model.specs.declared.room.Seat.{Seat}
@@ -86,7 +86,7 @@ ChangeNames n (change.Affiliated m address a) = m ≡ n
 ChangeNames n (change.RoleSet m s role) = m ≡ n
 ChangeNames n (change.Renamed m s nick) = m ≡ n
 ChangeNames n (change.OccupantShown m s presence) = m ≡ n
-ChangeNames n (change.Subject m text) = m ≡ n
+ChangeNames n (change.Subject m text stamp) = m ≡ n
 ChangeNames n c = ⊤
 
 abbrev pub Names : ℕ → Effect → Type 0
@@ -94,6 +94,7 @@ Names n (Queue s to rest origin) = ⊤
 Names n (Broadcast m item) = m ≡ n
 Names n (Enter m s address nick role) = ⊥
 Names n (Leave m s) = m ≡ n
+Names n (Keep user peer text moment) = ⊤
 Names n (Set c) = ChangeNames n c
 
 -- who is in the room afterwards
@@ -132,9 +133,9 @@ set_crowd rooms (change.Renamed m s nick) n is j =
 set_crowd rooms (change.OccupantShown m s presence) n is j =
     subst (IsPut rooms (changed m (shows s presence) rooms) j (λ k. crowd_at k rooms)) is
     (kept_crowd rooms m (shows s presence) (λ x. refl) (same_seats_in (shown_if s presence) (shown_seats s presence)) j)
-set_crowd rooms (change.Subject m text) n is j =
-    subst (IsPut rooms (changed m (has_subject text) rooms) j (λ k. crowd_at k rooms)) is
-    (kept_crowd rooms m (has_subject text) (λ x. refl) (λ x. refl) j)
+set_crowd rooms (change.Subject m text stamp) n is j =
+    subst (IsPut rooms (changed m (has_subject text stamp) rooms) j (λ k. crowd_at k rooms)) is
+    (kept_crowd rooms m (has_subject text stamp) (λ x. refl) (λ x. refl) j)
 set_crowd rooms c n is j = put_keeps n (λ k. crowd_at k rooms) j
 
 step_crowd : (rooms : Rooms) (e : Effect) (n : ℕ) → Names n e → (j : ℕ)
@@ -147,6 +148,7 @@ step_crowd rooms (Leave m s) n is j =
     subst (IsPut rooms (changed m (leaves s) rooms) j (λ k. option_map (without s) (crowd_at k rooms))) is
     (changed_crowd rooms m (leaves s) (without s) (λ x. refl)
     (λ x. seats_kept (map (without_seat s) x.occupants) ∙ seats_left s x.occupants) j)
+step_crowd rooms (Keep user peer text moment) n is j = put_keeps n (λ k. crowd_at k rooms) j
 step_crowd rooms (Set c) n is j = set_crowd rooms c n is j
 
 -- other rooms are as they were
@@ -199,7 +201,8 @@ ChangeMeets n inside (change.Affiliated m address a) = m ≡ n
 ChangeMeets n inside (change.RoleSet m s role) = (m ≡ n) × (sits s inside ≡ true)
 ChangeMeets n inside (change.Renamed m s nick) = (m ≡ n) × (sits s inside ≡ true)
 ChangeMeets n inside (change.OccupantShown m s presence) = (m ≡ n) × (sits s inside ≡ true)
-ChangeMeets n inside (change.Subject m text) = m ≡ n
+ChangeMeets n inside (change.Subject m text stamp) = m ≡ n
+ChangeMeets n inside (change.RoomRow m peer text moment) = m ≡ n
 ChangeMeets n inside c = ⊤
 
 abbrev pub Meets : ℕ → List Seat → Effect → Type 0
@@ -207,6 +210,7 @@ Meets n inside (Queue s to rest origin) = ⊤
 Meets n inside (Broadcast m item) = m ≡ n
 Meets n inside (Enter m s address nick role) = ⊥
 Meets n inside (Leave m s) = (m ≡ n) × (sits s inside ≡ true)
+Meets n inside (Keep user peer text moment) = ⊤
 Meets n inside (Set c) = ChangeMeets n inside c
 
 abbrev pub rest_by : Effect → List Seat → List Seat
@@ -230,7 +234,8 @@ set_names n inside (change.Affiliated m address a) is = is
 set_names n inside (change.RoleSet m s role) is = is.0
 set_names n inside (change.Renamed m s nick) is = is.0
 set_names n inside (change.OccupantShown m s presence) is = is.0
-set_names n inside (change.Subject m text) is = is
+set_names n inside (change.Subject m text stamp) is = is
+set_names n inside (change.RoomRow m peer text moment) is = tt
 set_names n inside c is = tt
 
 names : (n : ℕ) (inside : List Seat) (e : Effect) → Meets n inside e → Names n e
@@ -238,6 +243,7 @@ names n inside (Queue s to rest origin) is = tt
 names n inside (Broadcast m item) is = is
 names n inside (Enter m s address nick role) is = absurd is
 names n inside (Leave m s) is = is.0
+names n inside (Keep user peer text moment) is = tt
 names n inside (Set c) is = set_names n inside c is
 
 set_stays : (n : ℕ) (inside : List Seat) (c : Change) → ChangeMeets n inside c → (xs : List Seat) → set_by c (Some xs) ≡ Some xs
@@ -249,6 +255,7 @@ crowd_stays n inside (Queue s to rest origin) is xs = refl
 crowd_stays n inside (Broadcast m item) is xs = refl
 crowd_stays n inside (Enter m s address nick role) is xs = absurd is
 crowd_stays n inside (Leave m s) is xs = refl
+crowd_stays n inside (Keep user peer text moment) is xs = refl
 crowd_stays n inside (Set c) is xs = set_stays n inside c is xs
 
 rest_all : (e : Effect) (inside xs : List Seat) → ((s : ℕ) → sits s inside ≡ true → sits s xs ≡ true)
@@ -259,6 +266,7 @@ rest_all (Leave m q) inside xs all s is =
 rest_all (Queue q to rest origin) inside xs all s is = all s is
 rest_all (Broadcast m item) inside xs all s is = all s is
 rest_all (Enter m q address nick role) inside xs all s is = all s is
+rest_all (Keep user peer text moment) inside xs all s is = all s is
 rest_all (Set c) inside xs all s is = all s is
 
 step_holds : (rooms : Rooms) (e : Effect) (n : ℕ) (inside : List Seat) → Holds rooms n inside → Meets n inside e → Holds (step e rooms) n (rest_by e inside)
@@ -280,7 +288,8 @@ set_of rooms (change.RoleSet m s role) n inside holds is = subst (λ (k : ℕ). 
 set_of rooms (change.Renamed m s nick) n inside holds is = subst (λ (k : ℕ). IsInside rooms k s) (sym is.0) (in_it rooms n inside s holds is.1)
 set_of rooms (change.OccupantShown m s presence) n inside holds is =
     subst (λ (k : ℕ). IsInside rooms k s) (sym is.0) (in_it rooms n inside s holds is.1)
-set_of rooms (change.Subject m text) n inside holds is = subst (IsThere rooms) (sym is) (there rooms n inside holds)
+set_of rooms (change.Subject m text stamp) n inside holds is = subst (IsThere rooms) (sym is) (there rooms n inside holds)
+set_of rooms (change.RoomRow m peer text moment) n inside holds is = subst (IsThere rooms) (sym is) (there rooms n inside holds)
 set_of rooms c n inside holds is = tt
 
 one_of : (rooms : Rooms) (e : Effect) (n : ℕ) (inside : List Seat) → Holds rooms n inside → Meets n inside e → IsOf rooms e
@@ -288,6 +297,7 @@ one_of rooms (Queue s to rest origin) n inside holds is = tt
 one_of rooms (Broadcast m item) n inside holds is = subst (IsThere rooms) (sym is) (there rooms n inside holds)
 one_of rooms (Enter m s address nick role) n inside holds is = absurd is
 one_of rooms (Leave m s) n inside holds is = subst (λ (k : ℕ). IsInside rooms k s) (sym is.0) (in_it rooms n inside s holds is.1)
+one_of rooms (Keep user peer text moment) n inside holds is = tt
 one_of rooms (Set c) n inside holds is = set_of rooms c n inside holds is
 
 pub all_of : (es : List Effect) (rooms : Rooms) (n : ℕ) (inside : List Seat) → Holds rooms n inside → AllMeet n inside es → AreOf rooms es
@@ -326,7 +336,8 @@ calm_set rooms (change.Affiliated n address a) calm = absurd calm
 calm_set rooms (change.RoleSet n s role) calm = absurd calm
 calm_set rooms (change.Renamed n s nick) calm = absurd calm
 calm_set rooms (change.OccupantShown n s presence) calm = absurd calm
-calm_set rooms (change.Subject n text) calm = absurd calm
+calm_set rooms (change.Subject n text stamp) calm = absurd calm
+calm_set rooms (change.RoomRow n peer text moment) calm = absurd calm
 calm_set rooms c calm = tt
 
 calm_one : (rooms : Rooms) (e : Effect) → IsCalm e → IsOf rooms e
@@ -334,6 +345,7 @@ calm_one rooms (Queue s to rest origin) calm = tt
 calm_one rooms (Broadcast n item) calm = absurd calm
 calm_one rooms (Enter n s address nick role) calm = absurd calm
 calm_one rooms (Leave n s) calm = absurd calm
+calm_one rooms (Keep user peer text moment) calm = tt
 calm_one rooms (Set c) calm = calm_set rooms c calm
 
 pub calm_of : (es : List Effect) (rooms : Rooms) → AllByRecursion IsCalm es → AreOf rooms es

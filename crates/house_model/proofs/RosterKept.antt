@@ -15,6 +15,7 @@ use Rattle.stanza_model.specs.declared.effect.Effect.{Effect}
 use Rattle.stanza_model.specs.declared.effect.Effect.TheVariants.{Queue, Set}
 use Rattle.stanza_model.specs.declared.effect.Effect.TheVariants as effect
 use Rattle.stanza_model.specs.declared.here.Here.{Here}
+use Rattle.stanza_model.specs.declared.keeping.Keeping.{Keeping}
 use Rattle.stanza_model.specs.declared.kinds.MessageForm.{MessageForm}
 use Rattle.stanza_model.specs.declared.kinds.MessageForm.TheVariants as form
 use Rattle.stanza_model.specs.declared.kinds.PresenceForm.{PresenceForm}
@@ -22,7 +23,8 @@ use Rattle.stanza_model.specs.declared.kinds.PresenceForm.TheVariants.{Available
 use Rattle.stanza_model.specs.declared.shared.Shown.{Shown}
 use Rattle.stanza_model.specs.declared.stanza.Stanza.{Stanza}
 use Rattle.stanza_model.specs.declared.stanza.Stanza.TheVariants.{Message, Presence, Iq, Faulty}
-use Rattle.stanza_router.specs.Messages.{copied, deliveries, if_known, route_of, routed, to_full}
+use Rattle.stanza_router.specs.Messages.{addressed, deliveries, given, if_known, is_kept, is_to_oneself, is_too_much, plain_text, queued_as, route_of}
+use Rattle.stanza_router.specs.Messages.{routed, row_of, row_text, rows_for, to_full, told_text}
 use Rattle.stanza_router.specs.Messages as messages
 use Rattle.stanza_router.specs.Places.{place_of}
 use Rattle.stanza_router.specs.declared.places.Place.{Place}
@@ -39,10 +41,13 @@ use Rattle.presence_core.specs.Copies.{copies, copy_to, presence_text}
 use Rattle.presence_core.specs.DirectedPresence.{directed, delivered, has_room, with_address, without_address}
 use Rattle.presence_core.specs.Priorities.{priority_in}
 use Rattle.muc_service.specs.Rooms.{Rooms}
+use Rattle.mam_wire.specs.Answers.{mam_space}
+use Rattle.house_model.specs.ArchiveLookups.{keeping_for}
+use Rattle.house_model.specs.Archives.{archived_of}
 use Rattle.house_model.specs.Effects.{apply, apply_all}
 use Rattle.house_model.specs.Lookups.{has_user, here, sessions_of}
 use Rattle.house_model.specs.Presences.{asking, directed_by, length_sent, most_of_presence, named, party, shown, watchers}
-use Rattle.house_model.specs.Requests.{pings, begins_session, binds_resource, discovers, gets, sets}
+use Rattle.house_model.specs.Requests.{pings, begins_session, binds_resource, discovers, gets, queries, sets}
 use Rattle.house_model.specs.Routing.{Scene, between, broadcast, departure, departure_by, directed_if, effects_at, effects_by, effects_in}
 use Rattle.house_model.specs.Routing.{error_to, has_account, iq, live_for, message, own_contacts, parted, presence, presence_to, receivers}
 use Rattle.house_model.specs.RoomLookups.{room_for}
@@ -51,7 +56,7 @@ use Rattle.house_model.specs.Routing.{to_service, to_session, to_user, to_users,
 use Rattle.house_model.specs.States.{World}
 use Rattle.house_model.specs.Steps.{effect_of, set}
 use Rattle.house_model.specs.Traffic.{KeptTraffic, brief}
-use Rattle.house_model.proofs.RoomsQuiet.{in_room_quiet, room_quiet, rooms_left_quiet, to_all_quiet, to_one_quiet}
+use Rattle.house_model.proofs.RoomsQuiet.{archive_quiet, in_room_quiet, room_quiet, rooms_left_quiet, to_all_quiet, to_one_quiet}
 
 -- Messages.
 
@@ -84,12 +89,31 @@ module _ (who : Here) (st : Stanza) (es : List Effect) (quiet : IsQuiet es) wher
   routed_quiet (Room room) known form hs = λ k. refl
   routed_quiet (RoomAt room nick) known form hs = λ k. refl
 
-deliveries_quiet : (who : Here) (st : Stanza) (place : Place) (known : Bool) (hs : List Here) → IsQuiet (deliveries who st place known hs)
-deliveries_quiet who (Message to form e) place known hs =
-    routed_quiet who (Message to form e) (map (copied who to e) hs) (quiet_map (copied who to e) (λ h k. refl) hs) place known form hs
-deliveries_quiet who (Presence to form e) place known hs = λ k. refl
-deliveries_quiet who (Iq to id form e) place known hs = λ k. refl
-deliveries_quiet who (Faulty kind to id answered condition) place known hs = λ k. refl
+row_quiet : (user : Option (List ℕ)) (peer : Address) (text : List ℕ) (moment : ℕ) → IsQuiet (row_of user peer text moment)
+row_quiet None peer text moment = λ k. refl
+row_quiet (Some user) peer text moment = λ k. refl
+
+given_quiet : (who : Here) (st : Stanza) (to : Option Address) (form : MessageForm) (e : Element) (keeping : Keeping) (sessions : List ℕ)
+    → IsQuiet (given who st to form e keeping sessions)
+given_quiet who st to form e keeping sessions =
+    quiet_either (is_kept form e) _ _
+    (quiet_either (is_too_much who to e keeping) _ _ (quiet_refused who st ResourceConstraint)
+    (quiet_both (map (queued_as who to (told_text who to e keeping.row)) sessions) (rows_for who to (row_text who to e) keeping.moment)
+    (quiet_map (queued_as who to (told_text who to e keeping.row)) (λ s k. refl) sessions)
+    (quiet_both (row_of who.address.local (addressed who to) (row_text who to e) keeping.moment) _
+    (row_quiet who.address.local (addressed who to) (row_text who to e) keeping.moment)
+    (quiet_either (is_to_oneself who to) [] _ (λ k. refl) (row_quiet (addressed who to).local who.address (row_text who to e) keeping.moment)))))
+    (quiet_map (queued_as who to (plain_text who to e)) (λ s k. refl) sessions)
+
+deliveries_quiet : (who : Here) (st : Stanza) (place : Place) (known : Bool) (hs : List Here) (keeping : Keeping)
+    → IsQuiet (deliveries who st place known hs keeping)
+deliveries_quiet who (Message to form e) place known hs keeping =
+    let sessions : List ℕ = map (λ (h : Here). h.session) hs in
+    routed_quiet who (Message to form e) (given who (Message to form e) to form e keeping sessions)
+    (given_quiet who (Message to form e) to form e keeping sessions) place known form hs
+deliveries_quiet who (Presence to form e) place known hs keeping = λ k. refl
+deliveries_quiet who (Iq to id form e) place known hs keeping = λ k. refl
+deliveries_quiet who (Faulty kind to id answered condition) place known hs keeping = λ k. refl
 
 -- Requests.
 
@@ -193,10 +217,10 @@ module _ (o : Scene) (own : List ℕ) (who : Here) where
   message_kept : (st : Stanza) (form : MessageForm) (e : Element) (place : Place) → Keeps (message o own who st form e place)
   message_kept st form e place = quiet (message o own who st form e place) (by place)
     where
-      found : (place : Place) → IsQuiet (to_users o.users o.world who st form place (user_in own place))
+      found : (place : Place) → IsQuiet (to_users o who st form place (user_in own place))
       found place =
           let hs = receivers o.world form place (user_in own place) (live_for o.world place (to_in st)) in
-          deliveries_quiet who st place (has_account o.users (user_in own place) hs) hs
+          deliveries_quiet who st place (has_account o.users (user_in own place) hs) hs (keeping_for o.world.archives who (to_in st) o.moment)
 
       by : (place : Place) → IsQuiet (message o own who st form e place)
       by (Room room) = to_all_quiet o who st form e (room_for o.world.rooms (to_in st))
@@ -221,7 +245,10 @@ module _ (o : Scene) (own : List ℕ) (who : Here) where
   account_kept : (st : Stanza) → Keeps (to_account o own who st)
   account_kept st =
       either (gets roster_space (codes "query") st) _ _ (λ are. are)
-      (either (sets roster_space (codes "query") st) _ _ (changed_kept st) (quiet (to_server who st Account) (server_quiet who st Account)))
+      (either (sets roster_space (codes "query") st) _ _ (changed_kept st)
+      (either (queries mam_space st) _ _
+      (quiet (archived_of o.world.archives own who st) (archive_quiet true who st None (o.world.archives.users own).kept))
+      (quiet (to_server who st Account) (server_quiet who st Account))))
 
   iq_kept : (st : Stanza) (to : Option Address) (e : Element) (place : Place) → Keeps (iq o own who st to e place)
   iq_kept st to e Account = account_kept st
@@ -232,7 +259,7 @@ module _ (o : Scene) (own : List ℕ) (who : Here) where
   iq_kept st to e Service = quiet (to_service o.world.rooms who st Service) (service_quiet o.world.rooms who st Service)
   iq_kept st to e (Room room) =
       let found = room_for o.world.rooms to in
-      quiet (to_room o.world.rooms who st (Room room) found) (room_quiet o.world.rooms who st (Room room) found)
+      quiet (to_room o.world who st (Room room) found) (room_quiet o.world who st (Room room) found)
   iq_kept st to e (RoomAt room nick) = refused_kept st ServiceUnavailable
   iq_kept st to e Foreign = refused_kept st RemoteServerNotFound
 
@@ -275,11 +302,11 @@ module _ (o : Scene) (own : List ℕ) (who : Here) where
   address_kept to form e (Room room) =
       let st = Presence (Some to) form e in
       let found = room_for o.world.rooms (Some to) in
-      quiet (to_be_in o.world.rooms who st form found) (in_room_quiet o.world.rooms who st form found)
+      quiet (to_be_in o.world who st form found) (in_room_quiet o.world who st form found)
   address_kept to form e (RoomAt room nick) =
       let st = Presence (Some to) form e in
       let found = room_for o.world.rooms (Some to) in
-      quiet (to_be_in o.world.rooms who st form found) (in_room_quiet o.world.rooms who st form found)
+      quiet (to_be_in o.world who st form found) (in_room_quiet o.world who st form found)
   address_kept to form e Server = λ are. are
   address_kept to form e Service = λ are. are
   address_kept to form e Foreign = λ are. are
@@ -339,7 +366,8 @@ set_book world (change.Affiliated n address a) = refl
 set_book world (change.RoleSet n s role) = refl
 set_book world (change.Renamed n s nick) = refl
 set_book world (change.OccupantShown n s presence) = refl
-set_book world (change.Subject n text) = refl
+set_book world (change.Subject n text stamp) = refl
+set_book world (change.RoomRow n peer text moment) = refl
 
 pub noted_book : (world : World KeptTraffic) (es : List Effect) → (apply_all brief world (map effect_of es)).book ≡ noted_all es world.book
 noted_book world [] = refl
@@ -347,4 +375,5 @@ noted_book world (Queue s to rest origin ∷ es) = noted_book (apply brief world
 noted_book world (effect.Broadcast n item ∷ es) = noted_book (apply brief world (effect_of (effect.Broadcast n item))) es
 noted_book world (effect.Enter n s address nick role ∷ es) = noted_book (apply brief world (effect_of (effect.Enter n s address nick role))) es
 noted_book world (effect.Leave n s ∷ es) = noted_book (apply brief world (effect_of (effect.Leave n s))) es
+noted_book world (effect.Keep user peer text moment ∷ es) = noted_book (apply brief world (effect_of (effect.Keep user peer text moment))) es
 noted_book world (Set c ∷ es) = noted_book (apply brief world (set c)) es ∙ ap (noted_all es) (set_book world c)

@@ -19,9 +19,11 @@ use Rattle.house_model.specs.Sessions.{Hold, Held, Away, Ended, Gone}
 use Rattle.house_model.specs.States.{State, keep}
 use Rattle.house_model.specs.Gate.{Verdict}
 use Rattle.house_model.specs.Steps.{verdict, turn}
+use Rattle.house_model.specs.Archiving.{AreArchives, keeps_from}
 use Rattle.house_model.specs.Histories.{Made, Turn, made, step, next, after, Legal, IsOpening}
 use Rattle.house_model.specs.Bridge.{hold_of, core_of, effects_ops, turn_ops, ops_of, alone_of}
 use Rattle.house_model.specs.Lines.{carried, arrivals}
+use Rattle.house_model.specs.Stays.{logs_of}
 use Rattle.house_model.specs.Resuming.{InTurn, is_live, IsNotFound, IsResumed}
 use Rattle.house_model.specs.Accounts.{IsAccountOf, total_handled}
 use Rattle.house_model.specs.Promises.{session_in, can_resume, number_of, too_high, reply_to, CarriesFrom, Resumption, Safe}
@@ -168,8 +170,8 @@ resumption o h starts legal = record {
   departs = departs_is (after o h);
 }
 
-pub safe : (o : State) (h : List Turn) → IsOpening o → Legal o h → Safe o h
-safe o h starts legal = record {
+pub safe : (o : State) (h : List Turn) → IsOpening o → Legal o h → AreArchives (after o h).world (logs_of o h).order (keeps_from o h) → Safe o h
+safe o h starts legal archived = record {
   handled_prefix = λ s a is. handled_is o h s a starts legal is;
   acted_once = λ s a is. acted_is o h s a starts legal is;
   resumption = resumption o h starts legal;
@@ -179,4 +181,5 @@ safe o h starts legal = record {
   closings = closings_are o h starts;
   queueing = queueing o h starts;
   deliveries = deliveries o h starts;
+  archived = archived;
 }

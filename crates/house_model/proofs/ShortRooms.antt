@@ -28,7 +28,7 @@ use Rattle.house_model.specs.Sessions.{Act, End}
 use Rattle.house_model.specs.Sessions as sessions
 use Rattle.house_model.specs.Traffic.{KeptTraffic, Traffic, whole}
 use Rattle.house_model.specs.States.{Kept, World, State, keep, keep_world}
-use Rattle.house_model.specs.Effects.{Effect, Open, At, Begin, Note, Hosts, Leave, Close, On, apply, apply_all}
+use Rattle.house_model.specs.Effects.{Effect, Open, At, Begin, Note, Hosts, Files, Leave, Close, On, apply, apply_all}
 use Rattle.house_model.specs.Fitting.{AreShortAddresses, AreShortRooms, IsShortAddress}
 use Rattle.house_model.specs.Gate.{Waits, Knows, Holds, Needs, to_login, to_bind, to_manage, to_act, to_ask, to_pull, most_answers, left, closed, gate_at}
 use Rattle.house_model.specs.Histories as histories
@@ -86,7 +86,7 @@ by_kind_to : (k : Option Kind) (e : Element) (st : Stanza) → option_map (λ k.
 by_kind_to None e st is = absurd (cc)
 by_kind_to (Some k) e st is = subst (λ (x : Stanza). HasToOf e x) (let same : stanza_as k e ≡ st = cc in same) (as_to k e)
 
-sent_to : (st : Stanza) → IsSent st → IfSome (to_in st) IsShortAddress
+pub sent_to : (st : Stanza) → IsSent st → IfSome (to_in st) IsShortAddress
 sent_to st sent =
     subst (λ (to : Option Address). IfSome to IsShortAddress) (sym (by_kind_to (kind_of sent.element) sent.element st sent.read))
     (read (address_in sent.element) refl)
@@ -137,6 +137,7 @@ one_rooms (At w op) world plain = refl
 one_rooms (Begin w c a) world plain = absurd plain
 one_rooms (Note c) world plain = refl
 one_rooms (Hosts e) world plain = absurd plain
+one_rooms (Files filing) world plain = absurd plain
 one_rooms (On s op) world plain = refl
 
 plain_rooms : (es : List Effect) (world : World Traffic) → ArePlain es → (apply_all whole world es).rooms ≡ world.rooms

@@ -16,7 +16,7 @@ use Rattle.house_model.specs.declared.event.Event.TheVariants as event
 use Rattle.house_model.specs.Sessions.{Op, Push, Pull, Request, Enable, Ack, Tell, Act, Drop, Resume, End, Part, Marks}
 use Rattle.house_model.specs.Traffic.{Traffic, whole}
 use Rattle.house_model.specs.States.{World, State, keep}
-use Rattle.house_model.specs.Effects.{Effect, Open, At, Begin, On, Note, Hosts, apply}
+use Rattle.house_model.specs.Effects.{Effect, Open, At, Begin, On, Note, Hosts, Files, apply}
 use Rattle.house_model.specs.Steps.{verdict, turn}
 use Rattle.house_model.specs.Histories.{Turn, Made, Short, Legal, IsOpening}
 use Rattle.house_model.specs.Sound.{Sound}
@@ -166,6 +166,7 @@ effect_no_short k world (Open w) s = refl
 effect_no_short k world (At w op) s = refl
 effect_no_short k world (Note change) s = refl
 effect_no_short k world (Hosts x) s = refl
+effect_no_short k world (Files filing) s = refl
 effect_no_short k world (Begin w c a) s =
     quiet_if one_shorts (eqb k (world.made + 1)) (one.Begin c ∷ []) s (one_no_short s (one.Begin c) tt)
 effect_no_short k world (On j op) s = quiet_if one_shorts (eqb k j) (op_ops op) s (op_no_short s op)

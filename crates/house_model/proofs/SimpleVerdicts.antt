@@ -11,7 +11,7 @@ use Rattle.house_model.specs.Sessions.{Hold, Held, Away, Ended, Gone, Op, Sessio
 use Rattle.house_model.specs.Sessions as sessions
 use Rattle.house_model.specs.Traffic.{KeptTraffic, brief, kept_sent}
 use Rattle.house_model.specs.States.{Kept}
-use Rattle.house_model.specs.Effects.{Effect, At, Begin, Hosts, Leave, On}
+use Rattle.house_model.specs.Effects.{Effect, At, Begin, Hosts, Files, Leave, On}
 use Rattle.house_model.specs.Gate.{Verdict, Waits, Knows, Holds}
 use Rattle.house_model.specs.Gate.{left, left_by, closed}
 use Rattle.house_model.specs.Steps.{logs_in, enables, takes, resumes_by, is_known, resumes, acks}
@@ -29,6 +29,7 @@ abbrev pub IsSimple : Effect → Type 0
 IsSimple (On s op) = IsSimpleOp op
 IsSimple (Begin w c a) = ⊥
 IsSimple (Hosts e) = ⊥
+IsSimple (Files filing) = ⊥
 IsSimple e = ⊤
 
 abbrev pub ArePlain : List Effect → Type 0

@@ -12,7 +12,7 @@ use Rattle.stanza_tree.proofs.Bounds.{length-frame, length-value_text-le}
 use Rattle.stanza_model.specs.declared.effect.Change.{Change}
 use Rattle.stanza_model.specs.declared.effect.Change.TheVariants as change
 use Rattle.stanza_model.specs.declared.effect.Effect.{Effect}
-use Rattle.stanza_model.specs.declared.effect.Effect.TheVariants.{Queue, Broadcast, Enter, Leave, Set}
+use Rattle.stanza_model.specs.declared.effect.Effect.TheVariants.{Queue, Broadcast, Enter, Leave, Keep, Set}
 use Rattle.stanza_model.specs.declared.room.Occupant.{Occupant}
 use Rattle.stanza_model.specs.declared.room.Room.{Room}
 use Rattle.stanza_model.specs.declared.room.Seat.{Seat}
@@ -36,7 +36,8 @@ SmallChange (change.RoomMade n address owner) = IsShortAddress address
 SmallChange (change.Configured n config) = IsShortConfig config
 SmallChange (change.Renamed n s nick) = IsShortNick nick
 SmallChange (change.OccupantShown n s presence) = length presence ≤ 16384
-SmallChange (change.Subject n text) = length text ≤ 300000
+SmallChange (change.Subject n text stamp) = (length text ≤ 300000) × (length stamp ≤ 24)
+SmallChange (change.RoomRow n peer text moment) = length text ≤ 300000
 SmallChange c = ⊤
 
 abbrev pub Small : Effect → Type 0
@@ -44,10 +45,12 @@ Small (Queue s to rest origin) = IsSmall (Queue s to rest origin)
 Small (Broadcast n item) = IsShortItem item
 Small (Enter n s address nick role) = IsShortAddress address × IsShortNick nick
 Small (Leave n s) = ⊤
+Small (Keep user peer text moment) = length text ≤ 300000
 Small (Set c) = SmallChange c
 
 pub change_small : (c : Change) → SmallChange c → IsSmall (Set c)
 change_small (change.Available s stanza priority) is = is
+change_small (change.RoomRow n peer text moment) is = is
 change_small c is = tt
 
 pub small_is : (e : Effect) → Small e → IsSmall e
@@ -55,22 +58,33 @@ small_is (Queue s to rest origin) is = is
 small_is (Broadcast n item) is = tt
 small_is (Enter n s address nick role) is = tt
 small_is (Leave n s) is = tt
+small_is (Keep user peer text moment) is = is
 small_is (Set c) is = change_small c is
 
--- what is set of rooms is short, whatever is queued and broadcast
+-- what is set of rooms is short, whatever is queued, broadcast and kept
+abbrev pub SlightChange : Change → Type 0
+SlightChange (change.RoomRow n peer text moment) = ⊤
+SlightChange c = SmallChange c
+
 abbrev pub Slight : Effect → Type 0
 Slight (Queue s to rest origin) = ⊤
 Slight (Broadcast n item) = ⊤
 Slight (Enter n s address nick role) = IsShortAddress address × IsShortNick nick
 Slight (Leave n s) = ⊤
-Slight (Set c) = SmallChange c
+Slight (Keep user peer text moment) = ⊤
+Slight (Set c) = SlightChange c
+
+slight_change : (c : Change) → SmallChange c → SlightChange c
+slight_change (change.RoomRow n peer text moment) is = tt
+slight_change c is = is
 
 slight_is : (e : Effect) → Small e → Slight e
 slight_is (Queue s to rest origin) is = tt
 slight_is (Broadcast n item) is = tt
 slight_is (Enter n s address nick role) is = is
 slight_is (Leave n s) is = tt
-slight_is (Set c) is = is
+slight_is (Keep user peer text moment) is = tt
+slight_is (Set c) is = slight_change c is
 
 pub slight_all : (es : List Effect) → AllByRecursion Small es → AllByRecursion Slight es
 slight_all [] all = tt

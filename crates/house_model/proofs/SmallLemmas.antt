@@ -8,12 +8,11 @@ use Rattle.std.proofs.lemmas.Grind.{common_steps}
 use Rattle.stanza_tree.specs.Attributes.{attr_of, is_named}
 use Rattle.stanza_tree.specs.Entries.{frame}
 use Rattle.stanza_tree.specs.Spelling.{value_text, needs_prefix, prefixed, unprefixed, attributes, client_space, text}
-use Rattle.stanza_tree.specs.Stamps.{sent_by}
 use Rattle.stanza_tree.specs.declared.frame.Origin.TheVariants.{Direct}
 use Rattle.stanza_tree.specs.declared.node.Attr.{Attr}
 use Rattle.stanza_tree.specs.declared.node.Element.{Element}
-use Rattle.stanza_tree.proofs.Bounds.{length-frame, length-text-sent-le, length-value_text-le}
-use Rattle.jid_core.specs.Addresses.{Address, bare, local_text, resource_text, address_text, same_bare}
+use Rattle.stanza_tree.proofs.Bounds.{length-frame, length-value_text-le}
+use Rattle.jid_core.specs.Addresses.{Address, address_text, same_bare}
 use Rattle.stanza_model.specs.Errors.{plain_attr}
 use Rattle.stanza_model.specs.Kinds.{message_form, presence_form, iq_form}
 use Rattle.stanza_model.specs.Replies.{error_of, one_child, result_of, said_to}
@@ -30,7 +29,7 @@ use Rattle.stanza_model.specs.declared.kinds.PresenceForm.TheVariants as presenc
 use Rattle.stanza_model.specs.declared.stanza.Stanza.{Stanza}
 use Rattle.stanza_model.specs.declared.stanza.Stanza.TheVariants.{Message, Presence, Iq, Faulty}
 use Rattle.stanza_model.proofs.StanzaLemmas.{stanza_of-element}
-use Rattle.stanza_router.specs.Messages.{addressed, copied}
+use Rattle.stanza_router.specs.Messages.{addressed}
 use Rattle.stanza_router.specs.declared.places.Place.{Place}
 use Rattle.contact_table.specs.Books.{bare_of}
 use Rattle.roster_book.specs.Requests.{listing}
@@ -49,14 +48,17 @@ use Rattle.house_model.specs.Histories.{IsSent, IsShortId, IsShortFault, StanzaF
 use Rattle.house_model.specs.Lookups.{here, sessions_of}
 use Rattle.house_model.specs.Presences.{asking, party}
 use Rattle.house_model.specs.Routing.{Scene, departure, effects_in, own_contacts, parted, user_in, user_removed}
+use Rattle.house_model.proofs.ArchiveSmall.{few_in, page_le, past_short, row_few, shown_small}
+use Rattle.house_model.proofs.CopySizes.{bare-le, copy-small, plain-small, row-short, told-small}
 use Rattle.house_model.proofs.EffectCases.{effects_all}
+use Rattle.house_model.proofs.IdSizes.{name-short}
 use Rattle.house_model.proofs.Founds.{AreFound, IsHere, append_all, filter_all, numbers_found}
 use Rattle.house_model.proofs.NameSizes.{local-le, user-short}
 use Rattle.house_model.proofs.RosterCases.{all_told_at, found_at, parted_all, set_all, tells}
 use Rattle.house_model.proofs.RosterSizes.{listing-le}
 use Rattle.house_model.proofs.RosterSmall.{IsShortItem, IsShortName, IsShortText, small-reaches, small-seen}
 use Rattle.house_model.proofs.WantedSizes.{changed-le, user-removed-short, wanted-short}
-use Rattle.house_model.proofs.PresenceCases.{departure_all}
+use Rattle.house_model.proofs.PresenceCases.{departure_all, keeping_of}
 use Rattle.house_model.proofs.ReplySizes.{spelt_length, under-le, under-parts, plain-attributes, plain-declared, error-reply-le, empty-reply-le}
 use Rattle.house_model.proofs.ArchiveSizes as archives
 use Rattle.house_model.proofs.DiscoverySizes.{IsShortListed, discovery-le}
@@ -163,34 +165,7 @@ element-small st e (inl sent) is =
     subst (λ (x : Element). length (text x) ≤ 196608) (stanza_of-element sent.element st e sent.read is) sent.small
 element-small st e (inr short) is = absurd (no-fault st e is short)
 
--- Copies and replies. Without an address a stanza is for the sender's bare address, which is no longer than the full one.
-pub bare-le : (a : Address) → length (address_text (bare a)) ≤ length (address_text a)
-bare-le a =
-    omega (
-      arith,
-      length-append (local_text a.local ++ a.domain) (resource_text a.resource),
-      length-append (local_text a.local ++ a.domain) [],
-    )
-
-addressed-le : (who : Here) (to : Option Address) → length (address_text who.address) ≤ 3071
-    → IfSome to (λ a. length (address_text a) ≤ 3071) → length (address_text (addressed who to)) ≤ 3071
-addressed-le who None own short = omega (arith, own, bare-le who.address)
-addressed-le who (Some to) own short = short
-
-copy-small : (who receiver : Here) (to : Option Address) (e : Element) → length (text e) ≤ 196608
-    → length (address_text who.address) ≤ 3071 → IfSome to (λ a. length (address_text a) ≤ 3071)
-    → IsSmall (copied who to e receiver)
-copy-small who receiver to e small own short =
-    omega (
-      arith,
-      small,
-      own,
-      addressed-le who to own short,
-      length-frame (record { to = address_text (addressed who to); rest = text (sent_by (address_text who.address) e); origin = Direct }),
-      length-text-sent-le (address_text who.address) e,
-      length-value_text-le (address_text (addressed who to)),
-    )
-
+-- Replies.
 pub said-small : (who : Here) (e : Element) → length (text e) ≤ 500000 → length (address_text who.address) ≤ 3071
     → length (frame (record { to = address_text who.address; rest = text e; origin = Direct })) ≤ 524288
 said-small who e small own =
@@ -292,6 +267,7 @@ stanza_all o s st fits short to =
       bare_own = omega (arith, own, bare-le (here o.world s).address);
       refusal = λ condition. said-small (here o.world s) (error_of st condition) (error-reply-le st condition to id) own;
       element = λ e is. element-small st e fits is;
+      name = λ e is. name-short e st (read-of st e fits is);
       to = to;
       id = id;
     } in
@@ -302,10 +278,11 @@ stanza_all o s st fits short to =
       found = λ place. said-small (here o.world s) _ (discovery-le place st [] tt to id) own;
       told = λ place. said-small (here o.world s) _ (discovery-le place st (listed o.world.rooms) (listed-short o.world.rooms short.rooms) to id) own;
       form = said-small (here o.world s) _ (archives.form-le st to id) own;
-      page = said-small (here o.world s) _ (archives.page-le st to id) own;
+      shown = λ from rows q asked fits. shown_small o short s st own from rows q asked fits;
+      page = λ from rows q asked. said-small (here o.world s) _ (page_le o short st from rows q asked to id) own;
       said = λ form e is.
           to_all_small (here o.world s) st whole o form e (room_for o.world.rooms (to_in st)) (room-short o.world.rooms (to_in st) short.rooms)
-          (found-short o.world (called o.domain o.world e) short.addresses (called_are_found o.domain o.world e));
+          (found-short o.world (called o.domain o.world e) short.addresses (called_are_found o.domain o.world e)) (few_in o short);
       whispered = to_one_small (here o.world s) st whole (room_for o.world.rooms (to_in st)) (room-short o.world.rooms (to_in st) short.rooms);
       asks = λ h at.
           asked_small (here o.world s) st whole h
@@ -318,9 +295,15 @@ stanza_all o s st fits short to =
           (left_small s (Some st) (rooms_of s o.world.rooms) (words-short st (shown e is few))
           (rooms_all (λ (h : Hosted). IsShortRoom h.room) s o.world.rooms short.rooms));
       present = λ e is few.
-          present_small (here o.world s) st whole o.world.rooms (room_for o.world.rooms (to_in st))
-          (room-short o.world.rooms (to_in st) short.rooms) (shown e is few);
+          present_small (here o.world s) st whole o.world (room_for o.world.rooms (to_in st))
+          (room-short o.world.rooms (to_in st) short.rooms) (past_short o short) (shown e is few);
       copy = λ e h is found. copy-small (here o.world s) h (to_in st) e (element-small st e fits is) own to;
+      plain = λ e r is found. plain-small (here o.world s) (to_in st) e r (element-small st e fits is) own to;
+      numbered = λ e r is found.
+          told-small (here o.world s) (to_in st) e (keeping_of o s st).row r (element-small st e fits is)
+          (name-short e st (read-of st e fits is)) own to (row_few o short (addressed (here o.world s) (to_in st)).local);
+      sent = λ e user is named. row-short (here o.world s) (to_in st) e (element-small st e fits is) own to;
+      received = λ e user is named. row-short (here o.world s) (to_in st) e (element-small st e fits is) own to;
       presence = λ e h small is.
           shown-small (address_text h.address) (presence_text (here o.world s) e) (here-short o.world h short.addresses is) (omega (arith, small));
       show = λ h is.

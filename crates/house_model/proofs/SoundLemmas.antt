@@ -10,7 +10,7 @@ use Rattle.house_model.specs.Sessions.{Hold, Held, Away, Ended, Gone, Session, O
 use Rattle.house_model.specs.Sessions.{Act, Drop, Resume, End, Part, Marks, begun, unmade, session_step}
 use Rattle.house_model.specs.Traffic.{Traffic, whole}
 use Rattle.house_model.specs.States.{Line, World, empty_line, opening}
-use Rattle.house_model.specs.Effects.{Effect, Open, At, Begin, On, Note, Hosts, LineOp, Log, Say, Said, Leave, Close, logged, line_step}
+use Rattle.house_model.specs.Effects.{Effect, Open, At, Begin, On, Note, Hosts, Files, LineOp, Log, Say, Said, Leave, Close, logged, line_step}
 use Rattle.house_model.specs.Effects.{over_line, bound_line, moved_if, settled, touch, apply, apply_all}
 use Rattle.house_model.specs.Sound.{Sound}
 use Rattle.house_model.proofs.PutLemmas.{put_is, put_else}
@@ -168,6 +168,7 @@ apply_tied world (At v op) tied later w c k is =
 apply_tied world (Begin v d a) tied later w c k is = begin_tied v d a world tied later w c k is
 apply_tied world (Note change) tied later w c k is = tied w c k is
 apply_tied world (Hosts x) tied later w c k is = tied w c k is
+apply_tied world (Files filing) tied later w c k is = tied w c k is
 apply_tied world (On s op) tied later w c k is = touch_tied s op world tied w c k is
 
 pub unmade_stays : (op : Op) → session_step whole (unmade whole) op ≡ unmade whole
@@ -189,6 +190,7 @@ apply_later world (Open v) later s low = later s low
 apply_later world (At v op) later s low = later s low
 apply_later world (Note change) later s low = later s low
 apply_later world (Hosts x) later s low = later s low
+apply_later world (Files filing) later s low = later s low
 apply_later world (Begin v d a) later s low =
     put_else (world.made + 1) (begun whole v d a) world.sessions s (λ e. omega arith) ∙ later s (omega arith)
 apply_later world (On k op) later s low = elim (put_is k (session_step whole (world.sessions k) op) world.sessions s) [

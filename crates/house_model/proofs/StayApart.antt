@@ -15,8 +15,8 @@ use Rattle.stanza_model.specs.declared.room.Seat.{Seat}
 use Rattle.muc_room.specs.Seats.{has_nick, has_seat}
 use Rattle.muc_room.specs.States.{is_of, affiliated_if, set_affiliation, role_if, set_role}
 use Rattle.muc_service.specs.Rooms as service
-use Rattle.muc_service.specs.Rooms.{Hosted, Rooms, hosted_as, changed_in, changed, counted_in, counted, enters, leaves, unlocked, configured}
-use Rattle.muc_service.specs.Rooms.{renamed_if, renames, shown_if, shows, has_subject, made_room, step}
+use Rattle.muc_service.specs.Rooms.{Hosted, Rooms, changed, counted, enters, leaves, unlocked, configured}
+use Rattle.muc_service.specs.Rooms.{renames, shown_if, shows, has_subject, made_room, step}
 use Rattle.house_model.specs.Numbered.{put}
 use Rattle.house_model.specs.Traffic.{Traffic, whole}
 use Rattle.house_model.specs.States.{World}
@@ -109,7 +109,7 @@ module _ (rooms : Rooms) (distinct : (r : ℕ) → AreDistinct (seats_in (found 
       (free_in (found n rooms.hosted) nick h is suits) b) apart
   set_apart (change.OccupantShown n s presence) suits =
       change_apart rooms n (shows s presence) (λ x. refl) (λ h is b. apart_map (shown_if s presence) (shown_nick s presence) h.room.occupants b) apart
-  set_apart (change.Subject n text) suits = change_apart rooms n (has_subject text) (λ x. refl) (λ h is a. a) apart
+  set_apart (change.Subject n text stamp) suits = change_apart rooms n (has_subject text stamp) (λ x. refl) (λ h is a. a) apart
   set_apart c suits = apart
 
   pub step_apart : (made : ℕ) (addresses : ℕ → Address) (e : stanza.Effect) → Suits made addresses rooms e → Apart (step e rooms)
@@ -121,4 +121,5 @@ module _ (rooms : Rooms) (distinct : (r : ℕ) → AreDistinct (seats_in (found 
       let x : Seat = record { session = s; address = address; stay = rooms.stays + 1 } in
       change_apart rooms n (enters x nick role) (λ r. refl) (λ h is a. apart_occupied x nick role h.room a) apart
   step_apart made addresses (effect.Leave n s) suits = change_apart rooms n (leaves s) (λ x. refl) (λ h is a. apart_leaves s h.room a) apart
+  step_apart made addresses (effect.Keep user peer text moment) suits = apart
   step_apart made addresses (effect.Set c) suits = set_apart c suits

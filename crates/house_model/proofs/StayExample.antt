@@ -1,5 +1,5 @@
 -- A room with one session, told to its end: what suits, and what the logs and the session's queue are then.
-use Rattle.std.proofs.Common.{◌≡◌, List, [], ◌∷◌, length, map, refl, arith, Some, None}
+use Rattle.std.proofs.Common.{◌≡◌, List, [], ◌∷◌, length, map, false, refl, arith, Some, None}
 use Rattle.jid_core.specs.Addresses.{Address}
 use Rattle.stanza_tree.specs.Spelling as spelling
 use Rattle.stanza_model.specs.declared.effect.Change.TheVariants.{RoomMade}
@@ -27,8 +27,8 @@ start = (opening her ((97 ∷ []) ∷ []) 2).world
 -- She is bound, makes a room, enters it, hears one item, leaves, and another comes.
 abbrev told : List stanza.Effect
 told =
-    Set (RoomMade 1 room her) ∷ Enter 1 1 her (110 ∷ []) Moderator ∷ Broadcast 1 (Message (1 ∷ [])) ∷ Leave 1 1
-    ∷ Broadcast 1 (Message (2 ∷ [])) ∷ []
+    Set (RoomMade 1 room her) ∷ Enter 1 1 her (110 ∷ []) Moderator ∷ Broadcast 1 (Message (1 ∷ []) false room 0) ∷ Leave 1 1
+    ∷ Broadcast 1 (Message (2 ∷ []) false room 0) ∷ []
 
 abbrev parts : List Part
 parts = Alone (effects.Open 0) ∷ Alone (effects.Begin 0 1 her) ∷ Cast told ∷ []

@@ -1,5 +1,6 @@
 -- Lists of a stanza's effects that suit, one after another; those that name no room; and the addresses that tables read.
 use Rattle.std.proofs.Common.{◌≡◌, ℕ, List, [], ◌∷◌, ◌++◌, append_assoc, sym, refl, ap, ◌∙◌, subst, None}
+use Rattle.std.specs.Prelude.{⊤}
 use Rattle.std.specs.List.{AllByRecursion}
 use Rattle.jid_core.specs.Addresses.{Address}
 use Rattle.stanza_model.specs.declared.effect.Change.{Change}
@@ -30,6 +31,7 @@ cast_both rooms (x ∷ xs) ys =
 -- effects that name no room suit any rooms, change none, and are cast as they are
 
 abbrev pub IsCalm : stanza.Effect → Type 0
+IsCalm (effect.Keep user peer text moment) = ⊤
 IsCalm e = IsPlain (effect_of e)
 
 set_calm : (rooms : Rooms) (c : Change) → IsCalm (effect.Set c) → ChangeSuits rooms c × (step (effect.Set c) rooms ≡ rooms)
@@ -41,7 +43,8 @@ set_calm rooms (change.Affiliated n address a) calm = absurd calm
 set_calm rooms (change.RoleSet n s role) calm = absurd calm
 set_calm rooms (change.Renamed n s nick) calm = absurd calm
 set_calm rooms (change.OccupantShown n s presence) calm = absurd calm
-set_calm rooms (change.Subject n text) calm = absurd calm
+set_calm rooms (change.Subject n text stamp) calm = absurd calm
+set_calm rooms (change.RoomRow n peer text moment) calm = absurd calm
 set_calm rooms c calm = (tt, refl)
 
 -- it suits, changes no room, and has no views before it
@@ -53,6 +56,7 @@ one_calm made addresses rooms (effect.Queue s to rest origin) calm = (calm, refl
 one_calm made addresses rooms (effect.Broadcast n item) calm = absurd calm
 one_calm made addresses rooms (effect.Enter n s address nick role) calm = absurd calm
 one_calm made addresses rooms (effect.Leave n s) calm = absurd calm
+one_calm made addresses rooms (effect.Keep user peer text moment) calm = (tt, refl, refl)
 one_calm made addresses rooms (effect.Set c) calm = ((set_calm rooms c calm).0, (set_calm rooms c calm).1, refl)
 
 pub calm_suits : (made : ℕ) (addresses : ℕ → Address) (rooms : Rooms) (es : List stanza.Effect) → AllByRecursion IsCalm es → AllSuit made addresses rooms es

@@ -108,7 +108,7 @@ set_numbered rooms (change.Affiliated n address a) suits all = changed_numbered 
 set_numbered rooms (change.RoleSet n s role) suits all = changed_numbered n (set_role s role) rooms (λ x. refl) all
 set_numbered rooms (change.Renamed n s nick) suits all = changed_numbered n (renames s nick) rooms (λ x. refl) all
 set_numbered rooms (change.OccupantShown n s presence) suits all = changed_numbered n (shows s presence) rooms (λ x. refl) all
-set_numbered rooms (change.Subject n text) suits all = changed_numbered n (has_subject text) rooms (λ x. refl) all
+set_numbered rooms (change.Subject n text stamp) suits all = changed_numbered n (has_subject text stamp) rooms (λ x. refl) all
 set_numbered rooms c suits all = all
 
 pub step_numbered : (rooms : Rooms) (made : ℕ) (addresses : ℕ → Address) (e : stanza.Effect) → Suits made addresses rooms e → Numbered rooms
@@ -120,4 +120,5 @@ step_numbered rooms made addresses (effect.Broadcast n item) suits all =
 step_numbered rooms made addresses (effect.Enter n s address nick role) suits all =
     changed_numbered n (enters (record { session = s; address = address; stay = rooms.stays + 1 }) nick role) rooms (λ x. refl) all
 step_numbered rooms made addresses (effect.Leave n s) suits all = changed_numbered n (leaves s) rooms (λ x. refl) all
+step_numbered rooms made addresses (effect.Keep user peer text moment) suits all = all
 step_numbered rooms made addresses (effect.Set c) suits all = set_numbered rooms c suits all

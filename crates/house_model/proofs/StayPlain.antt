@@ -20,6 +20,10 @@ use Rattle.muc_owner.specs.Inviting.{invite}
 use Rattle.muc_admin.specs.Items.{admin_space}
 use Rattle.muc_owner.specs.Owning.{owner_space}
 use Rattle.muc_service.specs.Rooms.{Hosted, Rooms, hosted_as, is_in}
+use Rattle.archive_table.specs.Pages as pages
+use Rattle.mam_wire.specs.Stamps.{stamp_text}
+use Rattle.house_model.specs.ArchiveLookups.{keeping_in, past_in}
+use Rattle.house_model.specs.Archives as archives
 use Rattle.house_model.specs.Traffic.{KeptTraffic}
 use Rattle.house_model.specs.States.{World}
 use Rattle.house_model.specs.Lookups.{here, sessions_of}
@@ -31,7 +35,7 @@ use Rattle.house_model.specs.Routing.{departure, effects_in, leaves_rooms, own_c
 use Rattle.house_model.specs.Casts.{AllSuit}
 use Rattle.house_model.proofs.AdminSuits.{admin_easy, invite_easy, owner_easy}
 use Rattle.house_model.proofs.EffectCases.{effects_all}
-use Rattle.house_model.proofs.Founds.{append_all, either_all, numbers_found}
+use Rattle.house_model.proofs.Founds.{append_all, either_all, every, numbers_found}
 use Rattle.house_model.proofs.PresenceCases.{Covers, departure_all}
 use Rattle.house_model.proofs.RoomSuits.{Easy, direct_easy, easy_suits, enter_suits, leave_easy, refused_easy, rename_suits, say_easy}
 use Rattle.house_model.proofs.RosterCases.{IsSeen, Reaches, all_told_at, found_at, parted_all, party_seen, set_all, tells}
@@ -49,7 +53,7 @@ called_easy o who st e h =
 said_easy : (o : Scene) (who : Here) (st : Stanza) (form : MessageForm) (e : Element) (found : Option Hosted)
     → AllByRecursion Easy (to_all_in o who st form e found)
 said_easy o who st form e None = refused_easy who st (to_no_room form e)
-said_easy o who st message.Groupchat e (Some h) = say_easy h.room who st
+said_easy o who st message.Groupchat e (Some h) = say_easy h.room who st (keeping_in o.world.archives h o.moment) (stamp_text o.moment)
 said_easy o who st message.Chat e (Some h) = called_easy o who st e h
 said_easy o who st message.Normal e (Some h) = called_easy o who st e h
 said_easy o who st message.Headline e (Some h) = called_easy o who st e h
@@ -76,18 +80,23 @@ pub hosted_by : (rooms : Rooms) (to : Option Address) (h : Hosted) → Numbered 
 hosted_by rooms None h numbered is = absurd (let z : None ≡ Some h = is in cc)
 hosted_by rooms (Some to) h numbered is = found_itself rooms.made (λ x. same_bare x.room.address to) rooms.hosted h numbered is
 
-module _ (made : ℕ) (addresses : ℕ → Address) (rooms : Rooms) (numbered : Numbered rooms) (who : Here)
+module _ (made : ℕ) (addresses : ℕ → Address) (world : World KeptTraffic) (numbered : Numbered world.rooms) (who : Here)
     (known : who.session ≤ made) (own : who.address ≡ addresses who.session) where
+  abbrev rooms : Rooms
+  rooms = world.rooms
+
   present_suits : (st : Stanza) (to : Option Address) (found : Option Hosted) → room_for rooms to ≡ found
-      → AllSuit made addresses rooms (present_in rooms who st found)
+      → AllSuit made addresses rooms (present_in world who st found)
   present_suits st to None is =
-      enter_suits made addresses rooms (numbers_for rooms who.session) who refl known own None st
+      enter_suits made addresses rooms (numbers_for rooms who.session) who refl known own None st []
       (none_above rooms.made (rooms.made + 1) rooms.hosted numbered (omega arith))
   present_suits st to (Some h) is =
       let at : hosted_as h.room.number rooms ≡ Some h = hosted_by rooms to h numbered is in
-      choose (AllSuit made addresses rooms) (is_in who.session h) (rename h.room who st) (enter (Some h.room) (numbers_for rooms who.session) who st)
+      choose (AllSuit made addresses rooms) (is_in who.session h) (rename h.room who st)
+      (enter (Some h.room) (numbers_for rooms who.session) who st (past_in world.archives h))
       (λ (_ : _). rename_suits made addresses rooms h.room h at refl who st)
-      (λ (out : _). enter_suits made addresses rooms (numbers_for rooms who.session) who refl known own (Some h.room) st (h, at, refl, out))
+      (λ (out : _). enter_suits made addresses rooms (numbers_for rooms who.session) who refl known own (Some h.room) st (past_in world.archives h)
+      (h, at, refl, out))
 
 abbrev Any : {X : Type 0} → X → Type 0
 Any x = ⊤
@@ -101,8 +110,14 @@ covered o s x made addresses numbered known own = record {
   found = λ place. tt;
   told = λ place. tt;
   form = tt;
-  page = tt;
+  shown = λ from rows q asked short.
+      every (λ row. Easy (archives.shown_to (here o.world s) from q.queryid row)) (λ row. tt) (pages.shown rows q.filter q.ask);
+  page = λ from rows q asked. tt;
   copy = λ e h at found. tt;
+  plain = λ e r at found. tt;
+  numbered = λ e r at found. tt;
+  sent = λ e user at named. tt;
+  received = λ e user at named. tt;
   presence = λ e h small found. tt;
   show = λ h found. tt;
   asked = λ own. asks (asking o.domain o.world own);
@@ -128,7 +143,7 @@ covered o s x made addresses numbered known own = record {
       easy_suits made addresses o.world.rooms (es ++ leaves_rooms o.world.rooms s (Some x))
       (append_all Easy es _ easy (left_easy s (Some x) (rooms_of s o.world.rooms)));
   present = λ e is short.
-      present_suits made addresses o.world.rooms numbered (here o.world s) known own x (to_in x) (room_for o.world.rooms (to_in x)) refl;
+      present_suits made addresses o.world numbered (here o.world s) known own x (to_in x) (room_for o.world.rooms (to_in x)) refl;
 }
   where
     each : Reaches o.world Easy Any Any Any

@@ -37,8 +37,8 @@ abbrev twice : List Part
 twice =
     Alone (effects.Open 0) ∷ Alone (effects.Begin 0 1 her)
     ∷ Cast (
-    Set (RoomMade 1 room her) ∷ Enter 1 1 her nick Moderator ∷ Broadcast 1 (Message one) ∷ Leave 1 1 ∷ Broadcast 1 (Message two)
-    ∷ Enter 1 1 her nick Moderator ∷ Broadcast 1 (Message three) ∷ []
+    Set (RoomMade 1 room her) ∷ Enter 1 1 her nick Moderator ∷ Broadcast 1 (Message one false room 0) ∷ Leave 1 1
+    ∷ Broadcast 1 (Message two false room 0) ∷ Enter 1 1 her nick Moderator ∷ Broadcast 1 (Message three false room 0) ∷ []
     ) ∷ []
 
 abbrev twice_logs : Logs
@@ -72,8 +72,8 @@ abbrev both : List Part
 both =
     Alone (effects.Open 0) ∷ Alone (effects.Begin 0 1 her) ∷ Alone (effects.Open 1) ∷ Alone (effects.Begin 1 2 phone)
     ∷ Cast (
-    Set (RoomMade 1 room her) ∷ Enter 1 1 her nick Moderator ∷ Enter 1 2 phone nick Moderator ∷ Broadcast 1 (Message one) ∷ Leave 1 2
-    ∷ Broadcast 1 (Message two) ∷ []
+    Set (RoomMade 1 room her) ∷ Enter 1 1 her nick Moderator ∷ Enter 1 2 phone nick Moderator ∷ Broadcast 1 (Message one false room 0) ∷ Leave 1 2
+    ∷ Broadcast 1 (Message two false room 0) ∷ []
     ) ∷ []
 
 abbrev both_logs : Logs
@@ -132,8 +132,9 @@ full_stops x e v d held full =
 abbrev cut : List Part
 cut =
     Alone (effects.Open 0) ∷ Alone (effects.Begin 0 1 her) ∷ Alone (effects.On 1 (Enable None))
-    ∷ Cast (Set (RoomMade 1 room her) ∷ Enter 1 1 her nick Moderator ∷ Broadcast 1 (Message one) ∷ []) ∷ Alone (effects.On 1 Pull)
-    ∷ Alone (effects.On 1 (Drop 300000)) ∷ Cast (Broadcast 1 (Message two) ∷ []) ∷ Alone (effects.On 1 (Resume 1 2 1)) ∷ Alone (effects.On 1 Pull) ∷ []
+    ∷ Cast (Set (RoomMade 1 room her) ∷ Enter 1 1 her nick Moderator ∷ Broadcast 1 (Message one false room 0) ∷ []) ∷ Alone (effects.On 1 Pull)
+    ∷ Alone (effects.On 1 (Drop 300000)) ∷ Cast (Broadcast 1 (Message two false room 0) ∷ []) ∷ Alone (effects.On 1 (Resume 1 2 1))
+    ∷ Alone (effects.On 1 Pull) ∷ []
 
 abbrev cut_logs : Logs
 cut_logs = logs_through start (parts_effects start cut) no_logs

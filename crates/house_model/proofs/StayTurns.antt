@@ -9,7 +9,7 @@ use Rattle.house_model.specs.Sessions as sessions
 use Rattle.house_model.specs.Traffic.{Traffic, whole}
 use Rattle.house_model.specs.States.{World, State, opening}
 use Rattle.house_model.specs.Effects as effects
-use Rattle.house_model.specs.Effects.{Effect, On, Note, Hosts, apply, apply_all}
+use Rattle.house_model.specs.Effects.{Effect, On, Note, Hosts, Files, apply, apply_all}
 use Rattle.house_model.specs.Histories.{Outcome, Made, Short, Turn, next, next_by, after, IsOpening}
 use Rattle.house_model.specs.Stays.{IsWithin, Item, Stay, Unmade, Open, Ended, Logs, no_logs, Gapless, takes_entries, views, between, own, log_step}
 use Rattle.house_model.specs.Stays.{logs_through, turn_logs, logs_from, logs_of}
@@ -98,6 +98,7 @@ plain_good world logs (effects.Begin w c address) plain good = begin_good world 
 plain_good world logs (On s op) plain good = on_good world logs s op (no_item op plain) good
 plain_good world logs (Note change) plain good = good
 plain_good world logs (Hosts e) plain good = absurd plain
+plain_good world logs (Files filing) plain good = absurd plain
 
 plain_rooms : (world : World Traffic) (e : Effect) → IsPlain e → (apply whole world e).rooms ≡ world.rooms
 plain_rooms world (effects.Open w) plain = refl
@@ -106,6 +107,7 @@ plain_rooms world (effects.Begin w c address) plain = refl
 plain_rooms world (On s op) plain = refl
 plain_rooms world (Note change) plain = refl
 plain_rooms world (Hosts e) plain = absurd plain
+plain_rooms world (Files filing) plain = absurd plain
 
 plain_sure : (world : World Traffic) (logs : Logs) (e : Effect) → IsPlain e → Sure world logs → Sure (apply whole world e) (log_step world e logs)
 plain_sure world logs e plain sure = record {

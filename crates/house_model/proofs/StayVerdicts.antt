@@ -19,7 +19,7 @@ use Rattle.house_model.specs.Sessions.{Op, Act, End, Push}
 use Rattle.house_model.specs.Sessions as sessions
 use Rattle.house_model.specs.Traffic.{Traffic, whole}
 use Rattle.house_model.specs.States.{Kept, World, State, keep, keep_world}
-use Rattle.house_model.specs.Effects.{Effect, Open, At, Begin, Note, Hosts, Say, Leave, Close, On, apply, apply_all}
+use Rattle.house_model.specs.Effects.{Effect, Open, At, Begin, Note, Hosts, Files, Say, Leave, Close, On, apply, apply_all}
 use Rattle.house_model.specs.Gate.{Waits, Knows, Holds, Needs, to_login, to_bind, to_manage, to_act}
 use Rattle.house_model.specs.Gate.{to_ask, to_pull, most_answers, left, closed, gate_at}
 use Rattle.house_model.specs.Histories.{Outcome, Made, Short, Turn, next, next_by, after, IsOpening}
@@ -93,6 +93,7 @@ simple_plain (At w op) is = tt
 simple_plain (Begin w c a) is = absurd is
 simple_plain (Note c) is = tt
 simple_plain (Hosts e) is = absurd is
+simple_plain (Files filing) is = absurd is
 simple_plain (On s (Push entry)) is = absurd is
 simple_plain (On s op) is = tt
 
@@ -102,6 +103,7 @@ simple_lodges world (At w op) is = tt
 simple_lodges world (Begin w c a) is = absurd is
 simple_lodges world (Note c) is = tt
 simple_lodges world (Hosts e) is = absurd is
+simple_lodges world (Files filing) is = absurd is
 simple_lodges world (On s sessions.Part) is = absurd is
 simple_lodges world (On s op) is = tt
 
@@ -244,6 +246,7 @@ parts_known (p ∷ ps) world suits lodge housed =
       alone_housed (Note change) world plain lodges housed =
           housed_same world (apply whole world (Note change)) refl (λ q is. record { above = is.above; made = is.made; stays = is.stays }) housed
       alone_housed (Hosts x) world plain lodges housed = absurd plain
+      alone_housed (Files filing) world plain lodges housed = absurd plain
       alone_housed (On s sessions.Part) world plain lodges housed = parted_housed world s lodges housed
       alone_housed (On s op) world plain lodges housed = on_housed world s op tt housed
 

@@ -17,7 +17,9 @@ use Rattle.muc_service.specs.Casting.{heard, copies_in, cast}
 use Rattle.house_model.specs.Sessions.{Session, Op, Push, Marks, WantsRoster, Pushed, Shown, Hidden, Directs, session_step}
 use Rattle.house_model.specs.Traffic.{Traffic, whole}
 use Rattle.house_model.specs.States.{World}
-use Rattle.house_model.specs.Effects.{Effect, On, Hosts, apply, apply_all}
+use Rattle.archive_table.specs.Archives.{Archives, filed}
+use Rattle.archive_table.specs.declared.filing.Filing.TheVariants.{OfUser, OfRoom}
+use Rattle.house_model.specs.Effects.{Effect, On, Hosts, apply, apply_all, archives_with}
 use Rattle.house_model.specs.Steps.{effect_of, set}
 use Rattle.std.proofs.lemmas.Bool.{eq-eqb}
 use Rattle.house_model.specs.Stays as stays
@@ -91,8 +93,9 @@ set_good world logs (change.Renamed n s nick) suits good =
 set_good world logs (change.OccupantShown n s presence) suits good =
     same_hall world logs (changed n (shows s presence) world.rooms)
     (quiet_hall world.rooms n (shows s presence) (λ x. refl) (same_seats_in (shown_if s presence) (shown_seats s presence))) good
-set_good world logs (change.Subject n text) suits good =
-    same_hall world logs (changed n (has_subject text) world.rooms) (quiet_hall world.rooms n (has_subject text) (λ x. refl) (λ x. refl)) good
+set_good world logs (change.Subject n text stamp) suits good =
+    same_hall world logs (changed n (has_subject text stamp) world.rooms)
+    (quiet_hall world.rooms n (has_subject text stamp) (λ x. refl) (λ x. refl)) good
 set_good world logs c suits good = good
 
 -- one effect, with the views of a broadcast before it
@@ -106,6 +109,7 @@ cast_one world logs (effect.Queue s to rest origin) suits apart good =
 cast_one world logs (effect.Enter n s address nick role) suits apart good =
     entering_good world logs n s address nick role suits (λ h is. apart_one nick h.room.occupants (found_apart world.rooms n h apart is)) good
 cast_one world logs (effect.Leave n s) suits apart good = leave_good world.made world.sessions world.rooms logs good n s
+cast_one world logs (effect.Keep user peer text moment) suits apart good = good
 cast_one world logs (effect.Set c) suits apart good = set_good world logs c suits good
 cast_one world logs (effect.Broadcast n item) suits apart good =
     subst (GoodAfter world logs) (sym (map_push (heard world.rooms (effect.Broadcast n item)) (effect.Broadcast n item)))
@@ -154,7 +158,8 @@ set_rooms world (change.Affiliated n address a) = refl
 set_rooms world (change.RoleSet n s role) = refl
 set_rooms world (change.Renamed n s nick) = refl
 set_rooms world (change.OccupantShown n s presence) = refl
-set_rooms world (change.Subject n text) = refl
+set_rooms world (change.Subject n text stamp) = refl
+set_rooms world (change.RoomRow n peer text moment) = refl
 set_rooms world c = refl
 
 pub cast_rooms : (world : World Traffic) (e : stanza.Effect)
@@ -162,6 +167,7 @@ pub cast_rooms : (world : World Traffic) (e : stanza.Effect)
 cast_rooms world (effect.Queue s to rest origin) = refl
 cast_rooms world (effect.Enter n s address nick role) = refl
 cast_rooms world (effect.Leave n s) = refl
+cast_rooms world (effect.Keep user peer text moment) = refl
 cast_rooms world (effect.Set c) = set_rooms world c
 cast_rooms world (effect.Broadcast n item) =
     subst (λ (l : List Effect). (apply_all whole world l).rooms ≡ counted n world.rooms)
@@ -174,8 +180,11 @@ pub record IsSame (old new : World Traffic) : Type 0 where
   pub made : new.made ≡ old.made
   pub address : (s : ℕ) → addresses_in new s ≡ addresses_in old s
 
-no_change : (world : World Traffic) (rooms : Rooms) → IsSame world (record world { rooms = rooms })
-no_change world rooms = record { made = refl; address = λ s. refl }
+no_change : (world : World Traffic) (rooms : Rooms) (archives : Archives) → IsSame world (record world { rooms = rooms; archives = archives })
+no_change world rooms archives = record { made = refl; address = λ s. refl }
+
+hosts_same : (world : World Traffic) (e : stanza.Effect) → IsSame world (apply whole world (Hosts e))
+hosts_same world e = no_change world (step e world.rooms) (archives_with e world.archives)
 
 pub touch_same : (world : World Traffic) (s : ℕ) (op : Op) → IsSame world (apply whole world (On s op))
 touch_same world s op = record {
@@ -190,22 +199,24 @@ set_same world (change.Pushed s pushes) = touch_same world s (Marks (Pushed push
 set_same world (change.Available s stanza priority) = touch_same world s (Marks (Shown stanza priority))
 set_same world (change.Unavailable s) = touch_same world s (Marks Hidden)
 set_same world (change.Directed s addresses) = touch_same world s (Marks (Directs addresses))
-set_same world (change.RoomMade n address owner) = no_change world (service.set (change.RoomMade n address owner) world.rooms)
-set_same world (change.RoomGone n) = no_change world (service.set (change.RoomGone n) world.rooms)
-set_same world (change.Unlocked n) = no_change world (service.set (change.Unlocked n) world.rooms)
-set_same world (change.Configured n config) = no_change world (service.set (change.Configured n config) world.rooms)
-set_same world (change.Affiliated n address a) = no_change world (service.set (change.Affiliated n address a) world.rooms)
-set_same world (change.RoleSet n s role) = no_change world (service.set (change.RoleSet n s role) world.rooms)
-set_same world (change.Renamed n s nick) = no_change world (service.set (change.Renamed n s nick) world.rooms)
-set_same world (change.OccupantShown n s presence) = no_change world (service.set (change.OccupantShown n s presence) world.rooms)
-set_same world (change.Subject n text) = no_change world (service.set (change.Subject n text) world.rooms)
+set_same world (change.RoomMade n address owner) = hosts_same world (effect.Set (change.RoomMade n address owner))
+set_same world (change.RoomGone n) = hosts_same world (effect.Set (change.RoomGone n))
+set_same world (change.Unlocked n) = hosts_same world (effect.Set (change.Unlocked n))
+set_same world (change.Configured n config) = hosts_same world (effect.Set (change.Configured n config))
+set_same world (change.Affiliated n address a) = hosts_same world (effect.Set (change.Affiliated n address a))
+set_same world (change.RoleSet n s role) = hosts_same world (effect.Set (change.RoleSet n s role))
+set_same world (change.Renamed n s nick) = hosts_same world (effect.Set (change.Renamed n s nick))
+set_same world (change.OccupantShown n s presence) = hosts_same world (effect.Set (change.OccupantShown n s presence))
+set_same world (change.Subject n text stamp) = hosts_same world (effect.Set (change.Subject n text stamp))
+set_same world (change.RoomRow n peer text moment) = no_change world world.rooms (filed (OfRoom n peer text moment) world.archives)
 set_same world c = record { made = refl; address = λ s. refl }
 
 one_same : (world : World Traffic) (e : stanza.Effect) → IsSame world (apply whole world (effect_of e))
 one_same world (effect.Queue s to rest origin) = touch_same world s (Push (record { to = to; rest = rest; origin = origin }))
-one_same world (effect.Broadcast n item) = no_change world (step (effect.Broadcast n item) world.rooms)
-one_same world (effect.Enter n s address nick role) = no_change world (step (effect.Enter n s address nick role) world.rooms)
-one_same world (effect.Leave n s) = no_change world (step (effect.Leave n s) world.rooms)
+one_same world (effect.Broadcast n item) = hosts_same world (effect.Broadcast n item)
+one_same world (effect.Enter n s address nick role) = hosts_same world (effect.Enter n s address nick role)
+one_same world (effect.Leave n s) = hosts_same world (effect.Leave n s)
+one_same world (effect.Keep user peer text moment) = no_change world world.rooms (filed (OfUser user peer text moment) world.archives)
 one_same world (effect.Set c) = set_same world c
 
 pub all_same : (es : List stanza.Effect) (world : World Traffic) → IsSame world (apply_all whole world (map effect_of es))

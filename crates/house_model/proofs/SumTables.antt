@@ -8,8 +8,10 @@ use Rattle.stanza_model.specs.Replies.{refused}
 use Rattle.stanza_model.specs.Stanzas.{to_in}
 use Rattle.stanza_model.specs.declared.condition.Condition.TheVariants.{BadRequest, ItemNotFound, ServiceUnavailable}
 use Rattle.stanza_model.specs.declared.here.Here.{Here}
+use Rattle.stanza_model.specs.declared.keeping.Keeping.{Keeping}
 use Rattle.stanza_model.specs.declared.kinds.MessageForm.{MessageForm}
 use Rattle.stanza_model.specs.declared.kinds.MessageForm.TheVariants as message
+use Rattle.stanza_model.specs.declared.room.Delayed.{Delayed}
 use Rattle.stanza_model.specs.declared.room.Room.{Room}
 use Rattle.stanza_model.specs.declared.stanza.Stanza.{Stanza}
 use Rattle.contact_table.specs.Books.{bare_of}
@@ -23,6 +25,10 @@ use Rattle.muc_owner.specs.Inviting.{invite}
 use Rattle.muc_admin.specs.Items.{admin_space}
 use Rattle.muc_owner.specs.Owning.{owner, owner_space}
 use Rattle.muc_service.specs.Rooms.{Hosted, Rooms, hosted_as, is_in}
+use Rattle.archive_table.specs.Pages as pages
+use Rattle.mam_wire.specs.Stamps.{stamp_text}
+use Rattle.house_model.specs.ArchiveLookups.{keeping_in, past_in}
+use Rattle.house_model.specs.Archives as archives
 use Rattle.house_model.specs.Fitting.{IsShortAddress}
 use Rattle.house_model.specs.Traffic.{KeptTraffic}
 use Rattle.house_model.specs.States.{World}
@@ -35,10 +41,10 @@ use Rattle.house_model.specs.Routing.{leaves_rooms, to_no_room, to_one_in, user_
 use Rattle.house_model.proofs.AffiliationCases.{Mild, admin_sums, invite_sums, mild_sums, refused_mild}
 use Rattle.house_model.proofs.AffiliationSums.{AllKeepSums}
 use Rattle.house_model.proofs.EffectCases.{effects_all}
-use Rattle.house_model.proofs.Founds.{append_all, either_all, numbers_found}
+use Rattle.house_model.proofs.Founds.{append_all, either_all, every, numbers_found}
 use Rattle.house_model.proofs.PresenceCases.{Covers, departure_all}
 use Rattle.house_model.proofs.RequestCases.{owner_rows}
-use Rattle.house_model.proofs.RoomCases.{Enters, Says, Shows, direct_rows, enter_rows, leave_rows, rename_rows, say_rows}
+use Rattle.house_model.proofs.RoomCases.{Enters, Says, Shows, Whispers, direct_rows, enter_rows, leave_rows, rename_rows, say_rows}
 use Rattle.house_model.proofs.RosterCases.{IsSeen, Reaches, all_told_at, found_at, parted_all, party_seen, set_all, tells}
 use Rattle.house_model.proofs.StayLemmas.{choose}
 use Rattle.muc_service.specs.Numbering.{Numbered}
@@ -62,21 +68,23 @@ left_mild s st [] = tt
 left_mild s st (h ∷ hs) = append_all Mild (leave h.room s st) _ (leave_mild h.room s st) (left_mild s st hs)
 
 module _ (who : Here) (st : Stanza) where
-  says : (room : Room) → Says room who st Mild Any Any
-  says room = record {
+  says : (room : Room) (keeping : Keeping) (stamp : List ℕ) → Says room who st keeping stamp Mild Any
+  says room keeping stamp = record {
     refusal = λ c. tt;
-    seats = λ o is. any_all o.seats;
     item = λ o e is at. tt;
-    subject = λ o e is at. tt;
-    private = λ o e x is here at. tt;
+    row = λ o e is at has. tt;
+    subject = λ o e is at has. tt;
   }
 
-  say_mild : (room : Room) → AllByRecursion Mild (say room who st)
-  say_mild room = say_rows room who st Mild Any Any (says room) (any_all room.occupants)
+  whispers : (room : Room) → Whispers room who st Mild Any Any
+  whispers room = record { refusal = λ c. tt; seats = λ o is. any_all o.seats; private = λ o e x is here at. tt }
+
+  say_mild : (room : Room) (keeping : Keeping) (stamp : List ℕ) → AllByRecursion Mild (say room who st keeping stamp)
+  say_mild room keeping stamp = say_rows room who st keeping stamp Mild Any (says room keeping stamp) (any_all room.occupants)
 
   one_mild : (found : Option Hosted) → AllByRecursion Mild (to_one_in who st found)
   one_mild None = refused_mild who st ItemNotFound
-  one_mild (Some h) = direct_rows h.room who st Mild Any Any (says h.room) (any_all h.room.occupants)
+  one_mild (Some h) = direct_rows h.room who st Mild Any Any (whispers h.room) (any_all h.room.occupants)
 
   absent_mild : (found : Option Hosted) → AllByRecursion Mild (absent_from who st found)
   absent_mild None = tt
@@ -114,7 +122,7 @@ module _ (who : Here) (st : Stanza) where
           length-append (local_text who.address.local ++ who.address.domain) [],
         )
 
-    enters_mild : (e : Element) → Enters who st e Mild Any Any
+    enters_mild : (e : Element) → Enters who st e Mild Any Any Any
     enters_mild e = record {
       refusal = λ c. tt;
       occupants = λ room is. any_all room.occupants;
@@ -123,18 +131,22 @@ module _ (who : Here) (st : Stanza) where
       enter = λ room to nick role at named. tt;
       shown = λ room. tt;
       item = λ room made to nick holder is at named. tt;
+      past = λ room stay d is fits. tt;
       subject = λ room stay is. tt;
     }
 
-    enter_mild : (rooms : Rooms) (room : Option Room) → IfSome room Any → AllByRecursion Mild (enter room (numbers_for rooms who.session) who st)
-    enter_mild rooms room is =
-        enter_rows room (numbers_for rooms who.session) who st Mild Any Any (λ e at. enters_mild e) is (λ to e at. tt)
+    enter_mild : (rooms : Rooms) (room : Option Room) (past : List Delayed) → IfSome room Any
+        → AllByRecursion Mild (enter room (numbers_for rooms who.session) who st past)
+    enter_mild rooms room past is =
+        enter_rows room (numbers_for rooms who.session) who st past Mild Any Any Any (λ e at. enters_mild e) is (λ to e at. tt) (any_all past)
 
-    present_mild : (rooms : Rooms) (found : Option Hosted) → AllByRecursion Mild (present_in rooms who st found)
-    present_mild rooms None = enter_mild rooms None tt
-    present_mild rooms (Some h) =
-        either_all Mild (is_in who.session h) (rename h.room who st) (enter (Some h.room) (numbers_for rooms who.session) who st)
-        (rename_rows h.room who st Mild Any (λ e at. shows_mild h.room e) (any_all h.room.occupants)) (enter_mild rooms (Some h.room) tt)
+    present_mild : (world : World KeptTraffic) (found : Option Hosted) → AllByRecursion Mild (present_in world who st found)
+    present_mild world None = enter_mild world.rooms None [] tt
+    present_mild world (Some h) =
+        either_all Mild (is_in who.session h) (rename h.room who st)
+        (enter (Some h.room) (numbers_for world.rooms who.session) who st (past_in world.archives h))
+        (rename_rows h.room who st Mild Any (λ e at. shows_mild h.room e) (any_all h.room.occupants))
+        (enter_mild world.rooms (Some h.room) (past_in world.archives h) tt)
 
 -- what is said in a room, and what comes of a request to it
 
@@ -151,7 +163,9 @@ module _ (o : Scene) (who : Here) (st : Stanza) (numbered : Numbered o.world.roo
   said_by : (form : MessageForm) (e : Element) (found : Option Hosted) → IfSome found (λ h. hosted_as h.room.number o.world.rooms ≡ Some h)
       → AllKeepSums o.world.rooms (to_all_in o who st form e found)
   said_by form e None at = no_sums (to_no_room form e)
-  said_by message.Groupchat e (Some h) at = mild_sums (say h.room who st) o.world.rooms (say_mild who st h.room)
+  said_by message.Groupchat e (Some h) at =
+      let keeping : Keeping = keeping_in o.world.archives h o.moment in
+      mild_sums (say h.room who st keeping (stamp_text o.moment)) o.world.rooms (say_mild who st h.room keeping (stamp_text o.moment))
   said_by message.Chat e (Some h) at = invited_sums e h at
   said_by message.Normal e (Some h) at = invited_sums e h at
   said_by message.Headline e (Some h) at = invited_sums e h at
@@ -182,8 +196,14 @@ covered o s x numbered own = record {
   found = λ place. tt;
   told = λ place. tt;
   form = tt;
-  page = tt;
+  shown = λ from rows q asked short.
+      every (λ row. Mild (archives.shown_to (here o.world s) from q.queryid row)) (λ row. tt) (pages.shown rows q.filter q.ask);
+  page = λ from rows q asked. tt;
   copy = λ e h at found. tt;
+  plain = λ e r at found. tt;
+  numbered = λ e r at found. tt;
+  sent = λ e user at named. tt;
+  received = λ e user at named. tt;
   presence = λ e h small found. tt;
   show = λ h found. tt;
   asked = λ user. asks (asking o.domain o.world user);
@@ -208,8 +228,8 @@ covered o s x numbered own = record {
       mild_sums (es ++ leaves_rooms o.world.rooms s (Some x)) o.world.rooms
       (append_all Mild es _ mild (left_mild s (Some x) (rooms_of s o.world.rooms)));
   present = λ e is short.
-      mild_sums (present_in o.world.rooms (here o.world s) x (room_for o.world.rooms (to_in x))) o.world.rooms
-      (present_mild (here o.world s) x own o.world.rooms (room_for o.world.rooms (to_in x)));
+      mild_sums (present_in o.world (here o.world s) x (room_for o.world.rooms (to_in x))) o.world.rooms
+      (present_mild (here o.world s) x own o.world (room_for o.world.rooms (to_in x)));
 }
   where
     each : Reaches o.world Mild Any Any Any

@@ -4,7 +4,7 @@ use Rattle.house_model.specs.declared.event.Event.{Event}
 use Rattle.house_model.specs.declared.event.Event.TheVariants as event
 use Rattle.house_model.specs.Traffic.{Traffic, whole}
 use Rattle.house_model.specs.States.{World, State, Kept, keep}
-use Rattle.house_model.specs.Effects.{Effect, Open, At, Begin, On, Note, Hosts, apply, apply_all}
+use Rattle.house_model.specs.Effects.{Effect, Open, At, Begin, On, Note, Hosts, Files, apply, apply_all}
 use Rattle.house_model.specs.Steps.{verdict, turn}
 use Rattle.house_model.specs.Histories.{Outcome, Made, Short, Turn, MayBeShort, IsOutcome, next_by, next, after}
 use Rattle.house_model.specs.Histories.{Legal, opened_by, openings, IsOpening, StandsFor}
@@ -53,6 +53,7 @@ opened_effect world (Open w) = refl
 opened_effect world (At w op) = omega arith
 opened_effect world (Note change) = omega arith
 opened_effect world (Hosts x) = omega arith
+opened_effect world (Files filing) = omega arith
 opened_effect world (Begin w c a) = omega arith
 opened_effect world (On s op) = omega arith
 

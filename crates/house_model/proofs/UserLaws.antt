@@ -10,7 +10,7 @@ use Rattle.house_model.specs.declared.event.Event.TheVariants as event
 use Rattle.house_model.specs.Sessions.{Session, begun, session_step}
 use Rattle.house_model.specs.Traffic.{Traffic, whole}
 use Rattle.house_model.specs.States.{World, State, Kept, keep}
-use Rattle.house_model.specs.Effects.{Effect, Open, At, Begin, On, Note, Hosts, Say, Close, apply, apply_all}
+use Rattle.house_model.specs.Effects.{Effect, Open, At, Begin, On, Note, Hosts, Files, Say, Close, apply, apply_all}
 use Rattle.house_model.specs.Gate.{most_answers, to_bind, left}
 use Rattle.house_model.specs.Lookups.{session_at}
 use Rattle.house_model.specs.Steps.{replaces, binds, has_place, bound_address, resource_or, verdict, turn}
@@ -43,6 +43,7 @@ one_users d world (Open w) begins all = all
 one_users d world (At w op) begins all = all
 one_users d world (Note change) begins all = all
 one_users d world (Hosts x) begins all = all
+one_users d world (Files filing) begins all = all
 one_users d world (Begin w c a) begins all =
     put_both (λ j (y : Session Traffic). TakesAsUser d y) (world.made + 1) (begun whole w c a) world.sessions (λ is. begins) (λ j other. all j)
 one_users d world (On s op) begins all =
@@ -67,6 +68,7 @@ plain_begins d (Open w ∷ es) plain = (tt, plain_begins d es plain.1)
 plain_begins d (At w op ∷ es) plain = (tt, plain_begins d es plain.1)
 plain_begins d (Note change ∷ es) plain = (tt, plain_begins d es plain.1)
 plain_begins d (Hosts x ∷ es) plain = (tt, plain_begins d es plain.1)
+plain_begins d (Files filing ∷ es) plain = (tt, plain_begins d es plain.1)
 plain_begins d (On s op ∷ es) plain = (tt, plain_begins d es plain.1)
 
 binds_begins : (d : List ℕ) (has : Bool) (k : Kept) (w c : ℕ) (a : Address) (id : List ℕ) → IsUsers d a

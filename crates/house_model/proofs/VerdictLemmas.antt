@@ -83,6 +83,7 @@ queued_opens (Set (change.Directed s addresses) ∷ more) = omega (arith, queued
 queued_opens (effect.Broadcast n item ∷ more) = omega (arith, queued_opens more)
 queued_opens (effect.Enter n s address nick role ∷ more) = omega (arith, queued_opens more)
 queued_opens (effect.Leave n s ∷ more) = omega (arith, queued_opens more)
+queued_opens (effect.Keep user peer text moment ∷ more) = omega (arith, queued_opens more)
 queued_opens (Set (change.RoomMade n address owner) ∷ more) = omega (arith, queued_opens more)
 queued_opens (Set (change.RoomGone n) ∷ more) = omega (arith, queued_opens more)
 queued_opens (Set (change.Unlocked n) ∷ more) = omega (arith, queued_opens more)
@@ -91,7 +92,8 @@ queued_opens (Set (change.Affiliated n address a) ∷ more) = omega (arith, queu
 queued_opens (Set (change.RoleSet n s role) ∷ more) = omega (arith, queued_opens more)
 queued_opens (Set (change.Renamed n s nick) ∷ more) = omega (arith, queued_opens more)
 queued_opens (Set (change.OccupantShown n s presence) ∷ more) = omega (arith, queued_opens more)
-queued_opens (Set (change.Subject n text) ∷ more) = omega (arith, queued_opens more)
+queued_opens (Set (change.Subject n text stamp) ∷ more) = omega (arith, queued_opens more)
+queued_opens (Set (change.RoomRow n peer text moment) ∷ more) = omega (arith, queued_opens more)
 
 opens_append : (xs ys : List Effect) → opens_in (xs ++ ys) ≡ opens_in xs + opens_in ys
 opens_append [] ys = omega arith

@@ -220,7 +220,7 @@ abbrev pub IsShortItem : RoomItem → Type 0
 IsShortItem (Presence sessions nick address a role gone renamed children statuses own) =
     IsShortNick nick × IsShortAddress address × IfSome renamed IsShortNick × (length children ≤ 16384)
     × AreCodes statuses × AreCodes own × (length statuses ≤ 8) × (length own ≤ 8)
-IsShortItem (Message text) = length text ≤ 300000
+IsShortItem (Message text body from moment) = length text ≤ 300000
 IsShortItem (Destroyed reason nicks) = IfSome reason (λ r. length (text_under user_space r) ≤ 400000) × AllByRecursion (λ n. IsShortNick n.nick) nicks
 
 jid_short : (own sees : Bool) (to address : Address) → IsShortAddress to → IsShortAddress address → IfSome (jid_for own sees to address) IsShortAddress
@@ -278,7 +278,7 @@ seen-le (Presence sessions nick address a role gone renamed children statuses ow
       statuses-le cs (codes_all mark statuses own short.4 short.5),
       codes_few mark statuses own short.6 short.7,
     )
-seen-le (Message text) sees room s to short host mine = omega (arith, short)
+seen-le (Message text body from moment) sees room s to short host mine = omega (arith, short)
 seen-le (Destroyed reason nicks) sees room s to short host mine =
     omega (
       arith,

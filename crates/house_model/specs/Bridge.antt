@@ -10,7 +10,7 @@ use Rattle.house_model.specs.declared.event.Event.TheVariants as event
 use Rattle.house_model.specs.Sessions.{Hold, Held, Away, Ended, Gone, Session, Op, Push, Pull, Request, Enable, Ack, Tell, Act, Drop, Resume, End, Part, Marks}
 use Rattle.house_model.specs.Traffic.{Traffic, whole}
 use Rattle.house_model.specs.States.{World, State, keep}
-use Rattle.house_model.specs.Effects.{Effect, Open, At, Begin, On, Note, Hosts, apply}
+use Rattle.house_model.specs.Effects.{Effect, Open, At, Begin, On, Note, Hosts, Files, apply}
 use Rattle.house_model.specs.Steps.{verdict, turn}
 use Rattle.house_model.specs.Histories.{Outcome, Made, Short, Turn, next}
 
@@ -54,6 +54,7 @@ effect_ops s world (Open w) = []
 effect_ops s world (At w op) = []
 effect_ops s world (Note change) = []
 effect_ops s world (Hosts x) = []
+effect_ops s world (Files filing) = []
 effect_ops s world (Begin w c address) = if s == world.made + 1 then one.Begin c ∷ [] else []
 effect_ops s world (On i op) = if s == i then op_ops op else []
 

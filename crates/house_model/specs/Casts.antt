@@ -6,7 +6,7 @@ use Rattle.stanza_tree.specs.declared.frame.Origin.TheVariants.{Direct, Opening,
 use Rattle.stanza_model.specs.declared.effect.Change.{Change}
 use Rattle.stanza_model.specs.declared.effect.Change.TheVariants.{RoomMade, Renamed}
 use Rattle.stanza_model.specs.declared.effect.Effect as stanza
-use Rattle.stanza_model.specs.declared.effect.Effect.TheVariants.{Queue, Broadcast, Enter, Leave, Set}
+use Rattle.stanza_model.specs.declared.effect.Effect.TheVariants.{Queue, Broadcast, Enter, Leave, Keep, Set}
 use Rattle.muc_room.specs.Seats.{holder_of}
 use Rattle.muc_service.specs.Rooms.{Hosted, Rooms, hosted_as, is_in, step}
 use Rattle.muc_service.specs.Casting.{cast}
@@ -14,7 +14,7 @@ use Rattle.house_model.specs.declared.event.Event.{Event}
 use Rattle.house_model.specs.Sessions.{Op, Push}
 use Rattle.house_model.specs.Traffic.{Traffic, whole}
 use Rattle.house_model.specs.States.{World, State, keep}
-use Rattle.house_model.specs.Effects.{Effect, On, Hosts, apply_all}
+use Rattle.house_model.specs.Effects.{Effect, On, Hosts, Files, apply_all}
 use Rattle.house_model.specs.Steps.{effect_of, verdict, turn}
 use Rattle.house_model.specs.Histories.{Outcome, Made, Short, Turn, next}
 
@@ -48,6 +48,7 @@ Suits made addresses rooms (Queue s to rest origin) = IsNotLive origin
 Suits made addresses rooms (Broadcast n item) = ⊤
 Suits made addresses rooms (Enter n s address nick role) = MayEnter made addresses rooms n s address nick
 Suits made addresses rooms (Leave n s) = ⊤
+Suits made addresses rooms (Keep user peer text moment) = ⊤
 Suits made addresses rooms (Set change) = ChangeSuits rooms change
 
 -- each effect, by the rooms as they are when its turn comes
@@ -78,6 +79,7 @@ QueuesNoItem op = ⊤
 abbrev pub IsPlain : Effect → Type 0
 IsPlain (On s op) = QueuesNoItem op
 IsPlain (Hosts e) = ⊥
+IsPlain (Files filing) = ⊥
 IsPlain e = ⊤
 
 abbrev pub PartSuits : World Traffic → Part → Type 0

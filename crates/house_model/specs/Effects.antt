@@ -7,7 +7,12 @@ use Rattle.session_table.specs.declared.line.Line as stage
 use Rattle.session_table.specs.declared.line.Line.TheVariants.{Fresh, Logged, Bound, Over}
 use Rattle.house_model.specs.declared.answer.Answer.{Answer}
 use Rattle.stanza_model.specs.declared.effect.Change.{Change}
+use Rattle.stanza_model.specs.declared.effect.Change.TheVariants.{RoomGone}
 use Rattle.stanza_model.specs.declared.effect.Effect as stanza
+use Rattle.stanza_model.specs.declared.effect.Effect.TheVariants.{Set}
+use Rattle.archive_table.specs.Archives.{Archives, filed}
+use Rattle.archive_table.specs.declared.filing.Filing.{Filing}
+use Rattle.archive_table.specs.declared.filing.Filing.TheVariants.{NoRoom}
 use Rattle.contact_table.specs.Books.{noted}
 use Rattle.muc_service.specs.Rooms.{step}
 use Rattle.house_model.specs.Numbered.{put}
@@ -29,6 +34,7 @@ pub data Effect : Type 0 where
   On : (s : ℕ) → (op : Op) → Effect  -- what happens to the session of this number
   Note : (change : Change) → Effect  -- what is kept of users
   Hosts : (effect : stanza.Effect) → Effect  -- what becomes of the rooms
+  Files : (filing : Filing) → Effect  -- a message is kept
 
 abbrev pub logged : ℕ → stage.Line → stage.Line
 logged user (Fresh c) = Logged c user
@@ -70,6 +76,11 @@ touch z s op world = record world {
   sessions = put s (session_step z (world.sessions s) op) world.sessions;
 }
 
+-- a room that is there no more takes its archive with it
+abbrev pub archives_with : stanza.Effect → Archives → Archives
+archives_with (Set (RoomGone n)) archives = filed (NoRoom n) archives
+archives_with x archives = archives
+
 abbrev pub apply : {T : Type 0} → Ways T → World T → Effect → World T
 apply z world (Open w) = record world { opened = world.opened + 1; lines = put w (fresh_line (world.opened + 1)) world.lines }
 apply z world (At w op) = record world { lines = put w (line_step op (world.lines w)) world.lines }
@@ -80,7 +91,8 @@ apply z world (Begin w c address) = record world {
 }
 apply z world (On s op) = touch z s op world
 apply z world (Note change) = record world { book = noted change world.book }
-apply z world (Hosts x) = record world { rooms = step x world.rooms }
+apply z world (Hosts x) = record world { rooms = step x world.rooms; archives = archives_with x world.archives }
+apply z world (Files filing) = record world { archives = filed filing world.archives }
 
 abbrev pub apply_all : {T : Type 0} → Ways T → World T → List Effect → World T
 apply_all z world [] = world

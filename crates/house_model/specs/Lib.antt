@@ -1,6 +1,8 @@
 pub mod Accounts
 pub mod Answers
+pub mod ArchiveLookups
 pub mod Archives
+pub mod Archiving
 pub mod Bridge
 pub mod Casts
 pub mod Closings

@@ -15,6 +15,7 @@ use Rattle.house_model.specs.Sessions.{Gone, Session}
 use Rattle.house_model.specs.Traffic.{Traffic}
 use Rattle.house_model.specs.States.{State}
 use Rattle.house_model.specs.Histories.{Turn, made, step, after, Legal}
+use Rattle.house_model.specs.Archiving.{AreArchives, keeps_from}
 use Rattle.house_model.specs.Accounts.{IsAccountOf, handled, total_handled}
 use Rattle.house_model.specs.Lines.{carried, acted, was_given}
 use Rattle.house_model.specs.Stays.{Gapless, live_of, logs_of, own, run}
@@ -112,3 +113,5 @@ pub record Safe (o : State) (h : List Turn) : Type 0 where
   pub queueing : (s : ℕ) → (session_in o h s).traffic.queued ≡ queued_for o h s
   -- A stanza that is acted on is queued for each session that the tables of routing name, and an error for its sender, or the session is over for want of room.
   pub deliveries : Deliveries (after o h)
+  -- Of what a room broadcasts, and of what users say to each other, the last 10,000 messages with a body are kept.
+  pub archived : AreArchives (after o h).world (logs_of o h).order (keeps_from o h)

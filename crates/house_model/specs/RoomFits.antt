@@ -2,9 +2,9 @@
 use Rattle.std.specs.Prelude.{ℕ, ◌+◌, ◌≡◌, List, [], ◌∷◌, Bool, true, false, Option, Some, None, is_some, ⊤}
 use Rattle.stanza_model.specs.declared.effect.Change.{Change}
 use Rattle.stanza_model.specs.declared.effect.Change.TheVariants.{RoomMade, RoomGone, Unlocked, Configured, Affiliated, RoleSet, Renamed}
-use Rattle.stanza_model.specs.declared.effect.Change.TheVariants.{OccupantShown, Subject}
+use Rattle.stanza_model.specs.declared.effect.Change.TheVariants.{OccupantShown, RoomRow, Subject}
 use Rattle.stanza_model.specs.declared.effect.Effect.{Effect}
-use Rattle.stanza_model.specs.declared.effect.Effect.TheVariants.{Queue, Broadcast, Enter, Leave, Set}
+use Rattle.stanza_model.specs.declared.effect.Effect.TheVariants.{Queue, Broadcast, Enter, Leave, Keep, Set}
 use Rattle.muc_service.specs.Rooms.{Hosted, Rooms, hosted_as, is_in, step}
 
 -- the room of this number is there
@@ -33,7 +33,8 @@ ChangeIsOf rooms (Affiliated n address a) = IsThere rooms n
 ChangeIsOf rooms (RoleSet n s role) = IsInside rooms n s
 ChangeIsOf rooms (Renamed n s nick) = IsInside rooms n s
 ChangeIsOf rooms (OccupantShown n s presence) = IsInside rooms n s
-ChangeIsOf rooms (Subject n text) = IsThere rooms n
+ChangeIsOf rooms (Subject n text stamp) = IsThere rooms n
+ChangeIsOf rooms (RoomRow n peer text moment) = IsThere rooms n
 ChangeIsOf rooms change = ⊤
 
 abbrev pub IsOf : Rooms → Effect → Type 0
@@ -41,6 +42,7 @@ IsOf rooms (Queue s to rest origin) = ⊤
 IsOf rooms (Broadcast n item) = IsThere rooms n
 IsOf rooms (Enter n s address nick role) = IsOutside rooms n s
 IsOf rooms (Leave n s) = IsInside rooms n s
+IsOf rooms (Keep user peer text moment) = ⊤
 IsOf rooms (Set change) = ChangeIsOf rooms change
 
 -- each effect, by the rooms as they are when its turn comes

@@ -14,6 +14,7 @@ use Rattle.stanza_model.specs.declared.condition.Condition.TheVariants.{BadReque
 use Rattle.stanza_model.specs.declared.condition.Condition.TheVariants.{RemoteServerNotFound, ResourceConstraint, ServiceUnavailable}
 use Rattle.stanza_model.specs.declared.effect.Effect.{Effect}
 use Rattle.stanza_model.specs.declared.here.Here.{Here}
+use Rattle.stanza_model.specs.declared.keeping.Keeping.{Keeping}
 use Rattle.stanza_model.specs.declared.kinds.MessageForm.{MessageForm}
 use Rattle.stanza_model.specs.declared.kinds.MessageForm.TheVariants.{Groupchat}
 use Rattle.stanza_model.specs.declared.kinds.PresenceForm.{PresenceForm}
@@ -42,7 +43,9 @@ use Rattle.muc_admin.specs.Items.{admin_space}
 use Rattle.muc_owner.specs.Owning.{owner, owner_space}
 use Rattle.muc_service.specs.Rooms.{Hosted, Rooms, is_in}
 use Rattle.mam_wire.specs.Answers.{mam_space}
-use Rattle.house_model.specs.Archives.{archived}
+use Rattle.mam_wire.specs.Stamps.{stamp_text}
+use Rattle.house_model.specs.ArchiveLookups.{keeping_for, keeping_in, past_in}
+use Rattle.house_model.specs.Archives.{archived, archived_of}
 use Rattle.house_model.specs.Lookups.{live_at, has_user, here, sessions_of}
 use Rattle.house_model.specs.Presences.{asking, directed_by, length_sent, most_of_presence, named, party, shown, watchers}
 use Rattle.house_model.specs.Requests.{pings, begins_session, binds_resource, discovers, asks_a_room, gets, sets, queries}
@@ -55,9 +58,10 @@ pub record Scene : Type 0 where
   pub domain : List ℕ
   pub users : List (List ℕ)
   pub world : World KeptTraffic
+  pub moment : ℕ
 
 abbrev pub scene_of : Kept → Scene
-scene_of k = record { domain = k.head.domain.domain; users = k.head.users; world = k.world }
+scene_of k = record { domain = k.head.domain.domain; users = k.head.users; world = k.world; moment = k.head.moment }
 
 -- the session that goes on at the address of a session
 abbrev pub live_for : World KeptTraffic → Place → Option Address → Option ℕ
@@ -111,7 +115,7 @@ to_no_room form e = if is_invitation e then ItemNotFound else BadRequest
 -- XEP-0045, 7.4, 7.8.2 and 8.1: to a room: what is said in it, an invitation to it or a decline of one
 abbrev pub to_all_in : Scene → Here → Stanza → MessageForm → Element → Option Hosted → List Effect
 to_all_in o who st form e None = refused who st (to_no_room form e)
-to_all_in o who st Groupchat e (Some h) = say h.room who st
+to_all_in o who st Groupchat e (Some h) = say h.room who st (keeping_in o.world.archives h o.moment) (stamp_text o.moment)
 to_all_in o who st form e (Some h) =
     if is_invitation e then invite h.room who st (called o.domain o.world e) else refused who st BadRequest
 
@@ -120,17 +124,18 @@ abbrev pub to_one_in : Here → Stanza → Option Hosted → List Effect
 to_one_in who st None = refused who st ItemNotFound
 to_one_in who st (Some h) = direct h.room who st
 
-abbrev pub delivered : List (List ℕ) → Here → Stanza → Place → Option (List ℕ) → List Here → List Effect
-delivered users who st place user found = deliveries who st place (has_account users user found) found
+abbrev pub delivered : List (List ℕ) → Here → Stanza → Place → Option (List ℕ) → Keeping → List Here → List Effect
+delivered users who st place user keeping found = deliveries who st place (has_account users user found) found keeping
 
-abbrev pub to_users : List (List ℕ) → World KeptTraffic → Here → Stanza → MessageForm → Place → Option (List ℕ) → List Effect
-to_users users world who st form place user =
-    delivered users who st place user (receivers world form place user (live_for world place (to_in st)))
+abbrev pub to_users : Scene → Here → Stanza → MessageForm → Place → Option (List ℕ) → List Effect
+to_users o who st form place user =
+    delivered o.users who st place user (keeping_for o.world.archives who (to_in st) o.moment)
+    (receivers o.world form place user (live_for o.world place (to_in st)))
 
 abbrev pub message : Scene → (own : List ℕ) → Here → Stanza → MessageForm → Element → Place → List Effect
 message o own who st form e (Room room) = to_all_in o who st form e (room_for o.world.rooms (to_in st))
 message o own who st form e (RoomAt room nick) = to_one_in who st (room_for o.world.rooms (to_in st))
-message o own who st form e place = to_users o.users o.world who st form place (user_in own place)
+message o own who st form e place = to_users o who st form place (user_in own place)
 
 -- Requests.
 
@@ -176,6 +181,7 @@ abbrev pub to_account : Scene → (own : List ℕ) → Here → Stanza → List 
 to_account o own who st =
     if gets roster_space (codes "query") st then roster_get (own_contacts o own) who st
     else if sets roster_space (codes "query") st then roster_changed o own who st
+    else if queries mam_space st then archived_of o.world.archives own who st
     else to_server who st Account
 
 -- RFC 6121, 8.5.3: to a session of a user
@@ -199,11 +205,11 @@ asked_of who st (Some h) =
     else refused who st ServiceUnavailable
 
 -- XEP-0045, 6.4 and 6.5, and XEP-0313, 4: to a room
-abbrev pub to_room : Rooms → Here → Stanza → Place → Option Hosted → List Effect
-to_room rooms who st place found =
-    if discovers st then discovered (listed rooms) who st place
+abbrev pub to_room : World KeptTraffic → Here → Stanza → Place → Option Hosted → List Effect
+to_room world who st place found =
+    if discovers st then discovered (listed world.rooms) who st place
     else if pings st then done who st
-    else if queries mam_space st then archived who st found
+    else if queries mam_space st then archived world.archives who st found
     else asked_of who st found
 
 abbrev pub iq : Scene → (own : List ℕ) → Here → Stanza → Option Address → Element → Place → List Effect
@@ -212,7 +218,7 @@ iq o own who st to e Server = to_server who st Server
 iq o own who st to e (User user) = refused who st ServiceUnavailable
 iq o own who st to e (UserAt user resource) = to_session o.world who st to e (live_for o.world (UserAt user resource) to)
 iq o own who st to e Service = to_service o.world.rooms who st Service
-iq o own who st to e (Room room) = to_room o.world.rooms who st (Room room) (room_for o.world.rooms to)
+iq o own who st to e (Room room) = to_room o.world who st (Room room) (room_for o.world.rooms to)
 iq o own who st to e (RoomAt room nick) = refused who st ServiceUnavailable
 iq o own who st to e Foreign = refused who st RemoteServerNotFound
 
@@ -265,27 +271,28 @@ to_user o own who st to Probe e place = []
 to_user o own who st to form e place = subscribed o own who st form (user_in own place)
 
 -- XEP-0045, 7.2, 7.6 and 7.7: a session enters a room, or is shown there otherwise or under another nick
-abbrev pub present_in : Rooms → Here → Stanza → Option Hosted → List Effect
-present_in rooms who st None = enter None (numbers_for rooms who.session) who st
-present_in rooms who st (Some h) =
-    if is_in who.session h then rename h.room who st else enter (Some h.room) (numbers_for rooms who.session) who st
+abbrev pub present_in : World KeptTraffic → Here → Stanza → Option Hosted → List Effect
+present_in world who st None = enter None (numbers_for world.rooms who.session) who st []
+present_in world who st (Some h) =
+    if is_in who.session h then rename h.room who st
+    else enter (Some h.room) (numbers_for world.rooms who.session) who st (past_in world.archives h)
 
 -- XEP-0045, 7.14
 abbrev pub absent_from : Here → Stanza → Option Hosted → List Effect
 absent_from who st None = []
 absent_from who st (Some h) = leave h.room who.session (Some st)
 
-abbrev pub to_be_in : Rooms → Here → Stanza → PresenceForm → Option Hosted → List Effect
-to_be_in rooms who st Available found = present_in rooms who st found
-to_be_in rooms who st Unavailable found = absent_from who st found
-to_be_in rooms who st form found = []
+abbrev pub to_be_in : World KeptTraffic → Here → Stanza → PresenceForm → Option Hosted → List Effect
+to_be_in world who st Available found = present_in world who st found
+to_be_in world who st Unavailable found = absent_from who st found
+to_be_in world who st form found = []
 
 abbrev pub to_address : Scene → (own : List ℕ) → Here → Stanza → Address → PresenceForm → Element → Place → List Effect
 to_address o own who st to form e Account = to_user o own who st to form e Account
 to_address o own who st to form e (User user) = to_user o own who st to form e (User user)
 to_address o own who st to form e (UserAt user resource) = to_user o own who st to form e (UserAt user resource)
-to_address o own who st to form e (Room room) = to_be_in o.world.rooms who st form (room_for o.world.rooms (Some to))
-to_address o own who st to form e (RoomAt room nick) = to_be_in o.world.rooms who st form (room_for o.world.rooms (Some to))
+to_address o own who st to form e (Room room) = to_be_in o.world who st form (room_for o.world.rooms (Some to))
+to_address o own who st to form e (RoomAt room nick) = to_be_in o.world who st form (room_for o.world.rooms (Some to))
 to_address o own who st to form e place = []
 
 abbrev pub presence_to : Scene → (own : List ℕ) → Here → Stanza → Option Address → PresenceForm → Element → Place → List Effect

@@ -4,6 +4,7 @@ use Rattle.jid_core.specs.Addresses.{Address}
 use Rattle.session_table.specs.declared.line.Line.TheVariants.{Empty}
 use Rattle.session_table.specs.declared.line.Line as stage
 use Rattle.house_model.specs.declared.answer.Answer.{Answer}
+use Rattle.archive_table.specs.Archives.{Archives, no_archives}
 use Rattle.contact_table.specs.Books.{Book, empty_book}
 use Rattle.muc_service.specs.Rooms.{Rooms, no_rooms}
 use Rattle.house_model.specs.Sessions.{Hold, Held, Away, Ended, Gone, Rest, Session, session, gone, unmade}
@@ -29,6 +30,7 @@ pub record World (T : Type 0) : Type 0 where
   pub sessions : ℕ → Session T
   pub book : Book
   pub rooms : Rooms
+  pub archives : Archives
 
 pub record House (T : Type 0) : Type 0 where
   pub head : Head
@@ -49,7 +51,7 @@ empty_line = record { stage = Empty; answers = [] }
 abbrev pub opening : Address → List (List ℕ) → ℕ → State
 opening domain users workers = record {
   head = record { domain = domain; users = users; workers = workers; turns = 0; moment = 0 };
-  world = record { opened = 0; lines = λ w. empty_line; made = 0; sessions = λ s. unmade whole; book = empty_book; rooms = no_rooms };
+  world = record { opened = 0; lines = λ w. empty_line; made = 0; sessions = λ s. unmade whole; book = empty_book; rooms = no_rooms; archives = no_archives };
 }
 
 -- what is kept of a session; nothing of one that departed
@@ -70,6 +72,7 @@ keep_world world = record {
   sessions = λ s. keep_session (world.sessions s);
   book = world.book;
   rooms = world.rooms;
+  archives = world.archives;
 }
 
 abbrev pub keep : State → Kept

@@ -15,6 +15,7 @@ use Rattle.sm_resume.specs.declared.decision.Cause.TheVariants.{Replaced, Lost}
 use Rattle.sm_resume.specs.declared.id.ResumeId.{ResumeId}
 use Rattle.session_table.specs.declared.line.Line as stage
 use Rattle.session_table.specs.declared.line.Line.TheVariants.{Empty}
+use Rattle.archive_table.specs.declared.filing.Filing.TheVariants.{OfUser, OfRoom}
 use Rattle.muc_service.specs.Casting.{cast}
 use Rattle.house_model.specs.declared.answer.Answer.{Answer}
 use Rattle.house_model.specs.declared.answer.Answer.TheVariants as answer
@@ -30,7 +31,7 @@ use Rattle.house_model.specs.Sessions.{Hold, Held, Away, Ended, Session, Push, P
 use Rattle.house_model.specs.Sessions.{End, Part, Marks, WantsRoster, Pushed, Shown, Hidden, Directs, Ways}
 use Rattle.house_model.specs.Traffic.{KeptTraffic, kept_sent, kept_inward, brief}
 use Rattle.house_model.specs.States.{Head, House, Kept, World}
-use Rattle.house_model.specs.Effects.{Effect, Open, At, Begin, On, Note, Hosts, Log, Say, Said, Leave, Close, apply_all}
+use Rattle.house_model.specs.Effects.{Effect, Open, At, Begin, On, Note, Hosts, Files, Log, Say, Said, Leave, Close, apply_all}
 use Rattle.house_model.specs.Gate.{Verdict, does, only, gives, Pass, Stop, Free, Waits, Knows, Holds, left, closed, gate}
 
 -- OpenLine: what is at the line is left, and the next connection is there
@@ -57,7 +58,8 @@ set (change.Affiliated n address a) = Hosts (effect.Set (change.Affiliated n add
 set (change.RoleSet n s role) = Hosts (effect.Set (change.RoleSet n s role))
 set (change.Renamed n s nick) = Hosts (effect.Set (change.Renamed n s nick))
 set (change.OccupantShown n s presence) = Hosts (effect.Set (change.OccupantShown n s presence))
-set (change.Subject n text) = Hosts (effect.Set (change.Subject n text))
+set (change.Subject n text stamp) = Hosts (effect.Set (change.Subject n text stamp))
+set (change.RoomRow n peer text moment) = Files (OfRoom n peer text moment)
 set change = Note change
 
 abbrev pub effect_of : stanza.Effect → Effect
@@ -65,6 +67,7 @@ effect_of (effect.Queue s to rest origin) = On s (Push (record { to = to; rest =
 effect_of (effect.Broadcast n item) = Hosts (effect.Broadcast n item)
 effect_of (effect.Enter n s address nick role) = Hosts (effect.Enter n s address nick role)
 effect_of (effect.Leave n s) = Hosts (effect.Leave n s)
+effect_of (effect.Keep user peer text moment) = Files (OfUser user peer text moment)
 effect_of (effect.Set c) = set c
 
 -- Bind: RFC 6120, 7.6 and 7.7. The address is the user's, with the resource asked for or with the dice as 32 hexadecimal digits.

@@ -1,6 +1,6 @@
 //! What holds of every history of a house, whatever code keeps it: each function's contract is a law, and its body is
 //! empty.
-ghost use Rattle.std.specs.Prelude.{◌≡◌, ℕ, ◌<◌, ◌≤◌, List, [], ◌∷◌, ◌++◌, length, slice_get, Some, IfSome, Bool, true};
+ghost use Rattle.std.specs.Prelude.{◌≡◌, ℕ, ◌-◌, ◌^◌, ◌<◌, ◌≤◌, List, [], ◌∷◌, ◌++◌, length, slice_get, Some, IfSome, Bool, true};
 ghost use Rattle.stanza_tree.specs.Entries.{frame};
 ghost use Rattle.stanza_tree.specs.Spelling.{text};
 ghost use Rattle.stanza_tree.specs.declared.frame.Entry.{Entry};
@@ -22,8 +22,10 @@ ghost use Rattle.house_model.specs.Effects.{Effect, On, apply, apply_all};
 ghost use Rattle.house_model.specs.Sessions.{Act, End};
 ghost use Rattle.house_model.specs.Casts.{AllSuit, addresses_in};
 ghost use Rattle.house_model.specs.RoomFits.{AreOf};
-ghost use Rattle.house_model.specs.Routing.{Scene, departure, effects, effects_in};
-ghost use Rattle.house_model.specs.Fitting.{AreSmall, AllFit, AreShortAddresses, AreShortRooms, IsInHouse, IsShortAddress, IsShortScene};
+ghost use Rattle.house_model.specs.Archiving.{AddsFew, AreArchives, HaveFewRows, KeepsNothing, KeepsWhatIsSaid, keeps_from};
+ghost use Rattle.house_model.specs.Routing.{Scene, departure, effects, effects_in, scene_of};
+ghost use Rattle.house_model.specs.Fitting.{AreSmall, AllFit, AreNumbered, AreShortAddresses, AreShortArchives, AreShortRooms};
+ghost use Rattle.house_model.specs.Fitting.{IsInHouse, IsShortAddress, IsShortScene};
 ghost use Rattle.house_model.specs.Names.{AreShortThroughout, HasShortNames, NamesFit};
 ghost use Rattle.house_model.specs.Steps.{verdict, turn};
 ghost use Rattle.house_model.specs.Histories.{Turn, step, kept_step, StanzaFits, GivesNoText, after, kept_next_by};
@@ -80,13 +82,31 @@ pub fn pulls_alone_give_texts()
 {}
 
 /// What comes of a stanza that a stream can bring, and of a departure, has at most 524,288 bytes as frames, each, and so has each view that
-/// is queued of what a room broadcasts; and a presence that is kept has 16,384, where addresses have at most 3,071, presences that were kept
-/// 16,384, and what is kept of the rooms is short.
+/// is queued of what a room broadcasts; a presence that is kept has 16,384, and a message that is kept 300,000, where addresses have at most
+/// 3,071, presences that were kept 16,384, what is kept of the rooms and of messages is short, and the numbers of rows have 64 bits.
 pub fn effects_are_small()
     ensures stanza { (o : Scene) (s : ℕ) (stanza : Stanza) → StanzaFits stanza → IsShortScene o → IfSome (to_in stanza) IsShortAddress
         → AreSmall (cast o.world.rooms (effects_in o s stanza)) }
     ensures departure { (world : World KeptTraffic) (s : ℕ) → AreShortAddresses world → AreShortRooms world.rooms
         → AreSmall (cast world.rooms (departure world s)) }
+{}
+
+/// After every legal history of fewer than 2^64 turns what is kept of messages is short, where the names that came in are those of addresses:
+/// each text, and all of them together have at most 1 GiB. One turn more keeps it so, where the addresses are short before it, and the numbers
+/// of rows have 64 bits; and no archive has more rows than there were turns.
+pub fn archives_stay_short()
+    ensures history { (o : State) (h : List Turn) → IsOpening o → Legal o h → HasShortNames o.head → NamesFit h → length h < 2 ^ 64
+        → AreShortArchives (after o h).world.archives }
+    ensures turn { (o : State) (h : List Turn) (x : Turn) → IsOpening o → Allowed (after o h) x
+        → AreShortAddresses (keep_world (after o h).world) → AreShortRooms (after o h).world.rooms
+        → HaveFewRows (2 ^ 64 - 2) (after o h).world.archives → AreShortArchives (after o h).world.archives
+        → AreShortArchives (after o (h ++ x ∷ [])).world.archives }
+    ensures few { (o : State) (h : List Turn) → IsOpening o → HaveFewRows (length h) (after o h).world.archives }
+{}
+
+/// After any history each row of an archive has one of the numbers that the archive gave, and there are no more rows than numbers.
+pub fn archives_are_numbered()
+    ensures { (o : State) (h : List Turn) → IsOpening o → AreNumbered (after o h).world.archives }
 {}
 
 /// After every legal history what is kept of the rooms is short, where the names that came in are those of addresses, and the addresses of all
@@ -104,7 +124,8 @@ pub fn rooms_stay_short()
 /// Each session that the effects of a stanza, or of a departure, name is in the house when their turn comes, and so is each that is in a
 /// room and is queued a view of what the room broadcasts. Each room that they name is there then, but for one that is made, which has the next
 /// number; who enters it, by the address of the session, isn't in it yet, and who leaves it, gets another role or another nick, or is shown
-/// there, is in it. None of them is queued an item of a stay: those are the views of what a room broadcasts alone.
+/// there, is in it. None of them is queued an item of a stay: those are the views of what a room broadcasts alone. What is kept is what is said:
+/// the messages with a body that rooms broadcast, and those between users that are delivered, for both; a departure keeps nothing.
 pub fn effects_fit()
     ensures stanza { (o : State) (h : List Turn) (w c s t : ℕ) (x : Stanza) → IsOpening o → ((after o h).world.lines w).stage ≡ Bound c s
         → AllFit (apply whole (after o h).world (On s (Act x)))
@@ -116,6 +137,11 @@ pub fn effects_fit()
         → AreOf (after o h).world.rooms (effects (keep (turn (event.Act w x t) (after o h))) s x) }
     ensures left { (o : State) (h : List Turn) (s : ℕ) → IsOpening o
         → AreOf (after o h).world.rooms (departure (keep_world (after o h).world) s) }
+    ensures keeps { (o : State) (h : List Turn) (w s t : ℕ) (x : Stanza) → IsOpening o
+        → KeepsWhatIsSaid (scene_of (keep (turn (event.Act w x t) (after o h)))) s x }
+    ensures few { (o : State) (h : List Turn) (w s t : ℕ) (x : Stanza) → IsOpening o
+        → AddsFew (effects (keep (turn (event.Act w x t) (after o h))) s x) }
+    ensures quiet { (world : World KeptTraffic) (s : ℕ) → KeepsNothing (departure world s) }
     ensures suit { (o : State) (h : List Turn) (w c s t : ℕ) (x : Stanza) → IsOpening o → ((after o h).world.lines w).stage ≡ Bound c s
         → AllSuit (after o h).world.made (addresses_in (after o h).world) (after o h).world.rooms
         (effects (keep (turn (event.Act w x t) (after o h))) s x) }
@@ -197,6 +223,12 @@ pub fn endings()
 /// ninth answer; and not otherwise. It stays so until it is gone. None is over since its session was closed or lost.
 pub fn closings()
     ensures { (o : State) (h : List Turn) → IsOpening o → Legal o h → Closings o h }
+{}
+
+/// Each user's archive has the last 10,000 messages with a body that were kept for the user, and that of each room the last 10,000 of the room's
+/// order: numbered from 1, each with its peer, its text and the greatest moment up to it.
+pub fn archives_are_the_history()
+    ensures { (o : State) (h : List Turn) → IsOpening o → AreArchives (after o h).world (logs_of o h).order (keeps_from o h) }
 {}
 
 /// Every legal history is safe.

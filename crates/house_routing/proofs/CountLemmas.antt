@@ -14,6 +14,7 @@ use Rattle.house_model.specs.States.{World, Kept}
 use Rattle.house_model.specs.Lookups.{is_there, is_at}
 use Rattle.house_model.specs.Steps.{has_place}
 use Rattle.house_model.specs.Traffic.{KeptTraffic}
+use Rattle.archive_table.specs.Archives.{Archives}
 use Rattle.contact_table.specs.Books.{Book}
 use Rattle.muc_service.specs.Rooms.{Rooms}
 use Rattle.house_world.specs.Views.{session_by, sessions_of, world_of}
@@ -125,10 +126,10 @@ users_by a lines None each = refl
 users_by a lines (Some x) each =
     ap (λ b. b && (same_bare x.address a && not (b && same_address x.address a))) (there_is x lines (each x refl))
 
-pub place_is : (k : Kept) (a : Address) (t : TableRecord) (answers : List (List Answer)) (book : Book) (rooms : Rooms) → IsTied t → Rises 0 t.sessions t.made
-    → k.world ≡ world_of t answers book rooms
+pub place_is : (k : Kept) (a : Address) (t : TableRecord) (answers : List (List Answer)) (book : Book) (rooms : Rooms) (kept : Archives)
+    → IsTied t → Rises 0 t.sessions t.made → k.world ≡ world_of t answers book rooms kept
     → has_place k a ≡ (nat_lt (counted (is_other a) t.sessions) 512 && nat_lt (counted (is_users_other a) t.sessions) 16)
-place_is k a t answers book rooms tied rises world =
+place_is k a t answers book rooms kept tied rises world =
     ap (λ (x : World KeptTraffic). nat_lt (passing x.made (λ s. is_there (x.sessions s) && not (is_at a (x.sessions s)))) 512
     && nat_lt (passing x.made (λ s. is_there (x.sessions s) && (same_bare (x.sessions s).rest.address a && not (is_at a (x.sessions s))))) 16) world
     ∙ (λ i. nat_lt (all i) 512 && nat_lt (users i) 16)
@@ -151,13 +152,13 @@ counted_end n pick rest es end all =
     let none : counted pick rest ≡ 0 = ap (counted pick) end in
     omega (arith, none, all)
 
-pub place_counted : (k : Kept) (a : Address) (t : TableRecord) (answers : List (List Answer)) (book : Book) (rooms : Rooms) (n m : ℕ)
-    (rest : List (ℕ × SessionRecord))
-    → IsTied t → Rises 0 t.sessions t.made → k.world ≡ world_of t answers book rooms → rest ≡ []
+pub place_counted : (k : Kept) (a : Address) (t : TableRecord) (answers : List (List Answer)) (book : Book) (rooms : Rooms) (kept : Archives)
+    (n m : ℕ) (rest : List (ℕ × SessionRecord))
+    → IsTied t → Rises 0 t.sessions t.made → k.world ≡ world_of t answers book rooms kept → rest ≡ []
     → n + counted (is_other a) rest ≡ counted (is_other a) t.sessions → m + counted (is_users_other a) rest ≡ counted (is_users_other a) t.sessions
     → has_place k a ≡ (nat_lt n 512 && nat_lt m 16)
-place_counted k a t answers book rooms n m rest tied rises world end all users =
-    place_is k a t answers book rooms tied rises world
+place_counted k a t answers book rooms kept n m rest tied rises world end all users =
+    place_is k a t answers book rooms kept tied rises world
     ∙ (λ i. nat_lt (counted_end n (is_other a) rest t.sessions end all i) 512 && nat_lt (counted_end m (is_users_other a) rest t.sessions end users i) 16)
 
 -- one more is counted, where one is left

@@ -1,7 +1,9 @@
+pub mod KeptLemmas
 pub mod ListedLemmas
 pub mod OnceLemmas
 pub mod PlaceLemmas
 pub mod RosterLemmas
 pub mod RoutingLemmas
+pub mod ShownLemmas
 pub mod TurnLemmas
 pub mod CountLemmas

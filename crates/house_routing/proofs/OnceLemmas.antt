@@ -1,5 +1,5 @@
 -- What comes of one stanza makes at most one room, and at most one stay begins by it.
-use Rattle.std.proofs.Common.{◌≡◌, ℕ, ◌≤◌, not, if◌then◌else◌, List, [], ◌∷◌, ◌++◌, map, flat_map, Bool, true, false, Option, Some, None, refl, arith}
+use Rattle.std.proofs.Common.{◌≡◌, ℕ, ◌+◌, ◌≤◌, not, if◌then◌else◌, List, [], ◌∷◌, ◌++◌, map, flat_map, Bool, true, false, Option, Some, None, refl, arith}
 use Rattle.std.specs.Prelude.{⊤, nat_le, bytes_eq, is_some}
 use Rattle.std.specs.List.{AllByRecursion, filter}
 use Rattle.jid_core.specs.Addresses.{Address}
@@ -12,11 +12,12 @@ use Rattle.stanza_model.specs.declared.condition.Condition.TheVariants.{ServiceU
 use Rattle.stanza_model.specs.declared.effect.Change.{Change}
 use Rattle.stanza_model.specs.declared.effect.Change.TheVariants as change
 use Rattle.stanza_model.specs.declared.effect.Effect.{Effect}
-use Rattle.stanza_model.specs.declared.effect.Effect.TheVariants.{Queue, Broadcast, Enter, Leave, Set}
+use Rattle.stanza_model.specs.declared.effect.Effect.TheVariants.{Queue, Broadcast, Enter, Leave, Keep, Set}
 use Rattle.stanza_model.specs.declared.here.Here.{Here}
 use Rattle.stanza_model.specs.declared.kinds.MessageForm.{MessageForm}
 use Rattle.stanza_model.specs.declared.kinds.MessageForm.TheVariants as message
 use Rattle.stanza_model.specs.declared.kinds.PresenceForm.TheVariants as presence
+use Rattle.stanza_model.specs.declared.room.Delayed.{Delayed}
 use Rattle.stanza_model.specs.declared.room.Occupant.{Occupant}
 use Rattle.stanza_model.specs.declared.room.Role.{Role}
 use Rattle.stanza_model.specs.declared.room.Room.{Room}
@@ -26,6 +27,7 @@ use Rattle.contact_table.specs.Books.{bare_of}
 use Rattle.presence_core.specs.Broadcasts.{asked_by}
 use Rattle.muc_room.specs.Entering.{enter, enters_at, enters_by, most_rooms, new_room, refusal, unless_refused}
 use Rattle.muc_room.specs.Entries.{entered, entry_role, opening, openings, subject_for, told_entry}
+use Rattle.muc_room.specs.Histories.{history, wanted_of}
 use Rattle.muc_room.specs.Leaving.{leave}
 use Rattle.muc_room.specs.Renaming.{rename, renames_by}
 use Rattle.muc_room.specs.Seats.{has_nick, holder_of, occupant_of}
@@ -35,7 +37,12 @@ use Rattle.muc_owner.specs.Inviting.{invite}
 use Rattle.muc_admin.specs.Items.{admin_space}
 use Rattle.muc_owner.specs.Owning.{owner_space}
 use Rattle.muc_service.specs.Changing.{begins, begun_by, made_by, makes}
-use Rattle.muc_service.specs.Rooms.{Hosted, Rooms, is_in}
+use Rattle.muc_service.specs.Rooms.{Hosted, is_in}
+use Rattle.rsm_paging.specs.declared.ask.Row.{Row}
+use Rattle.archive_table.specs.Pages.{shown}
+use Rattle.mam_wire.specs.Stamps.{stamp_text}
+use Rattle.house_model.specs.ArchiveLookups.{keeping_in, past_in}
+use Rattle.house_model.specs.Archives.{shown_to}
 use Rattle.house_model.specs.Lookups.{here, sessions_of}
 use Rattle.house_model.specs.Presences.{asking, party}
 use Rattle.house_model.specs.Requests.{queries}
@@ -69,6 +76,7 @@ one_never (Queue s to rest origin) easy = (refl, refl)
 one_never (Broadcast n item) easy = (refl, refl)
 one_never (Enter n s address nick role) easy = absurd easy
 one_never (Leave n s) easy = (refl, refl)
+one_never (Keep user peer text moment) easy = (refl, refl)
 one_never (Set c) easy = (change_never c easy, refl)
 
 easy_never : (es : List Effect) → AllByRecursion Easy es → IsNever es
@@ -85,65 +93,107 @@ easy_once es easy =
 
 -- an entry
 
-openings_once : (room : Room) (stay : ℕ) (who : Here) (role : Role) (rest last : List Effect) (os : List Occupant)
-    → (made_by ((map (opening room stay who role) os ++ rest) ++ last) ≡ made_by (rest ++ last))
-    × (begun_by ((map (opening room stay who role) os ++ rest) ++ last) ≡ begun_by (rest ++ last))
-openings_once room stay who role rest last [] = (refl, refl)
-openings_once room stay who role rest last (o ∷ os) =
-    let more = openings_once room stay who role rest last os in
+made_append : (xs ys : List Effect) → made_by (xs ++ ys) ≡ made_by xs + made_by ys
+made_append [] ys = omega arith
+made_append (x ∷ xs) ys =
+    let more = made_append xs ys in
+    omega (arith, more)
+
+begun_append : (xs ys : List Effect) → begun_by (xs ++ ys) ≡ begun_by xs + begun_by ys
+begun_append [] ys = omega arith
+begun_append (x ∷ xs) ys =
+    let more = begun_append xs ys in
+    omega (arith, more)
+
+openings_never : (room : Room) (stay : ℕ) (who : Here) (role : Role) (os : List Occupant) → IsNever (map (opening room stay who role) os)
+openings_never room stay who role [] = (refl, refl)
+openings_never room stay who role (o ∷ os) =
+    let more = openings_never room stay who role os in
     (omega (arith, more.0), omega (arith, more.1))
 
-module _ (numbers : Numbers) (who : Here) where
-  entry_counts : (room : Room) (made : Bool) (children nick : List ℕ) (holder : Option Occupant)
-      → (made_by (openings room numbers.next_stay who (entry_role room who holder) nick ++ told_entry room made who children nick holder
-      ++ subject_for room numbers.next_stay who ∷ []) ≡ 0)
-      × (begun_by (openings room numbers.next_stay who (entry_role room who holder) nick ++ told_entry room made who children nick holder
-      ++ subject_for room numbers.next_stay who ∷ []) ≡ 1)
-  entry_counts room made children nick holder =
-      openings_once room numbers.next_stay who (entry_role room who holder)
-      (told_entry room made who children nick holder) (subject_for room numbers.next_stay who ∷ [])
-      (filter (λ o. not (has_nick nick o)) room.occupants)
+past_never : (room : Room) (stay : ℕ) (who : Here) (past : List Delayed) → IsNever (history room stay who past)
+past_never room stay who [] = (refl, refl)
+past_never room stay who (d ∷ past) =
+    let more = past_never room stay who past in
+    (omega (arith, more.0), omega (arith, more.1))
 
-  entry_once : (room : Room) (made : Bool) (children nick : List ℕ) (holder : Option Occupant)
-      → IsOnce (entered room made numbers who children nick holder)
-  entry_once room false children nick holder =
-      let counts = entry_counts room false children nick holder in
+-- what is in the middle begins one stay, and nothing else here makes a room or begins a stay
+module _ (before told past : List Effect) (last : Effect) (first : IsNever before) (begins_one : (made_by told ≡ 0) × (begun_by told ≡ 1))
+    (earlier : IsNever past) (end : (makes last ≡ 0) × (begins last ≡ 0)) where
+  parts_made : made_by (before ++ told ++ past ++ last ∷ []) ≡ 0
+  parts_made =
+      let all = made_append (before ++ told ++ past) (last ∷ []) in
+      let three = made_append (before ++ told) past in
+      let two = made_append before told in
+      omega (arith, all, three, two, first.0, begins_one.0, earlier.0, end.0)
+
+  parts_begun : begun_by (before ++ told ++ past ++ last ∷ []) ≡ 1
+  parts_begun =
+      let all = begun_append (before ++ told ++ past) (last ∷ []) in
+      let three = begun_append (before ++ told) past in
+      let two = begun_append before told in
+      omega (arith, all, three, two, first.1, begins_one.1, earlier.1, end.1)
+
+module _ (numbers : Numbers) (who : Here) where
+  entry_counts : (room : Room) (made : Bool) (children nick : List ℕ) (holder : Option Occupant) (past : List Delayed)
+      → (made_by (openings room numbers.next_stay who (entry_role room who holder) nick ++ told_entry room made who children nick holder
+      ++ history room numbers.next_stay who past ++ subject_for room numbers.next_stay who ∷ []) ≡ 0)
+      × (begun_by (openings room numbers.next_stay who (entry_role room who holder) nick ++ told_entry room made who children nick holder
+      ++ history room numbers.next_stay who past ++ subject_for room numbers.next_stay who ∷ []) ≡ 1)
+  entry_counts room made children nick holder past =
+      let before : List Effect = openings room numbers.next_stay who (entry_role room who holder) nick in
+      let told : List Effect = told_entry room made who children nick holder in
+      let earlier : List Effect = history room numbers.next_stay who past in
+      let last : Effect = subject_for room numbers.next_stay who in
+      let none : IsNever before = openings_never room numbers.next_stay who (entry_role room who holder)
+      (filter (λ o. not (has_nick nick o)) room.occupants) in
+      let past_none : IsNever earlier = past_never room numbers.next_stay who past in
+      (parts_made before told earlier last none (refl, refl) past_none (refl, refl), parts_begun before told earlier last none (refl, refl) past_none (refl, refl))
+
+  entry_once : (room : Room) (made : Bool) (children nick : List ℕ) (holder : Option Occupant) (past : List Delayed)
+      → IsOnce (entered room made numbers who children nick holder past)
+  entry_once room false children nick holder past =
+      let counts = entry_counts room false children nick holder past in
       (omega (arith, counts.0), omega (arith, counts.1))
-  entry_once room true children nick holder =
-      let counts = entry_counts room true children nick holder in
+  entry_once room true children nick holder past =
+      let counts = entry_counts room true children nick holder past in
       (omega (arith, counts.0), omega (arith, counts.1))
 
   unless_once : (st : Stanza) (c : Option Condition) (es : List Effect) → IsOnce es → IsOnce (unless_refused who st c es)
   unless_once st None es is = is
   unless_once st (Some c) es is = easy_once (refused who st c) (refused_easy who st c)
 
-  enters_once : (st : Stanza) (to : Address) (e : Element) (nick : List ℕ) (room : Option Room) → IsOnce (enters_by room numbers who st to e nick)
-  enters_once st to e nick (Some room) =
-      unless_once st (refusal room numbers who e nick) _ (entry_once room false (shown_children e.children) nick (holder_of nick room.occupants))
-  enters_once st to e nick None =
+  enters_once : (st : Stanza) (to : Address) (e : Element) (nick : List ℕ) (room : Option Room) (past : List Delayed)
+      → IsOnce (enters_by room numbers who st to e nick past)
+  enters_once st to e nick (Some room) past =
+      unless_once st (refusal room numbers who e nick) _
+      (entry_once room false (shown_children e.children) nick (holder_of nick room.occupants) (wanted_of e past))
+  enters_once st to e nick None past =
       let room : Room = new_room numbers.next_room to who in
       choose IsOnce (nat_le most_rooms numbers.rooms) _ _
       (λ (_ : _). easy_once (refused who st ResourceConstraint) (refused_easy who st ResourceConstraint))
       (λ (_ : _). unless_once st (refusal room numbers who e nick) _
-      (entry_once room true (shown_children e.children) nick (holder_of nick room.occupants)))
+      (entry_once room true (shown_children e.children) nick (holder_of nick room.occupants) (wanted_of e [])))
 
-  enters_at_once : (st : Stanza) (to : Address) (e : Element) (nick : Option (List ℕ)) (room : Option Room) → IsOnce (enters_at room numbers who st to e nick)
-  enters_at_once st to e None room = easy_once (refused who st JidMalformed) (refused_easy who st JidMalformed)
-  enters_at_once st to e (Some nick) room = enters_once st to e nick room
+  enters_at_once : (st : Stanza) (to : Address) (e : Element) (nick : Option (List ℕ)) (room : Option Room) (past : List Delayed)
+      → IsOnce (enters_at room numbers who st to e nick past)
+  enters_at_once st to e None room past = easy_once (refused who st JidMalformed) (refused_easy who st JidMalformed)
+  enters_at_once st to e (Some nick) room past = enters_once st to e nick room past
 
-  enter_once : (room : Option Room) (st : Stanza) → IsOnce (enter room numbers who st)
-  enter_once room (Presence (Some to) presence.Available e) = enters_at_once (Presence (Some to) presence.Available e) to e to.resource room
-  enter_once room (Presence None form e) = (omega arith, omega arith)
-  enter_once room (Presence (Some to) presence.Unavailable e) = (omega arith, omega arith)
-  enter_once room (Presence (Some to) presence.Subscribe e) = (omega arith, omega arith)
-  enter_once room (Presence (Some to) presence.Subscribed e) = (omega arith, omega arith)
-  enter_once room (Presence (Some to) presence.Unsubscribe e) = (omega arith, omega arith)
-  enter_once room (Presence (Some to) presence.Unsubscribed e) = (omega arith, omega arith)
-  enter_once room (Presence (Some to) presence.Probe e) = (omega arith, omega arith)
-  enter_once room (Presence (Some to) presence.Error e) = (omega arith, omega arith)
-  enter_once room (Message to form e) = (omega arith, omega arith)
-  enter_once room (Iq to id form e) = (omega arith, omega arith)
-  enter_once room (Faulty kind to id answered c) = (omega arith, omega arith)
+  enter_once : (room : Option Room) (st : Stanza) (past : List Delayed) → IsOnce (enter room numbers who st past)
+  enter_once room (Presence (Some to) presence.Available e) past =
+      enters_at_once (Presence (Some to) presence.Available e) to e to.resource room past
+  enter_once room (Presence None form e) past = (omega arith, omega arith)
+  enter_once room (Presence (Some to) presence.Unavailable e) past = (omega arith, omega arith)
+  enter_once room (Presence (Some to) presence.Subscribe e) past = (omega arith, omega arith)
+  enter_once room (Presence (Some to) presence.Subscribed e) past = (omega arith, omega arith)
+  enter_once room (Presence (Some to) presence.Unsubscribe e) past = (omega arith, omega arith)
+  enter_once room (Presence (Some to) presence.Unsubscribed e) past = (omega arith, omega arith)
+  enter_once room (Presence (Some to) presence.Probe e) past = (omega arith, omega arith)
+  enter_once room (Presence (Some to) presence.Error e) past = (omega arith, omega arith)
+  enter_once room (Message to form e) past = (omega arith, omega arith)
+  enter_once room (Iq to id form e) past = (omega arith, omega arith)
+  enter_once room (Faulty kind to id answered c) past = (omega arith, omega arith)
 
 -- another nick
 
@@ -173,12 +223,13 @@ rename_once room who (Message to form e) = (omega arith, omega arith)
 rename_once room who (Iq to id form e) = (omega arith, omega arith)
 rename_once room who (Faulty kind to id answered c) = (omega arith, omega arith)
 
-present_once : (rooms : Rooms) (who : Here) (st : Stanza) (found : Option Hosted) → IsOnce (present_in rooms who st found)
-present_once rooms who st None = enter_once (numbers_for rooms who.session) who None st
-present_once rooms who st (Some h) =
-    choose IsOnce (is_in who.session h) (rename h.room who st) (enter (Some h.room) (numbers_for rooms who.session) who st)
+present_once : (world : World KeptTraffic) (who : Here) (st : Stanza) (found : Option Hosted) → IsOnce (present_in world who st found)
+present_once world who st None = enter_once (numbers_for world.rooms who.session) who None st []
+present_once world who st (Some h) =
+    choose IsOnce (is_in who.session h) (rename h.room who st)
+    (enter (Some h.room) (numbers_for world.rooms who.session) who st (past_in world.archives h))
     (λ (_ : _). rename_once h.room who st)
-    (λ (_ : _). enter_once (numbers_for rooms who.session) who (Some h.room) st)
+    (λ (_ : _). enter_once (numbers_for world.rooms who.session) who (Some h.room) st (past_in world.archives h))
 
 -- all others
 
@@ -190,7 +241,7 @@ called_easy o who st e h =
 said_easy : (o : Scene) (who : Here) (st : Stanza) (form : MessageForm) (e : Element) (found : Option Hosted)
     → AllByRecursion Easy (to_all_in o who st form e found)
 said_easy o who st form e None = refused_easy who st (to_no_room form e)
-said_easy o who st message.Groupchat e (Some h) = say_easy h.room who st
+said_easy o who st message.Groupchat e (Some h) = say_easy h.room who st (keeping_in o.world.archives h o.moment) (stamp_text o.moment)
 said_easy o who st message.Chat e (Some h) = called_easy o who st e h
 said_easy o who st message.Normal e (Some h) = called_easy o who st e h
 said_easy o who st message.Headline e (Some h) = called_easy o who st e h
@@ -224,8 +275,13 @@ covered o s x = record {
   found = λ place. tt;
   told = λ place. tt;
   form = tt;
-  page = tt;
+  shown = λ from rows q asked short. rows_easy (here o.world s) from q.queryid (shown rows q.filter q.ask);
+  page = λ from rows q asked. tt;
   copy = λ e h at found. tt;
+  plain = λ e r at found. tt;
+  numbered = λ e r at found. tt;
+  sent = λ e user at own. tt;
+  received = λ e user at there. tt;
   presence = λ e h small found. tt;
   show = λ h found. tt;
   asked = λ own. asks (asking o.domain o.world own);
@@ -247,7 +303,7 @@ covered o s x = record {
       (absent_easy (here o.world s) x (room_for o.world.rooms (to_in x)));
   leaves = λ e is short es easy.
       easy_once (es ++ leaves_rooms o.world.rooms s (Some x)) (append_all Easy es _ easy (left_easy s (Some x) (rooms_of s o.world.rooms)));
-  present = λ e is short. present_once o.world.rooms (here o.world s) x (room_for o.world.rooms (to_in x));
+  present = λ e is short. present_once o.world (here o.world s) x (room_for o.world.rooms (to_in x));
 }
   where
     each : Reaches o.world Easy Any Any Any
@@ -271,6 +327,11 @@ covered o s x = record {
     parts own (Some user) =
         parted_all o.world Easy Any Any Any each (party o.domain o.world own) (party o.domain o.world user) (seen own) (seen user)
         (all_told_at o.world (sessions_of o.world user) (numbers_found o.world user))
+
+    rows_easy : (who : Here) (from : Option Address) (queryid : Option (List ℕ)) (rows : List Row)
+        → AllByRecursion (λ row. Easy (shown_to who from queryid row)) rows
+    rows_easy who from queryid [] = tt
+    rows_easy who from queryid (row ∷ more) = (tt, rows_easy who from queryid more)
 
     asks : (xs : List Address) → AllByRecursion (λ a. Easy (asked_by (here o.world s) a)) xs
     asks [] = tt

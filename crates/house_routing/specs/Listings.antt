@@ -2,11 +2,7 @@
 use Rattle.std.specs.Prelude.{ℕ, not, List, [], ◌∷◌, Bool, true, false, ◌&&◌, Option, Some, None, is_some, bytes_eq}
 use Rattle.std.specs.List.{list_any}
 use Rattle.jid_core.specs.Addresses.{Address, same_part}
-use Rattle.stanza_model.specs.declared.effect.Effect.{Effect}
 use Rattle.stanza_model.specs.declared.here.Here.{Here}
-use Rattle.stanza_model.specs.declared.stanza.Stanza.{Stanza}
-use Rattle.stanza_model.specs.declared.stanza.Stanza.TheVariants.{Message}
-use Rattle.stanza_router.specs.Messages.{copied_to}
 use Rattle.session_table.specs.Sessions.{SessionRecord}
 use Rattle.house_model.specs.Presences.{names}
 
@@ -34,11 +30,6 @@ listed_by false e later = later
 abbrev pub listed : (SessionRecord → Bool) → List (ℕ × SessionRecord) → List Here
 listed pick [] = []
 listed pick (e ∷ more) = listed_by (pick e.1) e (listed pick more)
-
--- a message that goes to one session
-abbrev pub message_copied : Here → Stanza → (session : ℕ) → List Effect
-message_copied who (Message to form e) session = copied_to who to e session ∷ []
-message_copied who st session = []
 
 -- an available session of one of these users
 abbrev pub is_among : List (List ℕ) → Option (List ℕ) → Bool

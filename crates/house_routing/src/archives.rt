@@ -1,19 +1,27 @@
-//! Requests for a room's archive (XEP-0313, 4 and 5), which is empty until messages are kept.
-ghost use Rattle.std.specs.Prelude.{◌≡◌, ◌∷◌, [], IfOk};
+//! Requests for archives (XEP-0313, 4 and 5).
+ghost use Rattle.std.specs.Prelude.{◌≡◌, ◌∷◌, ◌++◌, [], ℕ, map, Ok, IfOk, OnOk};
 ghost use Rattle.std.specs.Option.{option_copied};
 ghost use Rattle.stanza_model.specs.Replies.{one_child, result_of, said_to};
+ghost use Rattle.rsm_paging.specs.Pages.{Follow, IsOneWay, Rises};
+ghost use Rattle.archive_table.specs.Pages.{page_of, shown};
+ghost use Rattle.archive_table.specs.Tables.{archives_of, rows_of};
 ghost use Rattle.mam_wire.specs.Queries.{query_of};
-ghost use Rattle.house_model.specs.Archives.{archived, archived_in, empty_page, is_trusted, may_read, names_a_row, paged, queried, query_in};
+ghost use Rattle.house_model.specs.Archives.{answered, archived, archived_of, asked, is_trusted, may_read, paged, queried, query_in, shown_to};
 
 use crate::requests::{gets, one};
 use crate::rooms::is_in;
+use archive_table::{kept, page};
 use house_model::Stanza;
-use mam_wire::{QueryFault, fin, query_form, read_query};
+use house_world::World;
+use jid_core::{Jid, Part};
+use mam_archive::Archive;
+use mam_wire::{Query, QueryFault, fin, query_form, read_query, result_message};
 use muc_room::affiliation_of;
 use muc_service::Hosted;
-use rsm_paging::{Page, PageAsk};
+use rsm_paging::{Page, PageFault, Row, row_of};
+use stanza_model::make::written;
 use stanza_model::{Affiliation, Condition, Effect, Here, IqForm, refuse, result_of, say_to};
-use stanza_tree::{Element, NoMemory, Node, Several};
+use stanza_tree::{Element, NoMemory, Node, Origin, Text};
 use std::alloc::Global;
 
 /// The namespace of queries (XEP-0313, 4.1).
@@ -35,30 +43,6 @@ fn may_read(h: &Hosted, who: &Here) -> bool
     is_in(who.session, h) || is_trusted(affiliation_of(&who.address, h.room().affiliations.slice()))
 }
 
-/// Whether a page is asked for by the id of a row (XEP-0059, 2.2 and 2.3).
-fn names_a_row(ask: &PageAsk) -> bool
-    ensures { result ≡ names_a_row ask.now }
-{
-    if ask.after.is_some() {
-        return true;
-    }
-    match &ask.before {
-        Some(id) => !id.bytes().is_empty(),
-        None => false,
-    }
-}
-
-fn empty_page(alloc: Global) -> Page
-    ensures { result ≡ empty_page }
-{
-    Page {
-        rows: Several::of(Vec::new(alloc)),
-        first_index: 0,
-        count: 0,
-        complete: true,
-    }
-}
-
 /// The result with this child.
 fn replied(
     alloc: Global,
@@ -74,23 +58,104 @@ fn replied(
     one(alloc, say_to(alloc, who, &reply)?)
 }
 
+/// A row of the page, in a message from the room, or, of one's own archive, from nobody (XEP-0313, 4.2).
+fn shown_to(
+    alloc: Global,
+    who: &Here,
+    from: Option<&Jid>,
+    queryid: Option<&Text>,
+    row: &Row,
+) -> Result<Effect, NoMemory>
+    ensures { IfOk result (λ effect. effect ≡ shown_to who.now (option_copied from.entry) (option_copied queryid.entry) row.now) }
+{
+    Ok(Effect::Queue {
+        session: who.session,
+        to: written(alloc, &who.address)?,
+        rest: result_message(alloc, from, queryid, row)?,
+        origin: Origin::Direct,
+    })
+}
+
+/// The rows of the page.
+fn push_shown(
+    alloc: Global,
+    who: &Here,
+    from: Option<&Jid>,
+    query: &Query,
+    rows: &[Row],
+    page: &Page,
+    effects: &mut Vec<Effect>,
+) -> Result<(), NoMemory>
+    requires follow { (n : ℕ) × Follow n rows.now }
+    requires rises { Rises rows.now }
+    requires page { page.now ≡ page_of rows.now query.now.filter query.now.ask }
+    ensures { OnOk result (effects.new.items ≡ effects.old.items
+        ++ map (shown_to who.now (option_copied from.entry) query.now.queryid) (shown rows.now query.now.filter query.now.ask)) }
+{
+    for id in page.rows.slice() {
+        if let Some(row) = row_of(rows, *id) {
+            effects.push(shown_to(alloc, who, from, query.queryid.as_ref(), row)?)?;
+        }
+    }
+    Ok(())
+}
+
+/// The rows of the page, and then what it is.
+fn answered(
+    alloc: Global,
+    who: &Here,
+    stanza: &Stanza,
+    from: Option<&Jid>,
+    rows: &[Row],
+    query: &Query,
+    page: &Page,
+) -> Result<Vec<Effect>, NoMemory>
+    requires follow { (n : ℕ) × Follow n rows.now }
+    requires rises { Rises rows.now }
+    requires page { page.now ≡ page_of rows.now query.now.filter query.now.ask }
+    ensures { IfOk result (λ effects. effects.items ≡ answered who.now stanza.now (option_copied from.entry) rows.now query.now) }
+{
+    let mut effects = Vec::new(alloc);
+    push_shown(alloc, who, from, query, rows, page, &mut effects)?;
+    let mut last = replied(alloc, who, stanza, fin(alloc, page)?)?;
+    effects.append(&mut last)?;
+    Ok(effects)
+}
+
+/// The page that is asked for, or that its row isn't known.
+fn page_asked(
+    alloc: Global,
+    who: &Here,
+    stanza: &Stanza,
+    from: Option<&Jid>,
+    archive: Option<&Archive>,
+    query: &Query,
+) -> Result<Vec<Effect>, NoMemory>
+    requires { IsOneWay query.now.ask.after query.now.ask.before }
+    ensures { IfOk result (λ effects. effects.items
+        ≡ paged who.now stanza.now (option_copied from.entry) (rows_of (option_copied archive.entry)).kept (Ok query.now)) }
+{
+    match page(alloc, archive, &query.filter, &query.ask) {
+        Ok(page) => answered(alloc, who, stanza, from, kept(archive), query, &page),
+        Err(PageFault::UnknownId(_)) => refuse(alloc, who, stanza, Condition::ItemNotFound),
+        Err(PageFault::NoMemory) => Err(NoMemory),
+    }
+}
+
 /// The page that a query asks for.
 fn paged(
     alloc: Global,
     who: &Here,
     stanza: &Stanza,
+    from: Option<&Jid>,
+    archive: Option<&Archive>,
     query: &Element,
 ) -> Result<Vec<Effect>, NoMemory>
-    ensures { IfOk result (λ effects. effects.items ≡ paged who.now stanza.now (query_of query.now)) }
+    ensures { IfOk result (λ effects. effects.items
+        ≡ paged who.now stanza.now (option_copied from.entry) (rows_of (option_copied archive.entry)).kept (query_of query.now)) }
 {
     match read_query(alloc, query) {
-        Ok(query) => {
-            if names_a_row(&query.ask) {
-                refuse(alloc, who, stanza, Condition::ItemNotFound)
-            } else {
-                replied(alloc, who, stanza, fin(alloc, &empty_page(alloc))?)
-            }
-        }
+        Ok(query) => page_asked(alloc, who, stanza, from, archive, &query),
         Err(QueryFault::NotImplemented) => {
             refuse(alloc, who, stanza, Condition::FeatureNotImplemented)
         }
@@ -117,45 +182,74 @@ fn queried(
     alloc: Global,
     who: &Here,
     stanza: &Stanza,
+    from: Option<&Jid>,
+    archive: Option<&Archive>,
     query: Option<&Element>,
 ) -> Result<Vec<Effect>, NoMemory>
-    ensures { IfOk result (λ effects. effects.items ≡ queried who.now stanza.now (option_copied query.entry)) }
+    ensures { IfOk result (λ effects. effects.items
+        ≡ queried who.now stanza.now (option_copied from.entry) (rows_of (option_copied archive.entry)).kept (option_copied query.entry)) }
 {
     match query {
-        Some(query) => paged(alloc, who, stanza, query),
+        Some(query) => paged(alloc, who, stanza, from, archive, query),
         None => refuse(alloc, who, stanza, Condition::BadRequest),
     }
 }
 
-/// What a room that is there answers: the form of a query, or the page that one asks for.
-fn archived_in(
+/// What an archive answers: the form of a query, or the page that one asks for, to one who may read it.
+fn asked(
     alloc: Global,
-    h: &Hosted,
+    may_read: bool,
     who: &Here,
     stanza: &Stanza,
+    from: Option<&Jid>,
+    archive: Option<&Archive>,
 ) -> Result<Vec<Effect>, NoMemory>
-    ensures { IfOk result (λ effects. effects.items ≡ archived_in h.now who.now stanza.now) }
+    ensures { IfOk result (λ effects. effects.items
+        ≡ asked may_read who.now stanza.now (option_copied from.entry) (rows_of (option_copied archive.entry)).kept) }
 {
     if gets(ARCHIVE_SPACE, "query", stanza) {
         replied(alloc, who, stanza, query_form(alloc)?)
-    } else if may_read(h, who) {
-        queried(alloc, who, stanza, query_in(stanza))
+    } else if may_read {
+        queried(alloc, who, stanza, from, archive, query_in(stanza))
     } else {
         refuse(alloc, who, stanza, Condition::Forbidden)
     }
 }
 
+/// A request of a user for the own archive.
+pub(crate) fn archived_of(
+    world: &World,
+    alloc: Global,
+    own: &Part,
+    who: &Here,
+    stanza: &Stanza,
+) -> Result<Vec<Effect>, NoMemory>
+    ensures { IfOk result (λ effects. effects.items ≡ archived_of (archives_of world.now.archives) own.now who.now stanza.now) }
+{
+    let archive = world.archives.of_user(own);
+    asked(alloc, true, who, stanza, None, archive)
+}
+
 /// A request for the archive of a room.
 pub(crate) fn archived(
+    world: &World,
     alloc: Global,
     who: &Here,
     stanza: &Stanza,
     found: Option<&Hosted>,
 ) -> Result<Vec<Effect>, NoMemory>
-    ensures { IfOk result (λ effects. effects.items ≡ archived who.now stanza.now (option_copied found.entry)) }
+    ensures { IfOk result (λ effects. effects.items ≡ archived (archives_of world.now.archives) who.now stanza.now (option_copied found.entry)) }
 {
-    match found {
-        Some(h) => archived_in(alloc, h, who, stanza),
-        None => refuse(alloc, who, stanza, Condition::ItemNotFound),
-    }
+    let Some(h) = found else {
+        return refuse(alloc, who, stanza, Condition::ItemNotFound);
+    };
+    let archive = world.archives.of_room(h.room().number);
+    asked(
+        alloc,
+        may_read(h, who),
+        who,
+        stanza,
+        Some(&h.room().address),
+        archive,
+    )
 }

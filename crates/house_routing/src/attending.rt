@@ -3,7 +3,9 @@ ghost use Rattle.std.specs.Prelude.{◌≡◌, ◌^◌, ◌+◌, Some, IfOk};
 ghost use Rattle.std.specs.Option.{option_copied};
 ghost use Rattle.house_model.specs.Routing.{absent_from, leaves_rooms, present_in, to_be_in};
 ghost use Rattle.house_world.specs.Hosting.{AreHosted};
+ghost use Rattle.house_world.specs.Worlds.{seen};
 
+use crate::keeping::past_in;
 use crate::rooms::{is_in, numbers_for, rooms_of};
 use house_model::Stanza;
 use house_world::World;
@@ -22,13 +24,21 @@ fn present_at(
     h: &Hosted,
 ) -> Result<Vec<Effect>, NoMemory>
     requires hosted { AreHosted (2 ^ 63 + 2 ^ 62) world.now.rooms }
-    ensures { IfOk result (λ effects. effects.items ≡ present_in world.now.rooms who.now stanza.now (Some h.now)) }
+    ensures { IfOk result (λ effects. effects.items ≡ present_in (seen world.now) who.now stanza.now (Some h.now)) }
 {
     if is_in(who.session, h) {
         return rename(alloc, h.room(), who, stanza);
     }
     let numbers = numbers_for(world, who.session);
-    enter(alloc, Some(h.room()), &numbers, who, stanza)
+    let past = past_in(world, alloc, h)?;
+    enter(
+        alloc,
+        Some(h.room()),
+        &numbers,
+        who,
+        stanza,
+        past.as_slice(),
+    )
 }
 
 /// What comes of available presence for a room (XEP-0045, 7.2, 7.6 and 7.7).
@@ -40,13 +50,13 @@ fn present_in(
     found: Option<&Hosted>,
 ) -> Result<Vec<Effect>, NoMemory>
     requires hosted { AreHosted (2 ^ 63 + 2 ^ 62) world.now.rooms }
-    ensures { IfOk result (λ effects. effects.items ≡ present_in world.now.rooms who.now stanza.now (option_copied found.entry)) }
+    ensures { IfOk result (λ effects. effects.items ≡ present_in (seen world.now) who.now stanza.now (option_copied found.entry)) }
 {
     match found {
         Some(h) => present_at(world, alloc, who, stanza, h),
         None => {
             let numbers = numbers_for(world, who.session);
-            enter(alloc, None, &numbers, who, stanza)
+            enter(alloc, None, &numbers, who, stanza, &[])
         }
     }
 }
@@ -76,7 +86,7 @@ pub(crate) fn to_be_in(
     found: Option<&Hosted>,
 ) -> Result<Vec<Effect>, NoMemory>
     requires hosted { AreHosted (2 ^ 63 + 2 ^ 62) world.now.rooms }
-    ensures { IfOk result (λ effects. effects.items ≡ to_be_in world.now.rooms who.now stanza.now form (option_copied found.entry)) }
+    ensures { IfOk result (λ effects. effects.items ≡ to_be_in (seen world.now) who.now stanza.now form (option_copied found.entry)) }
 {
     match form {
         PresenceForm::Available => present_in(world, alloc, who, stanza, found),

@@ -4,6 +4,7 @@
 
 mod archives;
 mod attending;
+mod keeping;
 mod listing;
 mod messages;
 mod presence;

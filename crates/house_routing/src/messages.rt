@@ -1,27 +1,30 @@
 //! Messages (RFC 6121, 8.5; XEP-0045, 7.4 to 7.8).
-ghost use Rattle.std.specs.Prelude.{◌≡◌, ℕ, List, Some, IfOk};
+ghost use Rattle.std.specs.Prelude.{◌≡◌, ◌+◌, ◌^◌, ℕ, List, Some, IfOk};
 ghost use Rattle.std.specs.List.{filter};
 ghost use Rattle.std.specs.Option.{option_copied};
 ghost use Rattle.muc_owner.specs.Inviting.{invite};
 ghost use Rattle.house_model.specs.RoomLookups.{called};
 ghost use Rattle.house_model.specs.Routing.{choosable, chosen, delivered, has_account, is_invitation, message, receivers, to_all_in, to_no_room};
 ghost use Rattle.house_model.specs.Routing.{to_one_in, to_users, user_in};
-ghost use Rattle.house_routing.specs.Listings.{is_elsewhere, message_copied};
+ghost use Rattle.house_routing.specs.Listings.{is_elsewhere};
+ghost use Rattle.archive_table.specs.Tables.{archives_of};
+ghost use Rattle.house_world.specs.Hosting.{AreArchived};
 ghost use Rattle.house_world.specs.Wholes.{IsTied};
 ghost use Rattle.house_world.specs.Worlds.{seen};
 
+use crate::keeping::{keeping_for, keeping_in};
 use crate::listing::{live_for, sessions_of};
-use crate::requests::one;
 use crate::rooms::{called, room_for};
 use crate::users::place_among;
 use house_model::{MessageForm, Stanza};
 use house_world::World;
 use jid_core::Part;
+use mam_wire::stamp_text;
 use muc_owner::invite;
 use muc_room::{direct, say};
 use muc_service::Hosted;
 use stanza_model::{Condition, Effect, Here, refuse};
-use stanza_router::{Place, copy_to, deliver, keep_receivers};
+use stanza_router::{Place, deliver, deliver_to, keep_receivers};
 use stanza_tree::{Element, NoMemory};
 use std::alloc::Global;
 
@@ -79,14 +82,20 @@ fn to_all_of(
     stanza: &Stanza,
     form: MessageForm,
     element: &Element,
+    moment: u64,
     h: &Hosted,
 ) -> Result<Vec<Effect>, NoMemory>
     requires tied { IsTied world.now.table }
+    requires archived { AreArchived (2 ^ 63 + 2 ^ 62) (archives_of world.now.archives) }
     ensures { (users : List (List ℕ)) → IfOk result (λ effects. effects.items
-        ≡ to_all_in (record { domain = domain.now; users = users; world = seen world.now }) who.now stanza.now form element.now (Some h.now)) }
+        ≡ to_all_in (record { domain = domain.now; users = users; world = seen world.now; moment = moment }) who.now stanza.now form element.now (Some h.now)) }
 {
     match form {
-        MessageForm::Groupchat => say(alloc, h.room(), who, stanza),
+        MessageForm::Groupchat => {
+            let keeping = keeping_in(world, h, moment);
+            let stamp = stamp_text(alloc, moment)?;
+            say(alloc, h.room(), who, stanza, &keeping, &stamp)
+        }
         _ if is_invitation(element) => called_in(world, alloc, domain, who, stanza, element, h),
         _ => refuse(alloc, who, stanza, Condition::BadRequest),
     }
@@ -101,15 +110,17 @@ fn to_all_in(
     stanza: &Stanza,
     form: MessageForm,
     element: &Element,
+    moment: u64,
     found: Option<&Hosted>,
 ) -> Result<Vec<Effect>, NoMemory>
     requires tied { IsTied world.now.table }
+    requires archived { AreArchived (2 ^ 63 + 2 ^ 62) (archives_of world.now.archives) }
     ensures { (users : List (List ℕ)) → IfOk result (λ effects. effects.items
-        ≡ to_all_in (record { domain = domain.now; users = users; world = seen world.now }) who.now stanza.now form element.now
+        ≡ to_all_in (record { domain = domain.now; users = users; world = seen world.now; moment = moment }) who.now stanza.now form element.now
         (option_copied found.entry)) }
 {
     match found {
-        Some(h) => to_all_of(world, alloc, domain, who, stanza, form, element, h),
+        Some(h) => to_all_of(world, alloc, domain, who, stanza, form, element, moment, h),
         None => refuse(alloc, who, stanza, to_no_room(form, element)),
     }
 }
@@ -126,18 +137,6 @@ fn to_one_in(
     match found {
         Some(h) => direct(alloc, h.room(), who, stanza),
         None => refuse(alloc, who, stanza, Condition::ItemNotFound),
-    }
-}
-
-/// A copy of a message for a session.
-fn copy_message(alloc: Global, who: &Here, stanza: &Stanza, s: u64) -> Result<Vec<Effect>, NoMemory>
-    ensures { IfOk result (λ effects. effects.items ≡ message_copied who.now stanza.now s) }
-{
-    match stanza {
-        Stanza::Message { to, element, .. } => {
-            one(alloc, copy_to(alloc, who, to.as_ref(), element, s)?)
-        }
-        _ => Ok(Vec::new(alloc)),
     }
 }
 
@@ -226,20 +225,24 @@ fn to_users(
     form: MessageForm,
     place: &Place,
     user: Option<&Part>,
+    moment: u64,
 ) -> Result<Vec<Effect>, NoMemory>
     requires tied { IsTied world.now.table }
-    ensures { IfOk result (λ effects. effects.items
-        ≡ to_users users.now (seen world.now) who.now stanza.now form place.now (option_copied user.entry)) }
+    requires archived { AreArchived (2 ^ 63 + 2 ^ 62) (archives_of world.now.archives) }
+    ensures { (domain : List ℕ) → IfOk result (λ effects. effects.items
+        ≡ to_users (record { domain = domain; users = users.now; world = seen world.now; moment = moment }) who.now stanza.now form place.now
+        (option_copied user.entry)) }
 {
+    let keeping = keeping_for(world, who, stanza.to(), moment);
     if let Some(s) = live_for(world, place, stanza.to()) {
-        return copy_message(alloc, who, stanza, s);
+        return deliver_to(alloc, who, stanza, s, &keeping);
     }
     let found = chosen(world, alloc, form, place, user)?;
     let known = has_account(users, user, found.as_slice());
-    deliver(alloc, who, stanza, place, known, found.as_slice())
+    deliver(alloc, who, stanza, place, known, found.as_slice(), &keeping)
 }
 
-/// What comes of a message.
+/// What comes of a message at this moment.
 pub(crate) fn message(
     world: &World,
     alloc: Global,
@@ -251,15 +254,20 @@ pub(crate) fn message(
     form: MessageForm,
     element: &Element,
     place: &Place,
+    moment: u64,
 ) -> Result<Vec<Effect>, NoMemory>
     requires tied { IsTied world.now.table }
+    requires archived { AreArchived (2 ^ 63 + 2 ^ 62) (archives_of world.now.archives) }
     ensures { IfOk result (λ effects. effects.items
-        ≡ message (record { domain = domain.now; users = users.now; world = seen world.now }) own.now who.now stanza.now form element.now place.now) }
+        ≡ message (record { domain = domain.now; users = users.now; world = seen world.now; moment = moment }) own.now who.now stanza.now form
+        element.now place.now) }
 {
     match place {
         Place::Room(_) => {
             let found = room_for(world, stanza.to());
-            to_all_in(world, alloc, domain, who, stanza, form, element, found)
+            to_all_in(
+                world, alloc, domain, who, stanza, form, element, moment, found,
+            )
         }
         Place::RoomAt(_, _) => to_one_in(alloc, who, stanza, room_for(world, stanza.to())),
         _ => to_users(
@@ -271,6 +279,7 @@ pub(crate) fn message(
             form,
             place,
             user_in(own, place),
+            moment,
         ),
     }
 }

@@ -1,5 +1,5 @@
 //! Presence (RFC 6121, 4; XEP-0045, 7): whom it reaches, and what comes of it.
-ghost use Rattle.std.specs.Prelude.{◌≡◌, ◌∷◌, ◌+◌, ◌-◌, ◌^◌, [], IfOk, Some, min, nat_lt};
+ghost use Rattle.std.specs.Prelude.{◌≡◌, ◌∷◌, ◌+◌, ◌-◌, ◌^◌, ℕ, [], IfOk, Some, min, nat_lt};
 ghost use Rattle.std.specs.Option.{option_copied};
 ghost use Rattle.house_model.specs.Presences.{length_sent, most_of_presence, named};
 ghost use Rattle.house_model.specs.Routing.{broadcast, directed_to, error_to, live_for, presence, presence_to, to_address, to_user};
@@ -68,8 +68,8 @@ fn broadcast(
 ) -> Result<Vec<Effect>, NoMemory>
     requires tied { IsTied world.now.table }
     requires domain { world.now.book.domain ≡ domain.now }
-    ensures { IfOk result (λ effects. effects.items
-        ≡ broadcast (record { domain = domain.now; users = users.now; world = seen world.now }) own.now who.now stanza.now form) }
+    ensures { (moment : ℕ) → IfOk result (λ effects. effects.items
+        ≡ broadcast (record { domain = domain.now; users = users.now; world = seen world.now; moment = moment }) own.now who.now stanza.now form) }
 {
     match form {
         PresenceForm::Available => {
@@ -115,8 +115,9 @@ fn directed_to(
     place: &Place,
     receivers: &[Here],
 ) -> Result<Vec<Effect>, NoMemory>
-    ensures { IfOk result (λ effects. effects.items
-        ≡ directed_to (record { domain = domain.now; users = users.now; world = seen world.now }) own.now who.now stanza.now place.now receivers.now) }
+    ensures { (moment : ℕ) → IfOk result (λ effects. effects.items
+        ≡ directed_to (record { domain = domain.now; users = users.now; world = seen world.now; moment = moment })
+        own.now who.now stanza.now place.now receivers.now) }
 {
     if has_account(users, user_in(own, place), receivers) {
         directed(alloc, who, stanza, receivers, directed_by(world, who))
@@ -166,8 +167,8 @@ fn directed_at(
     place: &Place,
 ) -> Result<Vec<Effect>, NoMemory>
     requires tied { IsTied world.now.table }
-    ensures { IfOk result (λ effects. effects.items
-        ≡ directed_to (record { domain = domain.now; users = users.now; world = seen world.now }) own.now who.now stanza.now place.now
+    ensures { (moment : ℕ) → IfOk result (λ effects. effects.items
+        ≡ directed_to (record { domain = domain.now; users = users.now; world = seen world.now; moment = moment }) own.now who.now stanza.now place.now
         (named (seen world.now) (to.now ∷ []))) }
 {
     let receivers = named_by(world, alloc, to)?;
@@ -200,8 +201,9 @@ fn to_user(
 ) -> Result<Vec<Effect>, NoMemory>
     requires tied { IsTied world.now.table }
     requires domain { world.now.book.domain ≡ domain.now }
-    ensures { IfOk result (λ effects. effects.items
-        ≡ to_user (record { domain = domain.now; users = users.now; world = seen world.now }) own.now who.now stanza.now to.now form element.now place.now) }
+    ensures { (moment : ℕ) → IfOk result (λ effects. effects.items
+        ≡ to_user (record { domain = domain.now; users = users.now; world = seen world.now; moment = moment })
+        own.now who.now stanza.now to.now form element.now place.now) }
 {
     match form {
         PresenceForm::Available | PresenceForm::Unavailable => {
@@ -232,8 +234,9 @@ fn to_address(
     requires tied { IsTied world.now.table }
     requires domain { world.now.book.domain ≡ domain.now }
     requires hosted { AreHosted (2 ^ 63 + 2 ^ 62) world.now.rooms }
-    ensures { IfOk result (λ effects. effects.items
-        ≡ to_address (record { domain = domain.now; users = users.now; world = seen world.now }) own.now who.now stanza.now to.now form element.now place.now) }
+    ensures { (moment : ℕ) → IfOk result (λ effects. effects.items
+        ≡ to_address (record { domain = domain.now; users = users.now; world = seen world.now; moment = moment })
+        own.now who.now stanza.now to.now form element.now place.now) }
 {
     match place {
         Place::Account | Place::User(_) | Place::UserAt(_, _) => {
@@ -265,8 +268,9 @@ fn presence_to(
     requires tied { IsTied world.now.table }
     requires domain { world.now.book.domain ≡ domain.now }
     requires hosted { AreHosted (2 ^ 63 + 2 ^ 62) world.now.rooms }
-    ensures { IfOk result (λ effects. effects.items
-        ≡ presence_to (record { domain = domain.now; users = users.now; world = seen world.now }) own.now who.now stanza.now (option_copied to.entry)
+    ensures { (moment : ℕ) → IfOk result (λ effects. effects.items
+        ≡ presence_to (record { domain = domain.now; users = users.now; world = seen world.now; moment = moment })
+        own.now who.now stanza.now (option_copied to.entry)
         form element.now place.now) }
 {
     match to {
@@ -294,8 +298,9 @@ pub(crate) fn presence(
     requires tied { IsTied world.now.table }
     requires domain { world.now.book.domain ≡ domain.now }
     requires hosted { AreHosted (2 ^ 63 + 2 ^ 62) world.now.rooms }
-    ensures { IfOk result (λ effects. effects.items
-        ≡ presence (record { domain = domain.now; users = users.now; world = seen world.now }) own.now who.now stanza.now (option_copied to.entry)
+    ensures { (moment : ℕ) → IfOk result (λ effects. effects.items
+        ≡ presence (record { domain = domain.now; users = users.now; world = seen world.now; moment = moment })
+        own.now who.now stanza.now (option_copied to.entry)
         form element.now place.now) }
 {
     if is_too_long(alloc, who, to, element)? {

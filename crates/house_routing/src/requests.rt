@@ -80,7 +80,7 @@ fn discovers(stanza: &Stanza) -> bool
 }
 
 /// A request of either type for this namespace.
-fn queries(space: &str, stanza: &Stanza) -> bool
+pub(crate) fn queries(space: &str, stanza: &Stanza) -> bool
     ensures { result ≡ queries space.now stanza.now }
 {
     gets(space, "query", stanza) || sets(space, "query", stanza)
@@ -224,14 +224,14 @@ fn to_room(
     found: Option<&Hosted>,
 ) -> Result<Vec<Effect>, NoMemory>
     ensures { IfOk result (λ effects. effects.items
-        ≡ to_room world.now.rooms who.now stanza.now place.now (option_copied found.entry)) }
+        ≡ to_room (seen world.now) who.now stanza.now place.now (option_copied found.entry)) }
 {
     if discovers(stanza) {
         discovered_among(world, alloc, who, stanza, place)
     } else if pings(stanza) {
         done(alloc, who, stanza)
     } else if queries(ARCHIVE_SPACE, stanza) {
-        archived(alloc, who, stanza, found)
+        archived(world, alloc, who, stanza, found)
     } else {
         asked_of(alloc, who, stanza, found)
     }
@@ -270,8 +270,8 @@ pub(crate) fn iq(
 ) -> Result<Vec<Effect>, NoMemory>
     requires tied { IsTied world.now.table }
     requires domain { world.now.book.domain ≡ domain.now }
-    ensures { (users : List (List ℕ)) → IfOk result (λ effects. effects.items
-        ≡ iq (record { domain = domain.now; users = users; world = seen world.now }) own.now who.now stanza.now (option_copied to.entry)
+    ensures { (users : List (List ℕ)) (moment : ℕ) → IfOk result (λ effects. effects.items
+        ≡ iq (record { domain = domain.now; users = users; world = seen world.now; moment = moment }) own.now who.now stanza.now (option_copied to.entry)
         element.now place.now) }
 {
     match place {

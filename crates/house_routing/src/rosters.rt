@@ -10,8 +10,9 @@ ghost use Rattle.house_model.specs.Routing.{between, parted, roster_changed, sub
 ghost use Rattle.house_world.specs.Wholes.{IsTied};
 ghost use Rattle.house_world.specs.Worlds.{seen};
 
+use crate::archives::{ARCHIVE_SPACE, archived_of};
 use crate::listing::sessions_of;
-use crate::requests::{gets, sets, to_server};
+use crate::requests::{gets, queries, sets, to_server};
 use crate::sight::presence_of;
 use crate::users::place_among;
 use contact_table::{bare_of, local_user};
@@ -141,8 +142,8 @@ fn between(
 ) -> Result<Option<Vec<Effect>>, NoMemory>
     requires tied { IsTied world.now.table }
     requires domain { world.now.book.domain ≡ domain.now }
-    ensures { (users : List (List ℕ)) → IfOk result (λ effects. option_map (λ v. v.items) effects
-        ≡ between (record { domain = domain.now; users = users; world = seen world.now }) own.now user.now form) }
+    ensures { (users : List (List ℕ)) (moment : ℕ) → IfOk result (λ effects. option_map (λ v. v.items) effects
+        ≡ between (record { domain = domain.now; users = users; world = seen world.now; moment = moment }) own.now user.now form) }
 {
     let mine = member_of(world, alloc, domain, own)?;
     let theirs = member_of(world, alloc, domain, user)?;
@@ -168,8 +169,9 @@ pub(crate) fn subscribed(
 ) -> Result<Vec<Effect>, NoMemory>
     requires tied { IsTied world.now.table }
     requires domain { world.now.book.domain ≡ domain.now }
-    ensures { IfOk result (λ effects. effects.items
-        ≡ subscribed (record { domain = domain.now; users = users.now; world = seen world.now }) own.now who.now stanza.now form (option_copied user.entry)) }
+    ensures { (moment : ℕ) → IfOk result (λ effects. effects.items
+        ≡ subscribed (record { domain = domain.now; users = users.now; world = seen world.now; moment = moment })
+        own.now who.now stanza.now form (option_copied user.entry)) }
 {
     let Some(user) = user else {
         return Ok(Vec::new(alloc));
@@ -205,8 +207,8 @@ fn user_removed(
     stanza: &Stanza,
 ) -> Result<Option<Part>, NoMemory>
     requires domain { world.now.book.domain ≡ domain.now }
-    ensures { (users : List (List ℕ)) → IfOk result (λ user. user
-        ≡ user_removed (record { domain = domain.now; users = users; world = seen world.now }) own.now stanza.now) }
+    ensures { (users : List (List ℕ)) (moment : ℕ) → IfOk result (λ user. user
+        ≡ user_removed (record { domain = domain.now; users = users; world = seen world.now; moment = moment }) own.now stanza.now) }
 {
     let address = address_removed(world, alloc, domain, own, stanza)?;
     user_at(alloc, domain, address.as_ref())
@@ -222,8 +224,8 @@ fn parted(
 ) -> Result<Vec<Effect>, NoMemory>
     requires tied { IsTied world.now.table }
     requires domain { world.now.book.domain ≡ domain.now }
-    ensures { (users : List (List ℕ)) → IfOk result (λ effects. effects.items
-        ≡ parted (record { domain = domain.now; users = users; world = seen world.now }) own.now (option_copied user.entry)) }
+    ensures { (users : List (List ℕ)) (moment : ℕ) → IfOk result (λ effects. effects.items
+        ≡ parted (record { domain = domain.now; users = users; world = seen world.now; moment = moment }) own.now (option_copied user.entry)) }
 {
     let Some(user) = user else {
         return Ok(Vec::new(alloc));
@@ -248,8 +250,8 @@ fn roster_changed(
 ) -> Result<Vec<Effect>, NoMemory>
     requires tied { IsTied world.now.table }
     requires domain { world.now.book.domain ≡ domain.now }
-    ensures { (users : List (List ℕ)) → IfOk result (λ effects. effects.items
-        ≡ roster_changed (record { domain = domain.now; users = users; world = seen world.now }) own.now who.now stanza.now) }
+    ensures { (users : List (List ℕ)) (moment : ℕ) → IfOk result (λ effects. effects.items
+        ≡ roster_changed (record { domain = domain.now; users = users; world = seen world.now; moment = moment }) own.now who.now stanza.now) }
 {
     let removed = user_removed(world, alloc, domain, own, stanza)?;
     let mut effects = parted(world, alloc, domain, own, removed.as_ref())?;
@@ -277,13 +279,15 @@ pub(crate) fn to_account(
 ) -> Result<Vec<Effect>, NoMemory>
     requires tied { IsTied world.now.table }
     requires domain { world.now.book.domain ≡ domain.now }
-    ensures { (users : List (List ℕ)) → IfOk result (λ effects. effects.items
-        ≡ to_account (record { domain = domain.now; users = users; world = seen world.now }) own.now who.now stanza.now) }
+    ensures { (users : List (List ℕ)) (moment : ℕ) → IfOk result (λ effects. effects.items
+        ≡ to_account (record { domain = domain.now; users = users; world = seen world.now; moment = moment }) own.now who.now stanza.now) }
 {
     if gets("jabber:iq:roster", "query", stanza) {
         roster_get(alloc, contacts(world, own), who, stanza)
     } else if sets("jabber:iq:roster", "query", stanza) {
         roster_changed(world, alloc, domain, own, who, stanza)
+    } else if queries(ARCHIVE_SPACE, stanza) {
+        archived_of(world, alloc, own, who, stanza)
     } else {
         to_server(alloc, who, stanza, &Place::Account)
     }

@@ -6,7 +6,9 @@ ghost use Rattle.house_model.specs.Histories.{StanzaFits};
 ghost use Rattle.house_model.specs.Routing.{departure, departure_by, effects_at, effects_in};
 ghost use Rattle.roster_laws.specs.Keeping.{AreKept};
 ghost use Rattle.session_table.specs.Tables.{is_there};
-ghost use Rattle.house_world.specs.Hosting.{AreHosted, Hosts, IsCast};
+ghost use Rattle.archive_table.specs.Tables.{archives_of};
+ghost use Rattle.house_model.specs.Archiving.{AddsFew, KeepsNothing};
+ghost use Rattle.house_world.specs.Hosting.{Archived, AreArchived, AreHosted, Hosts, IsCast, filed_all};
 ghost use Rattle.house_world.specs.Keeping.{AreShortNames};
 ghost use Rattle.house_world.specs.Wholes.{IsTied};
 ghost use Rattle.house_world.specs.Worlds.{IsHeld, seen};
@@ -36,17 +38,19 @@ fn effects_at(
     who: &Here,
     stanza: &Stanza,
     place: &Place,
+    moment: u64,
 ) -> Result<Vec<Effect>, NoMemory>
     requires tied { IsTied world.now.table }
     requires domain { world.now.book.domain ≡ domain.now }
     requires hosted { AreHosted (2 ^ 63 + 2 ^ 62) world.now.rooms }
+    requires archived { AreArchived (2 ^ 63 + 2 ^ 62) (archives_of world.now.archives) }
     ensures { IfOk result (λ effects. effects.items
-        ≡ effects_at (record { domain = domain.now; users = users.now; world = seen world.now }) own.now who.now stanza.now place.now) }
+        ≡ effects_at (record { domain = domain.now; users = users.now; world = seen world.now; moment = moment }) own.now who.now stanza.now place.now) }
 {
     match stanza {
         Stanza::Message { form, element, .. } => {
             message(
-                world, alloc, domain, users, own, who, stanza, *form, element, place,
+                world, alloc, domain, users, own, who, stanza, *form, element, place, moment,
             )
         }
         Stanza::Presence { to, form, element } => {
@@ -88,12 +92,15 @@ fn effects_in(
     users: &[Part],
     s: u64,
     stanza: &Stanza,
+    moment: u64,
 ) -> Result<Vec<Effect>, NoMemory>
     requires tied { IsTied world.now.table }
     requires held { IsHeld s world.now.table }
     requires domain { world.now.book.domain ≡ domain.now }
     requires hosted { AreHosted (2 ^ 63 + 2 ^ 62) world.now.rooms }
-    ensures { IfOk result (λ effects. effects.items ≡ effects_in (record { domain = domain.now; users = users.now; world = seen world.now }) s stanza.now) }
+    requires archived { AreArchived (2 ^ 63 + 2 ^ 62) (archives_of world.now.archives) }
+    ensures { IfOk result (λ effects. effects.items ≡ effects_in (record { domain = domain.now; users = users.now; world = seen world.now; moment = moment })
+        s stanza.now) }
 {
     let Some(who) = here(world, alloc, s)? else {
         return Ok(Vec::new(alloc));
@@ -102,7 +109,9 @@ fn effects_in(
         return Ok(Vec::new(alloc));
     };
     let place = place(alloc, stanza.to(), own, domain)?;
-    effects_at(world, alloc, domain, users, own, &who, stanza, &place)
+    effects_at(
+        world, alloc, domain, users, own, &who, stanza, &place, moment,
+    )
 }
 
 // A list has fewer than 2^64 places.
@@ -110,8 +119,9 @@ fn know_length(_length: usize)
     ensures { _length < 2 ^ 64 }
 {}
 
-/// The effects of a stanza of a session, as they are queued, and the rooms after them. What they queue is short, and so is what is kept of the
-/// rooms. Costs the size of the stanza and of the effects, and a look at each session; and a copy of the rooms, where they change.
+/// The effects of a stanza of a session at this moment, as they are queued, and the rooms after them. What they queue is short, and so is what
+/// is kept of the rooms and of messages. Costs the size of the stanza and of the effects, and a look at each session; and a copy of the rooms,
+/// where they change.
 pub fn effects_of(
     world: &World,
     alloc: Global,
@@ -119,6 +129,7 @@ pub fn effects_of(
     users: &[Part],
     s: u64,
     stanza: &Stanza,
+    moment: u64,
 ) -> Result<Cast, NoMemory>
     requires tied { IsTied world.now.table }
     requires held { IsHeld s world.now.table }
@@ -126,15 +137,18 @@ pub fn effects_of(
     requires names { AreShortNames world.now.book.book.asked }
     requires rosters { AreKept domain.now world.now.book.book }
     requires hosted { AreHosted (2 ^ 63 + 2 ^ 62) world.now.rooms }
+    requires archived { AreArchived (2 ^ 63 + 2 ^ 62) (archives_of world.now.archives) }
     requires fits { StanzaFits stanza.now }
     ensures effects { IfOk result (λ c. IsCast (effects_in
-        (record { domain = domain.now; users = users.now; world = seen world.now }) s stanza.now) world.now.rooms c) }
+        (record { domain = domain.now; users = users.now; world = seen world.now; moment = moment }) s stanza.now) world.now.rooms c) }
     ensures short { IfOk result (λ c. AreSmall c.effects.items) }
     ensures hosts { IfOk result (λ c. Hosts world.now.rooms (unwrap_or c.rooms world.now.rooms)) }
+    ensures few { IfOk result (λ c. AddsFew c.effects.items) }
+    ensures archives { IfOk result (λ c. Archived (archives_of world.now.archives) (filed_all c.effects.items (archives_of world.now.archives))) }
 {
     know_part(domain);
     know_to(stanza);
-    let effects = effects_in(world, alloc, domain, users, s, stanza)?;
+    let effects = effects_in(world, alloc, domain, users, s, stanza, moment)?;
     know_length(effects.len());
     let cast = world.cast(effects)?;
     Ok(cast)
@@ -181,6 +195,8 @@ pub fn departure(world: &World, alloc: Global, s: u64) -> Result<Cast, NoMemory>
     ensures effects { IfOk result (λ c. IsCast (departure (seen world.now) s) world.now.rooms c) }
     ensures short { IfOk result (λ c. AreSmall c.effects.items) }
     ensures hosts { IfOk result (λ c. Hosts world.now.rooms (unwrap_or c.rooms world.now.rooms)) }
+    ensures nothing { IfOk result (λ c. KeepsNothing c.effects.items) }
+    ensures archives { IfOk result (λ c. Archived (archives_of world.now.archives) (filed_all c.effects.items (archives_of world.now.archives))) }
 {
     let effects = departure_in(world, alloc, s)?;
     know_length(effects.len());

@@ -98,7 +98,8 @@ verdict13 =
 -- The phone says something, by its text.
 
 abbrev says_in : ℕ → List ℕ → Verdict
-says_in items t = does reply.Done (On 2 (op.Act say) ∷ map effect_of (cast (rooms_of_two items) (Broadcast 1 (item.Message t) ∷ [])))
+says_in items t =
+    does reply.Done (On 2 (op.Act say) ∷ map effect_of (cast (rooms_of_two items) (Broadcast 1 (item.Message t false seat 0) ∷ [])))
 
 verdict15 : verdict (keep (turn (Act 1 say 0) talk14)) (Act 1 say 0) ≡ says_in 2 (said 0).rest
 verdict15 = ap (says_in 2) said-text

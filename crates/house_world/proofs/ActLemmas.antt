@@ -111,11 +111,11 @@ some_kept world moment = record {
 }
 
 -- what the rules on stanzas read is the same
-pub scene_is : (k : Kept) (domain : List ℕ) (users : List (List ℕ)) (world : World KeptTraffic) (s : ℕ) (x : Stanza) → k.world ≡ world
-    → k.head.domain.domain ≡ domain → k.head.users ≡ users
-    → effects_in (record { domain = domain; users = users; world = world }) s x ≡ effects k s x
-scene_is k domain users world s x same at names =
-    λ i. effects_in (record { domain = sym at i; users = sym names i; world = sym same i }) s x
+pub scene_is : (k : Kept) (domain : List ℕ) (users : List (List ℕ)) (world : World KeptTraffic) (moment s : ℕ) (x : Stanza) → k.world ≡ world
+    → k.head.domain.domain ≡ domain → k.head.users ≡ users → k.head.moment ≡ moment
+    → effects_in (record { domain = domain; users = users; world = world; moment = moment }) s x ≡ effects k s x
+scene_is k domain users world moment s x same at names when =
+    λ i. effects_in (record { domain = sym at i; users = sym names i; world = sym same i; moment = sym when i }) s x
 
 -- the act as a whole
 pub act_ends : (k : Kept) (p : model.Pass) (c s t w : ℕ) (x : Stanza) (a b d f : code.World) (es : List stanza.Effect) → p ≡ model.Holds c s

@@ -11,6 +11,7 @@ use Rattle.house_model.specs.Numbered.{least}
 use Rattle.house_model.specs.States.{World, Kept}
 use Rattle.house_model.specs.Lookups.{is_there_by, is_there, is_at, session_at}
 use Rattle.house_model.specs.Traffic.{KeptTraffic}
+use Rattle.archive_table.specs.Archives.{Archives}
 use Rattle.contact_table.specs.Books.{Book}
 use Rattle.muc_service.specs.Rooms.{Rooms}
 use Rattle.house_world.specs.Views.{hold_by, session_by, sessions_of, world_of}
@@ -32,8 +33,8 @@ at_by : (a : Address) (lines : List stage.Line) (o : Option SessionRecord) → (
 at_by a lines None each = refl
 at_by a lines (Some x) each = ap (λ b. b && same_address x.address a) (there_is x lines (each x refl))
 
-pub at_is : (k : Kept) (a : Address) (t : TableRecord) (answers : List (List Answer)) (book : Book) (rooms : Rooms) → IsTied t → Rises 0 t.sessions t.made
-    → k.world ≡ world_of t answers book rooms → session_at k a ≡ number_at a t.sessions
-at_is k a t answers book rooms tied rises world =
+pub at_is : (k : Kept) (a : Address) (t : TableRecord) (answers : List (List Answer)) (book : Book) (rooms : Rooms) (kept : Archives) → IsTied t
+    → Rises 0 t.sessions t.made → k.world ≡ world_of t answers book rooms kept → session_at k a ≡ number_at a t.sessions
+at_is k a t answers book rooms kept tied rises world =
     ap (λ (x : World KeptTraffic). least x.made (λ s. is_at a (x.sessions s))) world
     ∙ sym (first_is_least (λ x. same_address x.address a) (λ s. is_at a (sessions_of t s)) t rises (λ s. at_by a t.lines (session_of s t) (tied.each s)))

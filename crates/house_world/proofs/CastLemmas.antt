@@ -7,7 +7,7 @@ use Rattle.std.specs.Global.{Vec}
 use Rattle.stanza_model.specs.declared.effect.Change.{Change}
 use Rattle.stanza_model.specs.declared.effect.Change.TheVariants as change
 use Rattle.stanza_model.specs.declared.effect.Effect.{Effect}
-use Rattle.stanza_model.specs.declared.effect.Effect.TheVariants.{Queue, Broadcast, Enter, Leave, Set}
+use Rattle.stanza_model.specs.declared.effect.Effect.TheVariants.{Queue, Broadcast, Enter, Leave, Keep, Set}
 use Rattle.stanza_model.specs.declared.room.Occupant.{Occupant}
 use Rattle.stanza_model.specs.declared.room.RoomItem.{RoomItem}
 use Rattle.stanza_model.specs.declared.room.Seat.{Seat}
@@ -44,6 +44,7 @@ heard_after (Queue s to rest origin) rooms more = refl
 heard_after (Broadcast n item) rooms more = found_after (hosted_as n rooms) item rooms more
 heard_after (Enter n s address nick role) rooms more = refl
 heard_after (Leave n s) rooms more = refl
+heard_after (Keep user peer text moment) rooms more = refl
 heard_after (Set c) rooms more = refl
 
 pub after_cast : (es : List Effect) (rooms : Rooms) → after rooms (cast rooms es) ≡ after rooms es
@@ -74,13 +75,17 @@ set_same (change.Affiliated n address a) rooms is = absurd (cc)
 set_same (change.RoleSet n s role) rooms is = absurd (cc)
 set_same (change.Renamed n s nick) rooms is = absurd (cc)
 set_same (change.OccupantShown n s presence) rooms is = absurd (cc)
-set_same (change.Subject n text) rooms is = absurd (cc)
+set_same (change.Subject n text stamp) rooms is = absurd (cc)
+set_same (change.RoomRow n peer text moment) rooms is = refl
 
 untouched : (es : List Effect) (rooms : Rooms) → list_any touches es ≡ false → (cast rooms es ≡ es) × (after rooms es ≡ rooms)
 untouched [] rooms is = (refl, refl)
 untouched (Queue s to rest origin ∷ es) rooms is =
     let more = untouched es rooms is in
     (ap (λ (l : List Effect). Queue s to rest origin ∷ l) more.0, more.1)
+untouched (Keep user peer text moment ∷ es) rooms is =
+    let more = untouched es rooms is in
+    (ap (λ (l : List Effect). Keep user peer text moment ∷ l) more.0, more.1)
 untouched (Broadcast n item ∷ es) rooms is = absurd (cc)
 untouched (Enter n s address nick role ∷ es) rooms is = absurd (cc)
 untouched (Leave n s ∷ es) rooms is = absurd (cc)

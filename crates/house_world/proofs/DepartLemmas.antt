@@ -10,6 +10,7 @@ use Rattle.session_table.specs.declared.line.Line.TheVariants.{Logged, Bound}
 use Rattle.session_table.specs.Sessions.{SessionRecord}
 use Rattle.session_table.specs.Tables.{TableRecord, Rises, conn_of, line_of, session_of, without}
 use Rattle.session_table.proofs.NumberLemmas.{lookup_removed}
+use Rattle.archive_table.specs.Tables.{archives_of}
 use Rattle.house_model.specs.Numbered.{put}
 use Rattle.house_model.specs.Sessions.{Held, Away, Ended, End, Part, Rest, Session, session, gone, step_if, session_step}
 use Rattle.house_model.specs.Traffic.{KeptTraffic, brief, nothing_kept}
@@ -182,6 +183,7 @@ module _ (a : code.World) (s spare : ℕ) (c : Cause) (x : SessionRecord) (tied 
       opened = was.opened;
       book = a.book.book;
       rooms = a.rooms;
+      archives = archives_of a.archives;
       lines = sym (λ j. settled s (part_before j).hold (part_step j).hold (seen a).lines) i;
       made = was.made;
       sessions = λ n. part_at n i;

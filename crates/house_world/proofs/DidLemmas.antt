@@ -3,6 +3,7 @@ use Rattle.std.proofs.Common.{◌≡◌, inl, inr, ℕ, ◌+◌, List, [], ◌�
 use Rattle.session_table.specs.declared.life.Life.TheVariants.{Live}
 use Rattle.session_table.specs.Sessions.{SessionRecord}
 use Rattle.session_table.specs.Tables.{conn_of, line_of, session_of}
+use Rattle.archive_table.specs.Tables.{archives_of}
 use Rattle.house_model.specs.Numbered.{put}
 use Rattle.house_model.specs.Sessions.{Held, Tell, Rest, Session, session, step_if, session_step}
 use Rattle.house_model.specs.Traffic.{KeptTraffic, brief}
@@ -71,6 +72,7 @@ tell_did a w s tied held =
         opened = t.opened;
         book = a.book.book;
         rooms = a.rooms;
+        archives = archives_of a.archives;
         lines = sym ((λ j. settled s (is j).hold (step j).hold (lines_of t a.answers.items)) ∙ moved_same s w c (lines_of t a.answers.items)) i;
         made = t.made;
         sessions = sym (put_same s (session_step brief (sessions_of t s) Tell) (sessions_of t) (step ∙ sym is)) i;

@@ -12,6 +12,7 @@ use Rattle.session_table.specs.declared.line.Line.TheVariants.{Empty, Fresh, Log
 use Rattle.session_table.specs.Sessions.{SessionRecord, ended, left_until}
 use Rattle.session_table.specs.Tables.{TableRecord, Rises, conn_of, line_of, session_of, changed, with_line, with_conn, with_session, line_ended}
 use Rattle.session_table.proofs.ListLemmas.{with_session_changed}
+use Rattle.archive_table.specs.Tables.{archives_of}
 use Rattle.house_model.specs.declared.answer.Answer.{Answer}
 use Rattle.house_model.specs.Numbered.{put}
 use Rattle.house_model.specs.Sessions.{Hold, Held, Away, Ended, Op, End, Drop, session, step_if}
@@ -67,7 +68,7 @@ module _ (a : code.World) (w s : ℕ) (cause : Cause) (tied : IsTied a.table) (l
       (ap (λ (t : TableRecord). t.lines) is) (ap (λ (t : TableRecord). t.sessions) is) (ap (λ (t : TableRecord). t.made) is)
       (subst (λ (t : TableRecord). t.opened ≤ a.table.opened + 0) (sym is) (omega arith))
       (length-set a.answers.items w now) book_same
-      ((λ i. world_of (is i) (set a.answers.items w (empty i)) a.book.book a.rooms)
+      ((λ i. world_of (is i) (set a.answers.items w (empty i)) a.book.book a.rooms (archives_of a.archives))
       ∙ (off_world a w s x (ended cause) (End cause) tied low answered who.1 who.2.0 who.2.1 refl step line
       ∙ (λ i. record (apply brief (seen a) (On s (End cause))) {
         lines = sym (off_lines a w s x (ended cause) (End cause) tied low answered who.1 who.2.0 who.2.1 refl step
@@ -152,7 +153,7 @@ module _ (a : code.World) (w s moment : ℕ) (tied : IsTied a.table) (low : w < 
   leave_free = off_free a w s y (released moment) op tied low answered him.1 him.2.0 him.2.1 (released_empty y.resume_id moment y) leaving
 
   left_world : (l : stage.Line)
-      → world_of (with_line w l (changed s (released moment) a.table)) (set a.answers.items w []) a.book.book a.rooms
+      → world_of (with_line w l (changed s (released moment) a.table)) (set a.answers.items w []) a.book.book a.rooms (archives_of a.archives)
       ≡ record (apply brief (seen a) (On s op)) { lines = put w (record { stage = l; answers = [] }) (apply brief (seen a) (On s op)).lines }
   left_world l =
       off_world a w s y (released moment) op tied low answered him.1 him.2.0 him.2.1 (released_empty y.resume_id moment y) leaving l
@@ -178,56 +179,63 @@ module _ (a : code.World) (w s moment : ℕ) (tied : IsTied a.table) (low : w < 
       lines sessions made opened answers kept world)
 
   pub leave_did : (b c : TableRecord) (now : List Answer) → c ≡ changed s (released moment) a.table → b ≡ with_line w Empty c → now ≡ []
-      → (r : code.World) → r.answers ≡ a.answers → r.book ≡ a.book → r.rooms ≡ a.rooms
+      → (r : code.World) → r.answers ≡ a.answers → r.book ≡ a.book → r.rooms ≡ a.rooms → r.archives ≡ a.archives
       → Did (On s (left_by ((seen a).sessions s).rest.resume_id moment) ∷ At w Leave ∷ []) 0 a (record r { table = b; answers = with_item r.answers w now })
-  leave_did b c now was is empty r same kept hosts =
+  leave_did b c now was is empty r same kept hosts files =
       let all : b ≡ with_line w Empty (changed s (released moment) a.table) = is ∙ ap (with_line w Empty) was in
       subst (λ z. Did (On s (left_by ((seen a).sessions s).rest.resume_id moment) ∷ At w Leave ∷ []) 0 a
       (record r { table = b; answers = with_item r.answers w now; book = z })) (sym kept)
       (subst (λ z. Did (On s (left_by ((seen a).sessions s).rest.resume_id moment) ∷ At w Leave ∷ []) 0 a
       (record r { table = b; answers = with_item r.answers w now; book = a.book; rooms = z })) (sym hosts)
-      (left_did Empty (record r { table = b; answers = with_item r.answers w now; book = a.book; rooms = a.rooms }) (At w Leave) 0 (λ d n e. (cc))
-      (λ d n e. (cc))
+      (subst (λ z. Did (On s (left_by ((seen a).sessions s).rest.resume_id moment) ∷ At w Leave ∷ []) 0 a
+      (record r { table = b; answers = with_item r.answers w now; book = a.book; rooms = a.rooms; archives = z })) (sym files)
+      (left_did Empty (record r { table = b; answers = with_item r.answers w now; book = a.book; rooms = a.rooms; archives = a.archives })
+      (At w Leave) 0 (λ d n e. (cc)) (λ d n e. (cc))
       (ap (λ (t : TableRecord). t.lines) all) (ap (λ (t : TableRecord). t.sessions) all) (ap (λ (t : TableRecord). t.made) all)
       (subst (λ (t : TableRecord). t.opened ≤ a.table.opened + 0) (sym all) (omega arith))
       (ap (λ (xs : List (List Answer)). length (set xs w now)) (ap (λ v. v.items) same) ∙ length-set a.answers.items w now) book_same
-      ((λ i. world_of (all i) (set (same i).items w (empty i)) a.book.book a.rooms) ∙ left_world Empty)))
+      ((λ i. world_of (all i) (set (same i).items w (empty i)) a.book.book a.rooms (archives_of a.archives)) ∙ left_world Empty))))
 
   pub close_did : (b c : TableRecord) (now : List Answer) (cause : Cause) → c ≡ changed s (released moment) a.table → b ≡ line_ended w cause c → now ≡ []
-      → (r : code.World) → r.answers ≡ a.answers → r.book ≡ a.book → r.rooms ≡ a.rooms
+      → (r : code.World) → r.answers ≡ a.answers → r.book ≡ a.book → r.rooms ≡ a.rooms → r.archives ≡ a.archives
       → Did (On s (left_by ((seen a).sessions s).rest.resume_id moment) ∷ At w (Close (conn_of (line_of w a.table)) cause) ∷ []) 0 a
       (record r { table = b; answers = with_item r.answers w now })
-  close_did b c now cause was is empty r same kept hosts =
+  close_did b c now cause was is empty r same kept hosts files =
       let l : stage.Line = Over (conn_of (line_of w a.table)) cause in
       let all : b ≡ with_line w l (changed s (released moment) a.table) = is ∙ ap (line_ended w cause) was in
       subst (λ z. Did (On s (left_by ((seen a).sessions s).rest.resume_id moment) ∷ At w (Close (conn_of (line_of w a.table)) cause) ∷ []) 0 a
       (record r { table = b; answers = with_item r.answers w now; book = z })) (sym kept)
       (subst (λ z. Did (On s (left_by ((seen a).sessions s).rest.resume_id moment) ∷ At w (Close (conn_of (line_of w a.table)) cause) ∷ []) 0 a
       (record r { table = b; answers = with_item r.answers w now; book = a.book; rooms = z })) (sym hosts)
-      (left_did l (record r { table = b; answers = with_item r.answers w now; book = a.book; rooms = a.rooms })
+      (subst (λ z. Did (On s (left_by ((seen a).sessions s).rest.resume_id moment) ∷ At w (Close (conn_of (line_of w a.table)) cause) ∷ []) 0 a
+      (record r { table = b; answers = with_item r.answers w now; book = a.book; rooms = a.rooms; archives = z })) (sym files)
+      (left_did l (record r { table = b; answers = with_item r.answers w now; book = a.book; rooms = a.rooms; archives = a.archives })
       (At w (Close (conn_of (line_of w a.table)) cause)) 0
       (λ d n e. (cc)) (λ d n e. (cc))
       (ap (λ (t : TableRecord). t.lines) all) (ap (λ (t : TableRecord). t.sessions) all) (ap (λ (t : TableRecord). t.made) all)
       (subst (λ (t : TableRecord). t.opened ≤ a.table.opened + 0) (sym all) (omega arith))
       (ap (λ (xs : List (List Answer)). length (set xs w now)) (ap (λ v. v.items) same) ∙ length-set a.answers.items w now) book_same
-      ((λ i. world_of (all i) (set (same i).items w (empty i)) a.book.book a.rooms) ∙ left_world l)))
+      ((λ i. world_of (all i) (set (same i).items w (empty i)) a.book.book a.rooms (archives_of a.archives)) ∙ left_world l))))
 
   pub open_did : (b c : TableRecord) (n : ℕ) (now : List Answer) → c ≡ changed s (released moment) a.table → b ≡ with_conn w n c → n ≡ a.table.opened + 1
-      → now ≡ [] → (r : code.World) → r.answers ≡ a.answers → r.book ≡ a.book → r.rooms ≡ a.rooms
+      → now ≡ [] → (r : code.World) → r.answers ≡ a.answers → r.book ≡ a.book → r.rooms ≡ a.rooms → r.archives ≡ a.archives
       → Did (On s (left_by ((seen a).sessions s).rest.resume_id moment) ∷ Open w ∷ []) 1 a (record r { table = b; answers = with_item r.answers w now })
-  open_did b c n now was is number empty r same kept hosts =
+  open_did b c n now was is number empty r same kept hosts files =
       let all : b ≡ with_conn w (a.table.opened + 1) (changed s (released moment) a.table) = is ∙ (λ i. with_conn w (number i) (was i)) in
       subst (λ z. Did (On s (left_by ((seen a).sessions s).rest.resume_id moment) ∷ Open w ∷ []) 1 a
       (record r { table = b; answers = with_item r.answers w now; book = z })) (sym kept)
       (subst (λ z. Did (On s (left_by ((seen a).sessions s).rest.resume_id moment) ∷ Open w ∷ []) 1 a
       (record r { table = b; answers = with_item r.answers w now; book = a.book; rooms = z })) (sym hosts)
-      (left_did (Fresh (a.table.opened + 1)) (record r { table = b; answers = with_item r.answers w now; book = a.book; rooms = a.rooms }) (Open w) 1
+      (subst (λ z. Did (On s (left_by ((seen a).sessions s).rest.resume_id moment) ∷ Open w ∷ []) 1 a
+      (record r { table = b; answers = with_item r.answers w now; book = a.book; rooms = a.rooms; archives = z })) (sym files)
+      (left_did (Fresh (a.table.opened + 1))
+      (record r { table = b; answers = with_item r.answers w now; book = a.book; rooms = a.rooms; archives = a.archives }) (Open w) 1
       (λ d n e. (cc)) (λ d n e. (cc))
       (ap (λ (t : TableRecord). t.lines) all) (ap (λ (t : TableRecord). t.sessions) all) (ap (λ (t : TableRecord). t.made) all)
       (subst (λ (t : TableRecord). t.opened ≤ a.table.opened + 1) (sym all) (omega arith))
       (ap (λ (xs : List (List Answer)). length (set xs w now)) (ap (λ v. v.items) same) ∙ length-set a.answers.items w now) book_same
-      ((λ i. world_of (all i) (set (same i).items w (empty i)) a.book.book a.rooms)
-      ∙ (λ i. record (left_world (Fresh (a.table.opened + 1)) i) { opened = a.table.opened + 1 }))))
+      ((λ i. world_of (all i) (set (same i).items w (empty i)) a.book.book a.rooms (archives_of a.archives))
+      ∙ (λ i. record (left_world (Fresh (a.table.opened + 1)) i) { opened = a.table.opened + 1 })))))
 
 -- a change that is the same for the session that is there
 same_change : (s : ℕ) (f g : SessionRecord → SessionRecord) (t : TableRecord) (x : SessionRecord) → Rises 0 t.sessions t.made

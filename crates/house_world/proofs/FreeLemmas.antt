@@ -6,6 +6,7 @@ use Rattle.sm_resume.specs.declared.decision.Cause.{Cause}
 use Rattle.session_table.specs.declared.line.Line as stage
 use Rattle.session_table.specs.declared.line.Line.TheVariants.{Empty, Fresh, Logged, Over}
 use Rattle.session_table.specs.Tables.{TableRecord, conn_of, line_of, with_line, with_conn, line_ended}
+use Rattle.archive_table.specs.Tables.{archives_of}
 use Rattle.house_model.specs.declared.answer.Answer.{Answer}
 use Rattle.house_model.specs.Numbered.{put}
 use Rattle.house_model.specs.Traffic.{brief}
@@ -20,12 +21,13 @@ use Rattle.house_world.proofs.BookLemmas.{book_same}
 
 module _ (a : code.World) (w : ℕ) (tied : IsTied a.table) (low : w < length a.table.lines)
     (answered : length a.answers.items ≡ length a.table.lines) (free : IsFreeLine w a.table) where
-  free_world : (l : stage.Line) → world_of (with_line w l a.table) (set a.answers.items w []) a.book.book a.rooms
+  free_world : (l : stage.Line) → world_of (with_line w l a.table) (set a.answers.items w []) a.book.book a.rooms (archives_of a.archives)
       ≡ record (seen a) { lines = put w (record { stage = l; answers = [] }) (lines_of a.table a.answers.items) }
   free_world l = λ i. record {
     opened = a.table.opened;
     book = a.book.book;
     rooms = a.rooms;
+    archives = archives_of a.archives;
     lines = lines_put a.table a.answers.items w l [] low (omega (arith, low, answered)) i;
     made = a.table.made;
     sessions = sessions_line a.table w l low (λ n y at live holder. absurd (free n y at holder)) i;
@@ -57,7 +59,7 @@ module _ (a : code.World) (w : ℕ) (tied : IsTied a.table) (low : w < length a.
       subst (λ (t : TableRecord). Did (e ∷ []) more a (record a { table = t; answers = with_item a.answers w now })) (sym is)
       (record {
         world =
-            (λ i. record (world_of (with_line w l a.table) (set a.answers.items w (empty i)) a.book.book a.rooms) { opened = opened })
+            (λ i. record (world_of (with_line w l a.table) (set a.answers.items w (empty i)) a.book.book a.rooms (archives_of a.archives)) { opened = opened })
             ∙ ((λ i. record (free_world l i) { opened = opened }) ∙ effect);
         tied = (let old = tied_line w l a.table tied low free unbound in record { bound = old.bound; holds = old.holds; each = old.each });
         known = λ many users. free_known many l unlogged users;

@@ -24,3 +24,6 @@ pub mod BookLemmas
 pub mod CastLemmas
 pub mod DepartLemmas
 pub mod HostLemmas
+pub mod FilingLemmas
+pub mod RowLemmas
+pub mod QuietLemmas

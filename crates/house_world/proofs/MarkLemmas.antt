@@ -118,7 +118,8 @@ module _ (a : code.World) (s : ℕ) (x : SessionRecord) (tied : IsTied a.table) 
   set_is (change.RoleSet n m role) is short few = absurd (cc)
   set_is (change.Renamed n m nick) is short few = absurd (cc)
   set_is (change.OccupantShown n m presence) is short few = absurd (cc)
-  set_is (change.Subject n text) is short few = absurd (cc)
+  set_is (change.Subject n text stamp) is short few = absurd (cc)
+  set_is (change.RoomRow n peer text moment) is short few = absurd (cc)
 
   -- a change of a session that is there
   pub set_did : (y : SessionRecord) (c : Change) → named_by c ≡ Some s → IsSmall (Set c) → IsShortChange c → y ≡ set_by c x
@@ -151,7 +152,8 @@ set_gone a s (change.Affiliated n address b) tied is none = absurd (cc)
 set_gone a s (change.RoleSet n m role) tied is none = absurd (cc)
 set_gone a s (change.Renamed n m nick) tied is none = absurd (cc)
 set_gone a s (change.OccupantShown n m presence) tied is none = absurd (cc)
-set_gone a s (change.Subject n text) tied is none = absurd (cc)
+set_gone a s (change.Subject n text stamp) tied is none = absurd (cc)
+set_gone a s (change.RoomRow n peer text moment) tied is none = absurd (cc)
 
 -- what it queues has as much room
 set_queue : (c : Change) (x : SessionRecord) → (set_by c x).queue ≡ x.queue

@@ -7,9 +7,10 @@ use Rattle.std.proofs.lemmas.List.{drop_all, drop_more}
 use Rattle.stanza_model.specs.declared.effect.Change.{Change}
 use Rattle.stanza_model.specs.declared.effect.Change.TheVariants as change
 use Rattle.stanza_model.specs.declared.effect.Effect as stanza
-use Rattle.stanza_model.specs.declared.effect.Effect.TheVariants.{Queue, Broadcast, Enter, Leave, Set}
+use Rattle.stanza_model.specs.declared.effect.Effect.TheVariants.{Queue, Broadcast, Enter, Leave, Keep, Set}
 use Rattle.contact_table.specs.Books.{Book, Pair, is_pair, noted, pair_of, user_of, with_pair}
 use Rattle.contact_table.specs.Tables.{BookRecord, needed, spare}
+use Rattle.archive_table.specs.Tables.{archives_of}
 use Rattle.house_model.specs.Effects.{Effect, Note}
 use Rattle.house_model.specs.Steps.{set}
 use Rattle.house_world.specs.declared.world.World as code
@@ -77,13 +78,14 @@ note_is (change.Affiliated n address a) is = absurd (cc)
 note_is (change.RoleSet n s role) is = absurd (cc)
 note_is (change.Renamed n s nick) is = absurd (cc)
 note_is (change.OccupantShown n s presence) is = absurd (cc)
-note_is (change.Subject n text) is = absurd (cc)
+note_is (change.Subject n text stamp) is = absurd (cc)
+note_is (change.RoomRow n peer text moment) is = absurd (cc)
 
 pub note_did : (a : code.World) (c : Change) (b : BookRecord) → IsTied a.table → is_of_users c ≡ true → IsShortChange c
     → b.book ≡ noted c a.book.book → b.domain ≡ a.book.domain → Did (set c ∷ []) 0 a (record a { book = b })
 note_did a c b tied none small is same =
     subst (λ (e : Effect). Did (e ∷ []) 0 a (record a { book = b })) (note_is c none) (record {
-      world = ap (λ (k : Book). world_of a.table a.answers.items k a.rooms) is;
+      world = ap (λ (k : Book). world_of a.table a.answers.items k a.rooms (archives_of a.archives)) is;
       tied = tied;
       known = λ many users. users;
       few = λ turns few. few_later turns (turns + 0) a.table few (omega arith);
@@ -113,6 +115,7 @@ notes_at_most user (Set c ∷ more) = omega (arith, some_at_most user c, notes_a
 notes_at_most user (Broadcast n item ∷ more) = omega (arith, notes_at_most user more)
 notes_at_most user (Enter n s address nick role ∷ more) = omega (arith, notes_at_most user more)
 notes_at_most user (Leave n s ∷ more) = omega (arith, notes_at_most user more)
+notes_at_most user (Keep other peer text moment ∷ more) = omega (arith, notes_at_most user more)
 
 -- an effect more has places, and each one before it still has
 pub places_step : (user : List ℕ) (all : List stanza.Effect) (i many : ℕ) (e d : stanza.Effect) (old new : BookRecord)

@@ -9,6 +9,7 @@ use Rattle.session_table.specs.declared.line.Line as stage
 use Rattle.session_table.specs.declared.line.Line.TheVariants.{Empty, Logged}
 use Rattle.session_table.specs.Sessions.{SessionRecord}
 use Rattle.session_table.specs.Tables.{TableRecord, conn_of, line_of, session_of, changed, with_line}
+use Rattle.archive_table.specs.Tables.{archives_of}
 use Rattle.house_model.specs.Numbered.{put}
 use Rattle.house_model.specs.Sessions.{Hold, Held, Op, End, Rest, Session, session, over, step_if, session_step}
 use Rattle.house_model.specs.Traffic.{KeptTraffic, brief}
@@ -68,12 +69,13 @@ module _ (a : code.World) (w s : ℕ) (x : SessionRecord) (f : SessionRecord →
       ∙ ap (λ (o : Session KeptTraffic). put s o (sessions_of t)) stepped)
 
   pub off_world : (l : stage.Line)
-      → world_of (with_line w l (changed s f t)) (set a.answers.items w []) a.book.book a.rooms
+      → world_of (with_line w l (changed s f t)) (set a.answers.items w []) a.book.book a.rooms (archives_of a.archives)
       ≡ record (apply brief (seen a) (On s op)) { lines = put w (record { stage = l; answers = [] }) ls }
   off_world l = λ i. record {
     opened = t.opened;
     book = a.book.book;
     rooms = a.rooms;
+    archives = archives_of a.archives;
     lines = lines_put (changed s f t) a.answers.items w l [] low (omega (arith, low, answered)) i;
     made = t.made;
     sessions = off_sessions l i;

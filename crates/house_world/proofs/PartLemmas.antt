@@ -12,6 +12,7 @@ use Rattle.session_table.specs.declared.life.Life.TheVariants.{Live, Over}
 use Rattle.session_table.specs.declared.line.Line as stage
 use Rattle.session_table.specs.Sessions.{SessionRecord, ended}
 use Rattle.session_table.specs.Tables.{TableRecord, changed, conn_of, line_of, session_of, with_session}
+use Rattle.archive_table.specs.Tables.{archives_of}
 use Rattle.house_model.specs.Numbered.{put}
 use Rattle.house_model.specs.Sessions.{Hold, Held, Away, Ended, Op, Push, End, Rest, Session, session, gone, over, pushed, step_if, session_step}
 use Rattle.house_model.specs.Traffic.{KeptTraffic, brief, nothing_kept, kept_queue}
@@ -46,6 +47,7 @@ same_did a s x m op tied at hold stays is =
         opened = t.opened;
         book = a.book.book;
         rooms = a.rooms;
+        archives = archives_of a.archives;
         lines = sym ((λ j. settled s (before j).hold (step j).hold ls) ∙ stays ls) i;
         made = t.made;
         sessions = sym (put_same s (session_step brief (sessions_of t s) op) (sessions_of t) (step ∙ sym before)) i;
@@ -72,6 +74,7 @@ gone_same a s op tied none is =
         opened = t.opened;
         book = a.book.book;
         rooms = a.rooms;
+        archives = archives_of a.archives;
         lines = sym (λ j. settled s (before j).hold (step j).hold ls) i;
         made = t.made;
         sessions = sym (put_same s (session_step brief (sessions_of t s) op) (sessions_of t) (step ∙ sym before)) i;
@@ -117,7 +120,15 @@ module _ (a : code.World) (s : ℕ) (x y : SessionRecord) (m : Hold) (op : Op) (
       → ((turns : ℕ) → IsFew turns a.table → (y.given_up + y.queue.given ≤ turns + more) × (y.acted ≤ turns + more))
       → Did (On s op ∷ []) more a (record a { table = with_session s a.table y })
   live_did more tied ready numbers = record {
-    world = λ i. record { opened = t.opened; book = a.book.book; rooms = a.rooms; lines = sym live_lines i; made = t.made; sessions = live_session i };
+    world = λ i. record {
+      opened = t.opened;
+      book = a.book.book;
+      rooms = a.rooms;
+      archives = archives_of a.archives;
+      lines = sym live_lines i;
+      made = t.made;
+      sessions = live_session i;
+    };
     tied = tied_with s t x y tied at state' holder' ready;
     known = λ many users. users;
     few = λ turns few. (let now = numbers turns few in few_with s turns (turns + more) t x y few at (omega arith) now.0 now.1);
@@ -255,6 +266,7 @@ module _ (a : code.World) (s : ℕ) (x : SessionRecord) (tied : IsTied a.table) 
           opened = t.opened;
           book = a.book.book;
           rooms = a.rooms;
+          archives = archives_of a.archives;
           lines = sym (λ j. settled s (before j).hold (step j).hold ls) i;
           made = t.made;
           sessions = (sessions_put t (ended cause) s x at ∙ ap (λ (o : Session KeptTraffic). put s o (sessions_of t)) (sym step)) i;

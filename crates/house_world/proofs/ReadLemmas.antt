@@ -18,6 +18,7 @@ use Rattle.house_model.specs.Numbered.{put}
 use Rattle.house_model.specs.Sessions.{Hold, Held, Away, session}
 use Rattle.house_model.specs.States.{Line}
 use Rattle.house_model.proofs.PutLemmas.{put_is}
+use Rattle.archive_table.specs.Archives.{Archives}
 use Rattle.contact_table.specs.Books.{Book}
 use Rattle.muc_service.specs.Rooms.{Rooms}
 use Rattle.house_world.specs.Views.{hold_by, traffic_of, rest_of, session_by, sessions_of, lines_of, world_of}
@@ -135,12 +136,14 @@ sessions_put t f s x at = λ i n.
     (ap (session_by t.lines) (lookup_changed s n f t.sessions) ∙ changed_at t.sessions t.lines f s n x at) i
 
 -- the world, where answers of one line change
-pub world_said : (t : TableRecord) (answers : List (List Answer)) (k : Book) (rooms : Rooms) (w : ℕ) (a b : List Answer) → w < length answers → a ≡ b
-    → world_of t (set answers w a) k rooms
-    ≡ record (world_of t answers k rooms) { lines = put w (record { stage = line_of w t; answers = b }) (lines_of t answers) }
-world_said t answers k rooms w a b low same =
-    (λ i. record (world_of t answers k rooms) { lines = lines_said t answers w a low i })
-    ∙ ap (λ (xs : List Answer). record (world_of t answers k rooms) { lines = put w (record { stage = line_of w t; answers = xs }) (lines_of t answers) }) same
+pub world_said : (t : TableRecord) (answers : List (List Answer)) (k : Book) (rooms : Rooms) (kept : Archives) (w : ℕ) (a b : List Answer)
+    → w < length answers → a ≡ b → world_of t (set answers w a) k rooms kept
+    ≡ record (world_of t answers k rooms kept) { lines = put w (record { stage = line_of w t; answers = b }) (lines_of t answers) }
+world_said t answers k rooms kept w a b low same =
+    (λ i. record (world_of t answers k rooms kept) { lines = lines_said t answers w a low i })
+    ∙ ap (λ (xs : List Answer). record (world_of t answers k rooms kept) {
+      lines = put w (record { stage = line_of w t; answers = xs }) (lines_of t answers);
+    }) same
 
 -- sessions, where a line changes: its connection is the same, or none of them goes on there
 hold_line : (l : Life) (h : Option ℕ) (ls : List stage.Line) (w : ℕ) (line : stage.Line) → w < length ls

@@ -22,9 +22,10 @@ use Rattle.session_table.specs.declared.life.Life.TheVariants.{Live}
 use Rattle.session_table.specs.Sessions.{SessionRecord, ended}
 use Rattle.session_table.specs.Tables.{TableRecord, changed, line_ended, session_of, with_session}
 use Rattle.jid_core.specs.Addresses.{local_text, resource_text}
+use Rattle.archive_table.specs.Tables.{archives_of}
 use Rattle.contact_table.specs.Books.{Pair, bare_of, firsts_of}
 use Rattle.house_model.specs.Fitting.{AreShortAddresses, AreShortRooms, IsShortAddress, IsShortScene}
-use Rattle.house_world.specs.Hosting.{but_rooms, but_rooms_of}
+use Rattle.house_world.specs.Hosting.{AreArchived, but_rooms, but_rooms_of}
 use Rattle.house_world.specs.declared.world.World as code
 use Rattle.house_world.specs.Readiness.{AreReady, needed, needed_by}
 use Rattle.house_world.specs.Views.{session_by}
@@ -68,10 +69,11 @@ asking_short domain own (p ∷ ps) small short = by (bytes_eq p.b own) (asking_s
     by true rest = (bare_short domain p.a small short.0, rest)
     by false rest = rest
 
-pub scene_short : (a : code.World) (domain : List ℕ) (users : List (List ℕ)) → IsTied a.table → length domain ≤ 1023
+pub scene_short : (a : code.World) (domain : List ℕ) (users : List (List ℕ)) (moment : ℕ) → IsTied a.table → length domain ≤ 1023
     → AreShortNames a.book.book.asked → AreKept domain a.book.book → AreShortRooms a.rooms
-    → IsShortScene (record { domain = domain; users = users; world = seen a })
-scene_short a domain users tied small names kept rooms = record {
+    → AreArchived (2 ^ 63 + 2 ^ 62) (archives_of a.archives)
+    → IsShortScene (record { domain = domain; users = users; world = seen a; moment = moment })
+scene_short a domain users moment tied small names kept rooms archived = record {
   domain = small;
   addresses = addresses_short a tied;
   asking = λ own. asking_short domain own a.book.book.asked small names;
@@ -79,6 +81,12 @@ scene_short a domain users tied small names kept rooms = record {
   rosters = λ own. (kept own).small;
   pushes = λ s. pushes_by (session_of s a.table) (λ x at. (tied.each s x at).pushes);
   rooms = rooms;
+  archives = archived.short;
+  numbers = archived.numbered;
+  rows = record {
+    users = λ user. (let most = archived.rows.users user in omega (arith, most));
+    rooms = λ n. (let most = archived.rows.rooms n in omega (arith, most));
+  };
 }
   where
     pushes_by : (o : Option SessionRecord) → ((x : SessionRecord) → o ≡ Some x → x.pushes < 2 ^ 64)

@@ -19,6 +19,7 @@ use Rattle.session_table.specs.Tables.{IsLive, TableRecord, Rises, attached, cha
 use Rattle.session_table.specs.Tables as tables
 use Rattle.session_table.proofs.ListLemmas.{rises_changed}
 use Rattle.session_table.proofs.NumberLemmas.{lookup_changed}
+use Rattle.archive_table.specs.Tables.{archives_of}
 use Rattle.house_model.specs.declared.answer.Answer.{Answer}
 use Rattle.house_model.specs.Numbered.{put}
 use Rattle.house_model.specs.Sessions.{Hold, Held, Away, Resume, Rest, Session, session, resumed, step_if, session_step}
@@ -276,6 +277,7 @@ module _ (a : code.World) (w s h n : ℕ) (x : SessionRecord) (tied : IsTied a.t
           opened = t.opened;
           book = a.book.book;
           rooms = a.rooms;
+          archives = archives_of a.archives;
           lines = (lines_staged t a.answers.items w (Bound c s) low ∙ sym (λ j. settled s (before j).hold (step j).hold ls)) i;
           made = t.made;
           sessions = λ m. moved_at a d w s c x z tied at logged t2_own t2_else live refl t2_here left same
@@ -291,14 +293,15 @@ module _ (a : code.World) (w s h n : ℕ) (x : SessionRecord) (tied : IsTied a.t
       })
 
   pub resume_away_did : (b : TableRecord) (conn : ℕ) → b ≡ t2 → conn ≡ c → x.holder ≡ None → (q : code.World) → q.answers ≡ a.answers → q.book ≡ a.book
-      → q.rooms ≡ a.rooms
+      → q.rooms ≡ a.rooms → q.archives ≡ a.archives
       → Did (On s (Resume w conn h) ∷ []) 0 a (record q { table = b })
-  resume_away_did b conn is conn' none q same kept hosts =
+  resume_away_did b conn is conn' none q same kept hosts files =
       subst (λ z. Did (On s (Resume w conn h) ∷ []) 0 a (record q { table = b; answers = q.answers; book = z })) (sym kept)
       (subst (λ z. Did (On s (Resume w conn h) ∷ []) 0 a (record q { table = b; answers = q.answers; book = a.book; rooms = z })) (sym hosts)
+      (subst (λ z. Did (On s (Resume w conn h) ∷ []) 0 a (record q { table = b; answers = q.answers; book = a.book; rooms = a.rooms; archives = z })) (sym files)
       (subst (λ vs. Did (On s (Resume w conn h) ∷ []) 0 a (record a { table = b; answers = vs; stirred = q.stirred })) (sym same)
       (did_beside (On s (Resume w conn h) ∷ []) 0 a (record a { table = b }) q.stirred
-      (subst (λ (m : ℕ). Did (On s (Resume w m h) ∷ []) 0 a (record a { table = b })) (sym conn') (away_did b is none)))))
+      (subst (λ (m : ℕ). Did (On s (Resume w m h) ∷ []) 0 a (record a { table = b })) (sym conn') (away_did b is none))))))
 
   -- another line held it
   module _ (v : ℕ) (holds : x.holder ≡ Some v) where
@@ -372,6 +375,7 @@ module _ (a : code.World) (w s h n : ℕ) (x : SessionRecord) (tied : IsTied a.t
             opened = t.opened;
             book = a.book.book;
             rooms = a.rooms;
+            archives = archives_of a.archives;
             lines = ((λ j. lines_of t3 (set a.answers.items v (empty j)))
                 ∙ (lines_put t2 a.answers.items v o [] low2 (omega (arith, low2, answered, length-set t.lines w (Bound c s)))
                 ∙ (ap (put v (over_line d (Moved c))) (lines_staged t a.answers.items w (Bound c s) low)
@@ -391,15 +395,17 @@ module _ (a : code.World) (w s h n : ℕ) (x : SessionRecord) (tied : IsTied a.t
         })
 
     pub resume_moved_did : (b e : TableRecord) (now : List Answer) (conn : ℕ) → e ≡ t2 → conn ≡ c → b ≡ line_ended v (Moved conn) e → now ≡ []
-        → (q : code.World) → q.answers ≡ a.answers → q.book ≡ a.book → q.rooms ≡ a.rooms
+        → (q : code.World) → q.answers ≡ a.answers → q.book ≡ a.book → q.rooms ≡ a.rooms → q.archives ≡ a.archives
         → Did (On s (Resume w conn h) ∷ []) 0 a (record q { table = b; answers = with_item q.answers v now })
-    resume_moved_did b e now conn was' conn' is empty q same' kept hosts =
+    resume_moved_did b e now conn was' conn' is empty q same' kept hosts files =
         subst (λ z. Did (On s (Resume w conn h) ∷ []) 0 a (record q { table = b; answers = with_item q.answers v now; book = z })) (sym kept)
         (subst (λ z. Did (On s (Resume w conn h) ∷ []) 0 a (record q { table = b; answers = with_item q.answers v now; book = a.book; rooms = z })) (sym hosts)
+        (subst (λ z. Did (On s (Resume w conn h) ∷ []) 0 a
+        (record q { table = b; answers = with_item q.answers v now; book = a.book; rooms = a.rooms; archives = z })) (sym files)
         (subst (λ vs. Did (On s (Resume w conn h) ∷ []) 0 a (record a { table = b; answers = with_item vs v now; stirred = q.stirred })) (sym same')
         (did_beside (On s (Resume w conn h) ∷ []) 0 a (record a { table = b; answers = with_item a.answers v now }) q.stirred
         (subst (λ (m : ℕ). Did (On s (Resume w m h) ∷ []) 0 a (record a { table = b; answers = with_item a.answers v now })) (sym conn')
-        (moved_did b e now conn was' conn' is empty)))))
+        (moved_did b e now conn was' conn' is empty))))))
 
 pub live_now : (s : ℕ) (t : TableRecord) (x : SessionRecord) → session_of s t ≡ Some x → IsLive s t → x.state ≡ life.Live
 live_now s t x at live = (let is : IsSomeAnd (Some x) (λ y. y.state ≡ life.Live) =

@@ -8,7 +8,7 @@ use Rattle.std.proofs.lemmas.List.{take_all}
 use Rattle.std.proofs.lemmas.List.Sorted.{sum_by-IsPermutation}
 use Rattle.std.proofs.lemmas.List.Sums.{sum_by-cons, count_by_more_yes, count_by_more_no}
 use Rattle.stanza_model.specs.declared.effect.Effect.{Effect}
-use Rattle.stanza_model.specs.declared.effect.Effect.TheVariants.{Queue, Broadcast, Enter, Leave, Set}
+use Rattle.stanza_model.specs.declared.effect.Effect.TheVariants.{Queue, Broadcast, Enter, Leave, Keep, Set}
 use Rattle.session_table.specs.Tables.{TableRecord}
 use Rattle.house_world.specs.declared.world.World as code
 use Rattle.house_world.specs.Readiness.{AreReady, needed, queued_for, times}
@@ -24,6 +24,7 @@ times_needed s (Set change ∷ more) = (let same = times_needed s more in omega 
 times_needed s (Broadcast n item ∷ more) = (let same = times_needed s more in omega (arith, same))
 times_needed s (Enter n r address nick role ∷ more) = (let same = times_needed s more in omega (arith, same))
 times_needed s (Leave n r ∷ more) = (let same = times_needed s more in omega (arith, same))
+times_needed s (Keep user peer text moment ∷ more) = (let same = times_needed s more in omega (arith, same))
 
 -- in whatever order
 pub ready_sorted : {A E : Type 0} (result : Result A E) (effects : List Effect) (found sorted : List ℕ) (t : TableRecord)

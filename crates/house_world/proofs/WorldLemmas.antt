@@ -6,6 +6,7 @@ use Rattle.std.specs.Vec.{with_item}
 use Rattle.session_table.specs.declared.life.Life.TheVariants.{Live}
 use Rattle.session_table.specs.Sessions.{SessionRecord}
 use Rattle.session_table.specs.Tables.{TableRecord, conn_of, line_of, session_of, with_session}
+use Rattle.archive_table.specs.Tables.{archives_of}
 use Rattle.house_model.specs.declared.answer.Answer.{Answer}
 use Rattle.house_model.specs.Numbered.{put}
 use Rattle.house_model.specs.Sessions.{Hold, Held, Op, Session, session, step_if, session_step}
@@ -33,7 +34,7 @@ pub said_did : (w : ℕ) (answer : Answer) (a : code.World) (now : List Answer) 
     → now ≡ get_or a.answers.items w [] ++ answer ∷ []
     → Did (At w (Say answer) ∷ []) 0 a (record a { answers = with_item a.answers w now })
 said_did w answer a now tied low is = record {
-  world = world_said a.table a.answers.items a.book.book a.rooms w now (get_or a.answers.items w [] ++ answer ∷ []) low is;
+  world = world_said a.table a.answers.items a.book.book a.rooms (archives_of a.archives) w now (get_or a.answers.items w [] ++ answer ∷ []) low is;
   tied = tied;
   known = λ many users. users;
   few = λ turns few. few_later turns (turns + 0) a.table few (omega arith);
@@ -81,8 +82,16 @@ module _ (a : code.World) (s w : ℕ) (x y : SessionRecord) (op : Op) (at : sess
   one_session : sessions_of (with_session s t y) ≡ put s (session_step brief (sessions_of t s) op) (sessions_of t)
   one_session = sessions_put t (λ _. y) s x at ∙ ap (λ (o : Session KeptTraffic). put s o (sessions_of t)) (after ∙ sym stepped)
 
-  held_world : world_of (with_session s t y) a.answers.items a.book.book a.rooms ≡ apply brief (seen a) (On s op)
-  held_world = λ i. record { opened = t.opened; book = a.book.book; rooms = a.rooms; lines = sym same_lines i; made = t.made; sessions = one_session i }
+  held_world : world_of (with_session s t y) a.answers.items a.book.book a.rooms (archives_of a.archives) ≡ apply brief (seen a) (On s op)
+  held_world = λ i. record {
+    opened = t.opened;
+    book = a.book.book;
+    rooms = a.rooms;
+    archives = archives_of a.archives;
+    lines = sym same_lines i;
+    made = t.made;
+    sessions = one_session i;
+  }
 
   pub held_did : (more : ℕ) → IsTied a.table → IsSession y
       → ((turns : ℕ) → IsFew turns a.table → (y.given_up + y.queue.given ≤ turns + more) × (y.acted ≤ turns + more))

@@ -2,7 +2,7 @@
 use Rattle.std.specs.Prelude.{ℕ, pos, Bool, true, false, not, ◌||◌, Option, Some, None, is_some}
 use Rattle.stanza_model.specs.declared.effect.Change.{Change}
 use Rattle.stanza_model.specs.declared.effect.Change.TheVariants.{WantsRoster, Pushed, Available, Unavailable, Directed}
-use Rattle.stanza_model.specs.declared.effect.Change.TheVariants.{Contact, NoContact, Sees, Asked}
+use Rattle.stanza_model.specs.declared.effect.Change.TheVariants.{Contact, NoContact, Sees, Asked, RoomRow}
 use Rattle.session_table.specs.Sessions.{SessionRecord}
 
 -- the number of the session that a change is of; some are of no session, but of what is kept of users, or of rooms
@@ -31,6 +31,11 @@ is_of_users (Sees a b on) = true
 is_of_users (Asked a b on) = true
 is_of_users change = false
 
+-- whether it is a message that is kept for a room
+abbrev pub is_of_archives : Change → Bool
+is_of_archives (RoomRow n peer text moment) = true
+is_of_archives change = false
+
 -- all others are of rooms
 abbrev pub is_of_rooms : Change → Bool
-is_of_rooms change = not (is_some (named_by change) || is_of_users change)
+is_of_rooms change = not (is_some (named_by change) || is_of_users change || is_of_archives change)

@@ -7,6 +7,7 @@ use Rattle.session_table.specs.declared.line.Line.TheVariants.{Empty}
 use Rattle.session_table.specs.Sessions.{SessionRecord}
 use Rattle.session_table.specs.Tables.{TableRecord, conn_of, line_of, session_of}
 use Rattle.house_model.specs.declared.answer.Answer.{Answer}
+use Rattle.archive_table.specs.Archives.{Archives}
 use Rattle.contact_table.specs.Books.{Book}
 use Rattle.muc_service.specs.Rooms.{Rooms}
 use Rattle.house_model.specs.Sessions.{Hold, Held, Away, Ended, Rest, Session, session, gone}
@@ -49,6 +50,13 @@ sessions_of t s = session_by t.lines (session_of s t)
 abbrev pub lines_of : TableRecord → List (List Answer) → ℕ → Line
 lines_of t answers w = record { stage = line_of w t; answers = slice_index_or answers w [] }
 
-abbrev pub world_of : TableRecord → List (List Answer) → Book → Rooms → World KeptTraffic
-world_of t answers k rooms =
-    record { opened = t.opened; lines = lines_of t answers; made = t.made; sessions = sessions_of t; book = k; rooms = rooms }
+abbrev pub world_of : TableRecord → List (List Answer) → Book → Rooms → Archives → World KeptTraffic
+world_of t answers k rooms archives = record {
+  opened = t.opened;
+  lines = lines_of t answers;
+  made = t.made;
+  sessions = sessions_of t;
+  book = k;
+  rooms = rooms;
+  archives = archives;
+}

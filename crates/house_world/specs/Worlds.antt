@@ -17,10 +17,11 @@ use Rattle.house_model.specs.Effects.{Effect, On, apply_all}
 use Rattle.house_world.specs.Views.{world_of}
 use Rattle.house_world.specs.Keeping.{Keeps}
 use Rattle.house_world.specs.Wholes.{IsHeldBy, IsTied, IsFew, AreUsers}
+use Rattle.archive_table.specs.Tables.{archives_of}
 use Rattle.session_table.specs.Tables.{TableRecord, is_there, line_of, session_of}
 
 abbrev pub seen : code.World → World KeptTraffic
-seen x = world_of x.table x.answers.items x.book.book x.rooms
+seen x = world_of x.table x.answers.items x.book.book x.rooms (archives_of x.archives)
 
 -- session s is held at some line
 abbrev pub IsHeld : ℕ → TableRecord → Type 0

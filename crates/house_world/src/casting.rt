@@ -22,7 +22,7 @@ fn touches(effect: &Effect) -> bool
     ensures { result ≡ touches effect.now }
 {
     match effect {
-        Effect::Queue { .. } => false,
+        Effect::Queue { .. } | Effect::Keep { .. } => false,
         Effect::Broadcast { .. } | Effect::Enter { .. } | Effect::Leave { .. } => true,
         Effect::Set(change) => is_of_rooms(change),
     }

@@ -106,6 +106,7 @@ impl World {
         ensures did { (stanza : Stanza) → Did (On s (Act stanza) ∷ []) 1 self.old self.new }
         ensures book { self.new.book ≡ self.old.book }
         ensures rooms { self.new.rooms ≡ self.old.rooms }
+        ensures archives { self.new.archives ≡ self.old.archives }
         ensures room { (n r : ℕ) → HasSpare n r self.old.table → HasSpare n r self.new.table }
     {
         if let Some(session) = self.table.session_mut(s) {

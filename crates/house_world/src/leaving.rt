@@ -30,6 +30,7 @@ impl World {
         ensures free { IsFreeLine w self.new.table }
         ensures book { self.new.book ≡ self.old.book }
         ensures rooms { self.new.rooms ≡ self.old.rooms }
+        ensures archives { self.new.archives ≡ self.old.archives }
         ensures room { self.new.table.spare ≡ self.old.table.spare }
         ensures queues { (n r : ℕ) → HasSpare n r self.old.table → HasSpare n r self.new.table }
     {
@@ -47,6 +48,7 @@ impl World {
         ensures answers { self.new.answers ≡ self.old.answers }
         ensures book { self.new.book ≡ self.old.book }
         ensures rooms { self.new.rooms ≡ self.old.rooms }
+        ensures archives { self.new.archives ≡ self.old.archives }
     {
         let Some(session) = self.table.session(s) else {
             return;

@@ -1,17 +1,19 @@
 //! What is kept of what a session's client told of itself, and was told of its roster (RFC 6121, 2.1.6, 4.2 and 4.6), and of users.
-ghost use Rattle.std.specs.Prelude.{◌≡◌, ◌<◌, ◌+◌, ◌^◌, ◌≤◌, ℕ, List, [], ◌∷◌, pos, true, Some, None};
+ghost use Rattle.std.specs.Prelude.{◌≡◌, ◌<◌, ◌+◌, ◌^◌, ◌≤◌, ℕ, List, [], ◌∷◌, pos, true, false, Some, None};
 ghost use Rattle.stanza_model.specs.declared.effect.Effect.{Effect};
 ghost use Rattle.contact_table.specs.Tables.{needed, spare};
 ghost use Rattle.house_world.specs.Keeping.{IsShortChange};
 ghost use Rattle.house_model.specs.Fitting.{IsSmall};
 ghost use Rattle.house_model.specs.Steps.{set};
 ghost use Rattle.house_world.specs.Hosting.{but_rooms_of};
-ghost use Rattle.house_world.specs.Marks.{is_of_rooms, is_of_users, named_by, set_by};
+ghost use Rattle.house_world.specs.Marks.{is_of_archives, is_of_rooms, is_of_users, named_by, set_by};
+ghost use Rattle.house_world.specs.Readiness.{AreFilable};
 ghost use Rattle.house_world.specs.Wholes.{HasSpare, IsTied};
 ghost use Rattle.house_world.specs.Worlds.{Did, Stays};
 
 use crate::lengths::know_part;
 use crate::world::World;
+use archive_table::Filing;
 use contact_table::user_of;
 use jid_core::Jid;
 use session_table::Session;
@@ -82,11 +84,18 @@ pub(crate) fn is_of_users(change: &Change) -> bool
     }
 }
 
+/// Whether a change is a message that is kept for a room.
+fn is_of_archives(change: &Change) -> bool
+    ensures { result ≡ is_of_archives change.now }
+{
+    matches!(change, Change::RoomRow { .. })
+}
+
 /// Whether a change is of rooms.
 pub(crate) fn is_of_rooms(change: &Change) -> bool
     ensures { result ≡ is_of_rooms change.now }
 {
-    !(named_by(change).is_some() || is_of_users(change))
+    !(named_by(change).is_some() || is_of_users(change) || is_of_archives(change))
 }
 
 /// A change is made of its session.
@@ -131,6 +140,7 @@ impl World {
         ensures did { Did (set change ∷ []) 0 self.old self.new }
         ensures stays { Stays self.old self.new }
         ensures book { self.new.book ≡ self.old.book }
+        ensures archives { self.new.archives ≡ self.old.archives }
         ensures room { (n s : ℕ) → HasSpare n s self.old.table → HasSpare n s self.new.table }
     {
         know_change(&change);
@@ -148,21 +158,71 @@ impl World {
         ensures did { Did (set change ∷ []) 0 self.old self.new }
         ensures stays { Stays self.old self.new }
         ensures table { self.new.table ≡ self.old.table }
+        ensures archives { self.new.archives ≡ self.old.archives }
         ensures places { (user : List ℕ) → spare user self.old.book ≤ spare user self.new.book + needed user change }
     {
         know_change(&change);
         self.book.apply(change);
     }
 
-    /// A change is made of a session, or noted. One of rooms does nothing here.
+    /// A message is kept for a room. There is memory for the row.
+    fn file_of_room(&mut self, change: Change)
+        requires tied { IsTied self.old.table }
+        requires short { IsSmall (Effect.Set change) }
+        requires filable { AreFilable (Effect.Set change ∷ []) self.old.archives }
+        requires room { is_of_archives change ≡ true }
+        ensures did { Did (set change ∷ []) 0 self.old self.new }
+        ensures stays { Stays self.old self.new }
+        ensures table { self.new.table ≡ self.old.table }
+        ensures book { self.new.book ≡ self.old.book }
+        ensures archives { (more : List Effect) → AreFilable (Effect.Set change ∷ more) self.old.archives → AreFilable more self.new.archives }
+    {
+        if let Change::RoomRow {
+            room,
+            peer,
+            text,
+            moment,
+        } = change
+        {
+            self.archives.file(Filing::OfRoom {
+                room,
+                peer,
+                text,
+                moment,
+            });
+        }
+    }
+
+    /// Of a room that is there no more the archive goes, where it is such a change; another change of rooms does nothing here.
+    fn drop_archive(&mut self, change: &Change)
+        requires tied { IsTied self.old.table }
+        requires users { is_of_users change.now ≡ false }
+        requires session { named_by change.now ≡ None }
+        requires room { is_of_archives change.now ≡ false }
+        ensures did { Did (but_rooms_of (Effect.Set change.now)) 0 self.old self.new }
+        ensures stays { Stays self.old self.new }
+        ensures table { self.new.table ≡ self.old.table }
+        ensures book { self.new.book ≡ self.old.book }
+        ensures archives { (more : List Effect) → AreFilable (Effect.Set change.now ∷ more) self.old.archives → AreFilable more self.new.archives }
+    {
+        if let Change::RoomGone { room } = change {
+            let _ = self.archives.bytes();
+            self.archives.file(Filing::NoRoom { room: *room });
+        }
+    }
+
+    /// A change is made of a session, noted, or kept for a room. Of a room that is there no more the archive goes; another change of rooms does
+    /// nothing here.
     pub(crate) fn set(&mut self, change: Change)
         requires tied { IsTied self.old.table }
         requires short { IsSmall (Effect.Set change) }
         requires places { (user : List ℕ) → needed user change ≤ spare user self.old.book }
+        requires filable { AreFilable (Effect.Set change ∷ []) self.old.archives }
         ensures did { Did (but_rooms_of (Effect.Set change)) 0 self.old self.new }
         ensures stays { Stays self.old self.new }
         ensures room { (n s : ℕ) → HasSpare n s self.old.table → HasSpare n s self.new.table }
         ensures places { (user : List ℕ) → spare user self.old.book ≤ spare user self.new.book + needed user change }
+        ensures archives { (more : List Effect) → AreFilable (Effect.Set change ∷ more) self.old.archives → AreFilable more self.new.archives }
     {
         if is_of_users(&change) {
             self.note(change);
@@ -170,6 +230,12 @@ impl World {
         }
         if let Some(s) = named_by(&change) {
             self.set_session(s, change);
+            return;
         }
+        if is_of_archives(&change) {
+            self.file_of_room(change);
+            return;
+        }
+        self.drop_archive(&change);
     }
 }

@@ -4,13 +4,14 @@ ghost use Rattle.stanza_tree.specs.Entries.{frame};
 ghost use Rattle.sm_queue.specs.Queues.{acknowledged, has_room, pushed, spare};
 ghost use Rattle.session_table.specs.Sessions.{SessionRecord};
 ghost use Rattle.session_table.specs.Tables.{IsLive, changed, conn_of, is_logged, is_there, line_of, session_of};
+ghost use Rattle.archive_table.specs.Tables.{archives_of};
 ghost use Rattle.house_model.specs.Effects.{Begin, On};
 ghost use Rattle.house_model.specs.Fitting.{AreSmall};
 ghost use Rattle.house_model.specs.Routing.{departure};
 ghost use Rattle.house_model.specs.Sessions.{End, Part, Push, Resume};
 ghost use Rattle.house_model.specs.Steps.{departs};
 ghost use Rattle.house_model.specs.Traffic.{kept_inward};
-ghost use Rattle.house_world.specs.Hosting.{IsCast};
+ghost use Rattle.house_world.specs.Hosting.{Archived, IsCast};
 ghost use Rattle.house_world.specs.Readiness.{AreNotable, AreReady};
 ghost use Rattle.house_world.specs.Wholes.{HasSpare, IsFew, IsTied};
 ghost use Rattle.house_world.specs.Worlds.{Counts, Did, Handles, IsOver, KeepsLogged, Stays, rewound_to, seen};
@@ -60,6 +61,7 @@ impl World {
         ensures stays { Stays self.old self.new }
         ensures book { self.new.book ≡ self.old.book }
         ensures rooms { self.new.rooms ≡ self.old.rooms }
+        ensures archives { self.new.archives ≡ self.old.archives }
         ensures queues { (n r : ℕ) → HasSpare n r self.old.table → HasSpare n r self.new.table }
     {
         let Some(session) = self.table.session(s) else {
@@ -89,6 +91,7 @@ impl World {
         requires places { AreNotable told.effects.items self.old.book }
         ensures did { Did (departs (seen self.old) s cause) 0 self.old self.new }
         ensures rooms { self.new.rooms ≡ unwrap_or told.rooms self.old.rooms }
+        ensures archives { Archived (archives_of self.old.archives) (archives_of self.new.archives) }
         ensures others { KeepsLogged self.old self.new }
         ensures room { self.old.table.spare ≤ self.new.table.spare }
     {
@@ -103,6 +106,7 @@ impl World {
         requires over { IsOver s self.old.table }
         ensures did { Did (On s Part ∷ []) 0 self.old self.new }
         ensures rooms { self.new.rooms ≡ self.old.rooms }
+        ensures archives { self.new.archives ≡ self.old.archives }
         ensures others { KeepsLogged self.old self.new }
         ensures room { self.old.table.spare ≤ self.new.table.spare }
     {
@@ -120,6 +124,7 @@ impl World {
         ensures did { Did (On s (Push entry) ∷ []) 0 self.old self.new }
         ensures stays { Stays self.old self.new }
         ensures book { self.new.book ≡ self.old.book }
+        ensures archives { self.new.archives ≡ self.old.archives }
         ensures queues { (n r : ℕ) → HasSpare n r self.old.table
             → HasSpare (n - (if r == s then 1 else 0)) r self.new.table }
     {
@@ -151,6 +156,7 @@ impl World {
         ensures did { Did (On s (Push entry) ∷ []) 0 self.old self.new }
         ensures stays { Stays self.old self.new }
         ensures book { self.new.book ≡ self.old.book }
+        ensures archives { self.new.archives ≡ self.old.archives }
         ensures queues { (n r : ℕ) → HasSpare n r self.old.table
             → HasSpare (n - (if r == s then 1 else 0)) r self.new.table }
     {
@@ -199,6 +205,7 @@ impl World {
         ensures answers { self.new.answers ≡ self.old.answers }
         ensures book { self.new.book ≡ self.old.book }
         ensures rooms { self.new.rooms ≡ self.old.rooms }
+        ensures archives { self.new.archives ≡ self.old.archives }
     {
         if let Some(session) = self.table.session_mut(s) {
             rewind(session, h, n);

@@ -1,9 +1,12 @@
 //! All the memory that the effects of a stanza need is taken before the first is applied.
-ghost use Rattle.std.specs.Prelude.{◌≡◌, ◌<◌, ◌≤◌, [], ℕ, List, if◌then◌else◌, IfOk, OnOk};
+ghost use Rattle.std.specs.Prelude.{◌≡◌, ◌<◌, ◌≤◌, [], ℕ, List, length, if◌then◌else◌, IfOk, OnOk};
 ghost use Rattle.std.specs.List.Sorted.{IsNonDecreasing};
 ghost use Rattle.contact_table.specs.Tables as book;
 ghost use Rattle.sm_queue.specs.Queues.{spare};
-ghost use Rattle.house_world.specs.Readiness.{AreNotable, AreReady, changes_in, needed, needed_by, queued_for, times};
+ghost use Rattle.archive_table.specs.Tables.{archives_of};
+ghost use Rattle.stanza_model.specs.declared.effect.Effect as stanza;
+ghost use Rattle.house_model.specs.Archiving.{rows_of_room, rows_of_user};
+ghost use Rattle.house_world.specs.Readiness.{AreNotable, AreReady, HasPlaces, HavePlaces, changes_in, needed, needed_by, queued_for, times};
 ghost use Rattle.house_world.specs.Wholes.{HasSpare, IsHeldBy, IsTied};
 ghost use Rattle.house_world.specs.Worlds.{Did};
 
@@ -73,6 +76,36 @@ fn changes_in(effects: &[Effect]) -> usize
     for effect in effects {
         if let Effect::Set(change) = effect {
             if is_of_users(change) {
+                count += 1;
+            }
+        }
+    }
+    count
+}
+
+/// How many rows effects keep for a user.
+fn rows_of_user(user: &Part, effects: &[Effect]) -> usize
+    ensures { result ≡ length (rows_of_user user.now effects.now) }
+{
+    let mut count = 0;
+    for effect in effects {
+        if let Effect::Keep { user: other, .. } = effect {
+            if other.bytes() == user.bytes() {
+                count += 1;
+            }
+        }
+    }
+    count
+}
+
+/// How many they keep for a room.
+fn rows_of_room(room: u64, effects: &[Effect]) -> usize
+    ensures { result ≡ length (rows_of_room room effects.now) }
+{
+    let mut count = 0;
+    for effect in effects {
+        if let Effect::Set(Change::RoomRow { room: other, .. }) = effect {
+            if *other == room {
                 count += 1;
             }
         }
@@ -217,15 +250,56 @@ impl World {
         Ok(())
     }
 
+    /// Takes the memory for a row of one of these effects, and for as many as all of them add to its archive.
+    fn take_row(&mut self, effect: &Effect, effects: &[Effect]) -> Result<(), NoMemory>
+        requires tied { IsTied self.old.table }
+        ensures row { OnOk result (HasPlaces effects.now self.new.archives effect.now) }
+        ensures keeps { (e : stanza.Effect) → HasPlaces effects.now self.old.archives e → HasPlaces effects.now self.new.archives e }
+        ensures same { Did [] 0 self.old self.new }
+        ensures table { self.new.table ≡ self.old.table }
+        ensures book { self.new.book ≡ self.old.book }
+        ensures archives { archives_of self.new.archives ≡ archives_of self.old.archives }
+    {
+        match effect {
+            Effect::Keep { user, peer, .. } => {
+                let many = rows_of_user(user, effects);
+                self.archives.reserve_user(user, peer, many)
+            }
+            Effect::Set(Change::RoomRow { room, peer, .. }) => {
+                let many = rows_of_room(*room, effects);
+                self.archives.reserve_room(*room, peer, many)
+            }
+            _ => Ok(()),
+        }
+    }
+
+    /// Takes the memory for the rows that effects add to archives.
+    fn take_rows(&mut self, effects: &[Effect]) -> Result<(), NoMemory>
+        requires tied { IsTied self.old.table }
+        ensures rows { OnOk result (HavePlaces effects.now self.new.archives) }
+        ensures same { Did [] 0 self.old self.new }
+        ensures table { self.new.table ≡ self.old.table }
+        ensures book { self.new.book ≡ self.old.book }
+        ensures archives { archives_of self.new.archives ≡ archives_of self.old.archives }
+    {
+        for effect in effects {
+            self.take_row(effect, effects)?;
+        }
+        Ok(())
+    }
+
     /// Takes all the memory that effects need. Of n effects it costs n log n.
     pub fn prepare(&mut self, effects: &[Effect]) -> Result<(), NoMemory>
         requires tied { IsTied self.old.table }
         ensures ready { OnOk result (AreReady effects.now self.new.table) }
         ensures places { OnOk result (AreNotable effects.now self.new.book) }
+        ensures rows { OnOk result (HavePlaces effects.now self.new.archives) }
         ensures same { Did [] 0 self.old self.new }
         ensures held { (w r : ℕ) → IsHeldBy w r self.old.table → IsHeldBy w r self.new.table }
+        ensures archives { archives_of self.new.archives ≡ archives_of self.old.archives }
     {
         self.take_rooms(effects)?;
-        self.take_places(effects)
+        self.take_places(effects)?;
+        self.take_rows(effects)
     }
 }

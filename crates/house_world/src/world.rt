@@ -9,12 +9,13 @@ ghost use Rattle.house_world.specs.Worlds.{Did, seen};
 
 use crate::answers::Answers;
 use crate::stirring::Stirred;
+use archive_table::Archives;
 use contact_table::Book;
 use house_model::Answer;
 use muc_service::Rooms;
 use session_table::Table;
 
-/// Lines and sessions, the answers that wait at each line, what is kept of users, and the rooms.
+/// Lines and sessions, the answers that wait at each line, what is kept of users, the rooms, and the archives.
 #[derive(Drop)]
 pub struct World {
     /// Lines and sessions.
@@ -25,6 +26,8 @@ pub struct World {
     pub book: Book,
     /// The rooms that are there.
     pub rooms: Rooms,
+    /// The messages that are kept of users and of rooms.
+    pub archives: Archives,
     /// Lines that may have something to pull.
     pub stirred: Stirred,
 }
@@ -53,6 +56,7 @@ impl World {
         ensures answered { self.new.answers.items ≡ self.old.answers.items }
         ensures book { self.new.book ≡ self.old.book }
         ensures rooms { self.new.rooms ≡ self.old.rooms }
+        ensures archives { self.new.archives ≡ self.old.archives }
         ensures lines { length self.new.table.lines ≡ length self.old.table.lines }
     {
         self.table.login(w, user);

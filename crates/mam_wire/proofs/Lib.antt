@@ -1,9 +1,11 @@
 pub mod AskLemmas
 pub mod CauseLemmas
+pub mod DayAfterLemmas
 pub mod DayLemmas
 pub mod FilterLemmas
 pub mod MomentExamples
 pub mod MomentLemmas
 pub mod QueryExamples
 pub mod QueryLemmas
+pub mod StampLemmas
 pub mod Utf8Lemmas

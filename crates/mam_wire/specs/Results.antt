@@ -1,12 +1,15 @@
 -- A row as it is shown (XEP-0313, 4.2, with XEP-0297 and XEP-0203).
 use Rattle.std.specs.Prelude.{ℕ, List, [], ◌∷◌, ◌++◌, take, drop, codes, Option}
+use Rattle.std.specs.Option.{option_map}
 use Rattle.std.specs.Fmt.{decimal}
 use Rattle.stanza_tree.specs.Entries.{name_end}
-use Rattle.stanza_tree.specs.Spelling.{text, text_with}
+use Rattle.jid_core.specs.Addresses.{Address, address_text}
+use Rattle.stanza_tree.specs.Spelling.{client_space, text, text_with}
 use Rattle.stanza_tree.specs.declared.node.Element.{Element}
 use Rattle.stanza_model.specs.Errors.{attr_if, element_of, plain_attr}
 use Rattle.rsm_paging.specs.declared.ask.Row.{Row}
 use Rattle.mam_wire.specs.Answers.{mam_space}
+use Rattle.mam_wire.specs.Stamps.{stamp_text}
 
 abbrev pub forward_space : List ℕ
 forward_space = codes "urn:xmpp:forward:0"
@@ -32,3 +35,11 @@ delay_element stamp = element_of delay_space (codes "delay") (plain_attr (codes 
 abbrev pub result_text : Row → (queryid : Option (List ℕ)) → (stamp : List ℕ) → List ℕ
 result_text row queryid stamp =
     text_with (result_element row.id queryid) (text_with forwarded_element (text (delay_element stamp) ++ in_client_space row.text))
+
+-- `<message from='ROOM'>` with a row of a room's archive; one of the client's own has no `from`
+abbrev pub message_from : (from : Option Address) → Element
+message_from from = element_of client_space (codes "message") (attr_if (codes "from") (option_map address_text from)) []
+
+-- XEP-0313, 4.2: the message that shows a row, without its `to`
+abbrev pub result_message : (from : Option Address) → (queryid : Option (List ℕ)) → Row → List ℕ
+result_message from queryid row = text_with (message_from from) (result_text row queryid (stamp_text row.stamp))

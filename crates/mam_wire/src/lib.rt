@@ -17,5 +17,5 @@ pub use fault::QueryFault;
 pub use form::query_form;
 pub use moment::read_stamp;
 pub use query::{Query, read_query};
-pub use shown::result;
+pub use shown::{result, result_message, stamp_text};
 pub use stamp::write_stamp;

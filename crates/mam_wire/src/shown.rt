@@ -1,22 +1,26 @@
 //! A row as it is shown (XEP-0313, 4.2).
-ghost use Rattle.std.specs.Prelude.{◌≡◌, ◌++◌, ◌∷◌, [], ◌≤◌, List, ℕ, drop, length, take, IfOk, OnOk};
+ghost use Rattle.std.specs.Prelude.{◌≡◌, ◌++◌, ◌≤◌, drop, length, take, IfOk, OnOk};
 ghost use Rattle.std.specs.Fmt.{decimal};
 ghost use Rattle.std.specs.Option.{option_copied};
 ghost use Rattle.stanza_tree.specs.Entries.{name_end};
 ghost use Rattle.stanza_tree.specs.Spelling.{text, text_with};
 ghost use Rattle.stanza_model.specs.Errors.{attr_if, plain_attr};
-ghost use Rattle.mam_wire.specs.Results.{delay_element, forwarded_element, in_client_space, result_element, result_text};
-ghost use Rattle.mam_wire.specs.Stamps.{IsStamp};
+ghost use Rattle.mam_wire.specs.Results.{delay_element, forwarded_element, in_client_space, message_from, result_element, result_message, result_text};
+ghost use Rattle.mam_wire.specs.Stamps.{stamp_text};
 
 use crate::make::{MAM_SPACE, decimal_text};
 use crate::stamp::write_stamp;
+use jid_core::Jid;
 use rsm_paging::Row;
-use stanza_model::make::{element_of, push_attr};
+use stanza_model::make::{element_of, push_attr, written};
 use stanza_tree::{Attr, Element, NoMemory, Text, write, write_with};
 use std::alloc::Global;
 
 /// The namespace of forwarded stanzas (XEP-0297, 3).
 const FORWARD_SPACE: &str = "urn:xmpp:forward:0";
+
+/// The namespace of stanzas (RFC 6120, 4.8.2).
+const CLIENT_SPACE: &str = "jabber:client";
 
 /// The namespace of delays (XEP-0203, 2).
 const DELAY_SPACE: &str = "urn:xmpp:delay";
@@ -114,9 +118,9 @@ fn around(alloc: Global, element: &Element, content: &Text) -> Result<Text, NoMe
     Ok(Text::of_vec(out))
 }
 
-/// A stamp as text.
-fn stamp_text(alloc: Global, moment: u64) -> Result<Text, NoMemory>
-    ensures { IfOk result (IsStamp moment) }
+/// How a moment is written (XEP-0082, 3.2), as text.
+pub fn stamp_text(alloc: Global, moment: u64) -> Result<Text, NoMemory>
+    ensures { IfOk result (λ t. t ≡ stamp_text moment) }
 {
     let stamp = write_stamp(moment);
     Ok(Text::of_vec(stamp.to_vec(alloc)?))
@@ -125,10 +129,34 @@ fn stamp_text(alloc: Global, moment: u64) -> Result<Text, NoMemory>
 /// A row as a query's answer shows it, under `jabber:client` (XEP-0313, 4.2): its number in the archive, when it was kept, and the message. Costs the
 /// length of the message.
 pub fn result(alloc: Global, row: &Row, queryid: Option<&Text>) -> Result<Text, NoMemory>
-    ensures { IfOk result (λ t. (stamp : List ℕ) × IsStamp row.now.stamp stamp × (t ≡ result_text row.now (option_copied queryid.entry) stamp)) }
+    ensures { IfOk result (λ t. t ≡ result_text row.now (option_copied queryid.entry) (stamp_text row.now.stamp)) }
 {
     let stamp = stamp_text(alloc, row.stamp)?;
     let content = content(alloc, stamp, &row.text)?;
     let forwarded = around(alloc, &forwarded_element(alloc)?, &content)?;
     around(alloc, &result_element(alloc, row.id, queryid)?, &forwarded)
+}
+
+fn message_from(alloc: Global, from: Option<&Jid>) -> Result<Element, NoMemory>
+    ensures { IfOk result (λ e. e ≡ message_from (option_copied from.entry)) }
+{
+    let mut attrs = Vec::new(alloc);
+    if let Some(from) = from {
+        push_attr(&mut attrs, alloc, "from", written(alloc, from)?)?;
+    }
+    element_of(alloc, CLIENT_SPACE, "message", attrs, Vec::new(alloc))
+}
+
+/// The message that shows a row to the one who asked, without its `to`: from a room, or, of the client's own archive, from nobody. Costs the
+/// length of the row's message.
+pub fn result_message(
+    alloc: Global,
+    from: Option<&Jid>,
+    queryid: Option<&Text>,
+    row: &Row,
+) -> Result<Text, NoMemory>
+    ensures { IfOk result (λ t. t ≡ result_message (option_copied from.entry) (option_copied queryid.entry) row.now) }
+{
+    let result = result(alloc, row, queryid)?;
+    around(alloc, &message_from(alloc, from)?, &result)
 }

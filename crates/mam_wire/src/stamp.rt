@@ -1,7 +1,7 @@
 //! Moments as they are written (XEP-0082, 3.2).
 ghost use Rattle.std.specs.Prelude.{◌≡◌, ◌+◌, ◌<◌, ◌/◌, ◌%◌, ◌^◌, pos, unsigned_abs, ◌≤ℤ◌};
 ghost use Rattle.jiff.specs.Words.{epoch_day};
-ghost use Rattle.mam_wire.specs.Stamps.{IsStamp, counted, digit, stamp_of};
+ghost use Rattle.mam_wire.specs.Stamps.{IsStamp, counted, digit, stamp_of, stamp_text};
 
 use jiff::ToSpan;
 use jiff::civil::{Date, date};
@@ -87,7 +87,8 @@ fn stamp_of(year: u64, month: u64, day: u64, of_day: u64) -> [u8; 24]
 /// A moment in milliseconds since 1970 as it is written (XEP-0082, 3.2), in UTC and with three digits of the second. What is past the year 9999 counts as
 /// its end.
 pub fn write_stamp(moment: u64) -> [u8; 24]
-    ensures { IsStamp moment result }
+    ensures stamp { IsStamp moment result }
+    ensures text { result ≡ stamp_text moment }
 {
     let moment = moment.min(LAST_MOMENT);
     let date = date_of((moment / DAY) as u32);

@@ -13,6 +13,7 @@ use Rattle.stanza_model.specs.declared.here.Here.{Here}
 use Rattle.stanza_model.specs.declared.kinds.PresenceForm.TheVariants.{Available}
 use Rattle.stanza_model.specs.declared.room.Affiliation.{Affiliation}
 use Rattle.stanza_model.specs.declared.room.Affiliation.TheVariants.{Neither, Owner}
+use Rattle.stanza_model.specs.declared.room.Delayed.{Delayed}
 use Rattle.stanza_model.specs.declared.room.Occupant.{Occupant}
 use Rattle.stanza_model.specs.declared.room.Room.{Room}
 use Rattle.stanza_model.specs.declared.shared.Config.{Config}
@@ -20,6 +21,7 @@ use Rattle.stanza_model.specs.declared.stanza.Stanza.{Stanza}
 use Rattle.stanza_model.specs.declared.stanza.Stanza.TheVariants.{Presence}
 use Rattle.muc_roles.specs.Roles.{governs, is_outcast, is_owner}
 use Rattle.muc_room.specs.Entries.{entered}
+use Rattle.muc_room.specs.Histories.{wanted_of}
 use Rattle.muc_room.specs.Seats.{affiliation_in, holder_of, seat_count}
 use Rattle.muc_room.specs.Views.{muc_space, shown_children}
 use Rattle.muc_room.specs.declared.entering.Numbers.{Numbers}
@@ -133,24 +135,25 @@ abbrev pub unless_refused : Here → Stanza → Option Condition → List Effect
 unless_refused who st None effects = effects
 unless_refused who st (Some condition) effects = refused who st condition
 
-abbrev pub enters : Room → (made : Bool) → Numbers → Here → Stanza → Element → (nick : List ℕ) → List Effect
-enters room made numbers who st e nick =
+abbrev pub enters : Room → (made : Bool) → Numbers → Here → Stanza → Element → (nick : List ℕ) → List Delayed → List Effect
+enters room made numbers who st e nick past =
     unless_refused who st (refusal room numbers who e nick)
-    (entered room made numbers who (shown_children e.children) nick (holder_of nick room.occupants))
+    (entered room made numbers who (shown_children e.children) nick (holder_of nick room.occupants) (wanted_of e past))
 
 -- the room that is there, or a new one, where there are not too many
-abbrev pub enters_by : Option Room → Numbers → Here → Stanza → Address → Element → (nick : List ℕ) → List Effect
-enters_by (Some room) numbers who st to e nick = enters room false numbers who st e nick
-enters_by None numbers who st to e nick =
+abbrev pub enters_by : Option Room → Numbers → Here → Stanza → Address → Element → (nick : List ℕ) → List Delayed → List Effect
+enters_by (Some room) numbers who st to e nick past = enters room false numbers who st e nick past
+enters_by None numbers who st to e nick past =
     if nat_le most_rooms numbers.rooms then refused who st ResourceConstraint
-    else enters (new_room numbers.next_room to who) true numbers who st e nick
+    else enters (new_room numbers.next_room to who) true numbers who st e nick []
 
 -- XEP-0045, 7.2.1: an address without a nick enters no room
-abbrev pub enters_at : Option Room → Numbers → Here → Stanza → Address → Element → Option (List ℕ) → List Effect
-enters_at room numbers who st to e None = refused who st JidMalformed
-enters_at room numbers who st to e (Some nick) = enters_by room numbers who st to e nick
+abbrev pub enters_at : Option Room → Numbers → Here → Stanza → Address → Element → Option (List ℕ) → List Delayed → List Effect
+enters_at room numbers who st to e None past = refused who st JidMalformed
+enters_at room numbers who st to e (Some nick) past = enters_by room numbers who st to e nick past
 
--- available presence of a session that has no seat in the room; another stanza is none of this table's
-abbrev pub enter : Option Room → Numbers → Here → Stanza → List Effect
-enter room numbers who (Presence (Some to) Available e) = enters_at room numbers who (Presence (Some to) Available e) to e to.resource
-enter room numbers who st = []
+-- available presence of a session that has no seat in the room; another stanza is none of this table's. `past` has what was said last in the
+-- room.
+abbrev pub enter : Option Room → Numbers → Here → Stanza → (past : List Delayed) → List Effect
+enter room numbers who (Presence (Some to) Available e) past = enters_at room numbers who (Presence (Some to) Available e) to e to.resource past
+enter room numbers who st past = []

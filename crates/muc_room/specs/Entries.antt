@@ -12,13 +12,14 @@ use Rattle.stanza_model.specs.declared.effect.Effect.{Effect}
 use Rattle.stanza_model.specs.declared.effect.Effect.TheVariants.{Queue, Broadcast, Enter, Set}
 use Rattle.stanza_model.specs.declared.here.Here.{Here}
 use Rattle.stanza_model.specs.declared.room.Affiliation.{Affiliation}
+use Rattle.stanza_model.specs.declared.room.Delayed.{Delayed}
 use Rattle.stanza_model.specs.declared.room.Occupant.{Occupant}
 use Rattle.stanza_model.specs.declared.room.Role.{Role}
 use Rattle.stanza_model.specs.declared.room.Room.{Room}
 use Rattle.stanza_model.specs.declared.room.RoomItem.{RoomItem}
 use Rattle.stanza_model.specs.declared.room.RoomItem.TheVariants as item
-use Rattle.stanza_model.specs.declared.room.Subject.{Subject}
 use Rattle.muc_roles.specs.Roles.{initial_role, sees_addresses}
+use Rattle.muc_room.specs.Histories.{delayed_text, history}
 use Rattle.muc_room.specs.Seats.{affiliation_in, has_nick, sessions_of, spoken_from}
 use Rattle.muc_room.specs.Views.{seen}
 use Rattle.muc_room.specs.declared.entering.Numbers.{Numbers}
@@ -64,9 +65,9 @@ no_subject room =
     element_of client_space (codes "message") (plain_attr (codes "from") (address_text room) ∷ plain_attr (codes "type") (codes "groupchat") ∷ [])
     (one_child (element_of client_space (codes "subject") [] []))
 
-abbrev pub subject_text : Address → Option Subject → List ℕ
+abbrev pub subject_text : Address → Option Delayed → List ℕ
 subject_text room None = text (no_subject room)
-subject_text room (Some subject) = subject.text
+subject_text room (Some subject) = delayed_text room subject
 
 abbrev pub subject_for : Room → (stay : ℕ) → Here → Effect
 subject_for room stay who = Queue who.session (address_text who.address) (subject_text room.address room.subject) (Opening room.number stay)
@@ -83,9 +84,11 @@ told_entry room made who children nick holder =
     ∷ Broadcast room.number (entry room made who children nick holder)
     ∷ []
 
-abbrev pub entered : Room → (made : Bool) → Numbers → Here → (children nick : List ℕ) → Option Occupant → List Effect
-entered room made numbers who children nick holder =
+-- XEP-0045, 7.2.3 to 7.2.15: who is there, the entry, what was said last, and the subject
+abbrev pub entered : Room → (made : Bool) → Numbers → Here → (children nick : List ℕ) → Option Occupant → List Delayed → List Effect
+entered room made numbers who children nick holder past =
     made_if made room who
     ++ openings room numbers.next_stay who (entry_role room who holder) nick
     ++ told_entry room made who children nick holder
+    ++ history room numbers.next_stay who past
     ++ subject_for room numbers.next_stay who ∷ []

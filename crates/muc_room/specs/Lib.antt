@@ -1,5 +1,6 @@
 pub mod Entering
 pub mod Entries
+pub mod Histories
 pub mod Leaving
 pub mod Renaming
 pub mod Saying

@@ -1,18 +1,21 @@
 -- Messages to a room and to an occupant (XEP-0045, 7.4, 7.5 and 8.1).
-use Rattle.std.specs.Prelude.{ℕ, List, [], ◌∷◌, ◌++◌, map, Bool, true, false, not, ◌&&◌, ◌||◌, codes, Option, Some, None, is_some, if◌then◌else◌}
+use Rattle.std.specs.Prelude.{ℕ, nat_lt, length, List, [], ◌∷◌, ◌++◌, map, Bool, true}
+use Rattle.std.specs.Prelude.{false, not, ◌&&◌, ◌||◌, codes, Option, Some, None, is_some, if◌then◌else◌}
 use Rattle.jid_core.specs.Addresses.{Address, address_text}
 use Rattle.stanza_tree.specs.Children.{child_of}
 use Rattle.stanza_tree.specs.Spelling.{client_space, text}
 use Rattle.stanza_tree.specs.Stamps.{sent_by}
 use Rattle.stanza_tree.specs.declared.frame.Origin.TheVariants.{Direct}
 use Rattle.stanza_tree.specs.declared.node.Element.{Element}
+use Rattle.stanza_model.specs.Ids.{has_body, told_with_id, without_ids}
 use Rattle.stanza_model.specs.Replies.{one_child, refused}
 use Rattle.stanza_model.specs.declared.condition.Condition.{Condition}
-use Rattle.stanza_model.specs.declared.condition.Condition.TheVariants.{BadRequest, Forbidden, ItemNotFound, NotAcceptable}
-use Rattle.stanza_model.specs.declared.effect.Change.TheVariants.{Subject}
+use Rattle.stanza_model.specs.declared.condition.Condition.TheVariants.{BadRequest, Forbidden, ItemNotFound, NotAcceptable, ResourceConstraint}
+use Rattle.stanza_model.specs.declared.effect.Change.TheVariants.{RoomRow, Subject}
 use Rattle.stanza_model.specs.declared.effect.Effect.{Effect}
 use Rattle.stanza_model.specs.declared.effect.Effect.TheVariants.{Queue, Broadcast, Set}
 use Rattle.stanza_model.specs.declared.here.Here.{Here}
+use Rattle.stanza_model.specs.declared.keeping.Keeping.{Keeping}
 use Rattle.stanza_model.specs.declared.kinds.MessageForm.{MessageForm}
 use Rattle.stanza_model.specs.declared.kinds.MessageForm.TheVariants.{Groupchat}
 use Rattle.stanza_model.specs.declared.room.Occupant.{Occupant}
@@ -49,32 +52,52 @@ may_change_subject Participant change_subject = change_subject
 may_change_subject Visitor change_subject = false
 may_change_subject Nobody change_subject = false
 
+-- XEP-0359, 5: it has no id in the room's name but, where it has a body, the one that it gets in the room's archive
+abbrev pub with_row_id : Room → (row : ℕ) → Element → Element
+with_row_id room row e = if has_body e then told_with_id room.address row e else without_ids room.address e
+
 -- XEP-0045, 7.4: from the occupant's address, to each occupant
-abbrev pub message_text : Room → Occupant → Element → List ℕ
-message_text room o e = text (sent_by (address_text (at room.address (Some o.nick))) e)
+abbrev pub message_text : Room → Occupant → (row : ℕ) → Element → List ℕ
+message_text room o row e = text (sent_by (address_text (at room.address (Some o.nick))) (with_row_id room row e))
 
-abbrev pub subject_if : Bool → ℕ → List ℕ → List Effect
-subject_if false room text = []
-subject_if true room text = Set (Subject room text) ∷ []
+-- XEP-0313, 2: where it has a body it is kept as it is broadcast
+abbrev pub row_if : Bool → ℕ → (peer : Address) → (text : List ℕ) → (moment : ℕ) → List Effect
+row_if false room peer text moment = []
+row_if true room peer text moment = Set (RoomRow room peer text moment) ∷ []
 
-abbrev pub said : Room → Occupant → Element → List Effect
-said room o e =
-    Broadcast room.number (item.Message (message_text room o e)) ∷ subject_if (is_subject e) room.number (message_text room o e)
+abbrev pub subject_if : Bool → ℕ → (text stamp : List ℕ) → List Effect
+subject_if false room text stamp = []
+subject_if true room text stamp = Set (Subject room text stamp) ∷ []
 
-abbrev pub says : Room → Here → Stanza → Element → Occupant → List Effect
-says room who st e o =
+abbrev pub said_as : Room → (from : Address) → Keeping → (stamp : List ℕ) → Element → (text : List ℕ) → List Effect
+said_as room from keeping stamp e text =
+    Broadcast room.number (item.Message text (has_body e) from keeping.moment)
+    ∷ row_if (has_body e) room.number from text keeping.moment
+    ++ subject_if (is_subject e) room.number text stamp
+
+abbrev pub said : Room → Occupant → Keeping → (stamp : List ℕ) → Element → List Effect
+said room o keeping stamp e = said_as room (at room.address (Some o.nick)) keeping stamp e (message_text room o keeping.row e)
+
+-- it is to be kept, and passes the room that there is
+abbrev pub is_too_much : Room → Occupant → Keeping → Element → Bool
+is_too_much room o keeping e = has_body e && nat_lt keeping.free (length (message_text room o keeping.row e))
+
+abbrev pub says : Room → Here → Stanza → Keeping → (stamp : List ℕ) → Element → Occupant → List Effect
+says room who st keeping stamp e o =
     if is_silent o.role room.config.moderated then refused who st Forbidden
     else if is_subject e && not (may_change_subject o.role room.config.change_subject) then refused who st Forbidden
-    else said room o e
+    else if is_too_much room o keeping e then refused who st ResourceConstraint
+    else said room o keeping stamp e
 
-abbrev pub says_as : Room → Here → Stanza → Element → Option Occupant → List Effect
-says_as room who st e None = refused who st NotAcceptable
-says_as room who st e (Some o) = says room who st e o
+abbrev pub says_as : Room → Here → Stanza → Keeping → (stamp : List ℕ) → Element → Option Occupant → List Effect
+says_as room who st keeping stamp e None = refused who st NotAcceptable
+says_as room who st keeping stamp e (Some o) = says room who st keeping stamp e o
 
--- another stanza is none of this table's
-abbrev pub say : Room → Here → Stanza → List Effect
-say room who (Message to Groupchat e) = says_as room who (Message to Groupchat e) e (occupant_of who.session room.occupants)
-say room who st = []
+-- another stanza is none of this table's. `keeping` is of the room's archive, and `stamp` its moment as it is written.
+abbrev pub say : Room → Here → Stanza → Keeping → (stamp : List ℕ) → List Effect
+say room who (Message to Groupchat e) keeping stamp =
+    says_as room who (Message to Groupchat e) keeping stamp e (occupant_of who.session room.occupants)
+say room who st keeping stamp = []
 
 -- To an occupant.
 

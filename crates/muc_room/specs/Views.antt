@@ -127,7 +127,7 @@ seen (Presence sessions nick address affiliation role gone renamed children stat
     presence_text (at room (Some nick)) gone children
     (x_of (child_node (item affiliation (jid_for (is_among session sessions) sees to address) renamed role)
     ∷ map status_node (codes_for (is_among session sessions) statuses own_statuses)))
-seen (Message text) sees room session to = text
+seen (Message text body from moment) sees room session to = text
 seen (Destroyed reason nicks) sees room session to = presence_text (at room (nick_of session nicks)) true [] (destroyed reason)
 
 abbrev pub view : RoomItem → (sees : Bool) → (room : Address) → (session : ℕ) → (to : Address) → Shown
@@ -143,7 +143,7 @@ told_if false address = None
 abbrev pub seen_by_others : RoomItem → (sees : Bool) → (room : Address) → List ℕ
 seen_by_others (Presence sessions nick address affiliation role gone renamed children statuses own_statuses) sees room =
     presence_as (Presence sessions nick address affiliation role gone renamed children statuses own_statuses) false (told_if sees address) room
-seen_by_others (Message text) sees room = text
+seen_by_others (Message text body from moment) sees room = text
 seen_by_others (Destroyed reason nicks) sees room = []
 
 abbrev pub shared_views : RoomItem → (room : Address) → SharedViews

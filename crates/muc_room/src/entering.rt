@@ -5,13 +5,14 @@ ghost use Rattle.muc_room.specs.Entering.{barred, crowded, default_config, enter
 ghost use Rattle.muc_room.specs.Entering.{is_neither, is_taken, lacks_secret, new_room, password_of, refusal};
 
 use crate::entry::entered;
+use crate::histories::wanted_of;
 use crate::seats::{affiliation_in, has_all_seats, holder_of};
 use crate::views::{MUC_SPACE, shown_children};
 use jid_core::{Jid, Part};
 use muc_roles::{governs, is_outcast, is_owner};
 use stanza_model::{
-    Affiliated, Affiliation, Condition, Config, Effect, Here, Occupant, PresenceForm, Room, Stanza,
-    refuse,
+    Affiliated, Affiliation, Condition, Config, Delayed, Effect, Here, Occupant, PresenceForm,
+    Room, Stanza, refuse,
 };
 use stanza_tree::{Element, NoMemory, Several, Text};
 use std::alloc::Global;
@@ -213,16 +214,20 @@ fn enters(
     stanza: &Stanza,
     presence: &Element,
     nick: &Part,
+    past: &[Delayed],
 ) -> Result<Vec<Effect>, NoMemory>
     ensures { IfOk result (λ effects. effects.items
-        ≡ enters room.now made numbers.now who.now stanza.now presence.now nick.now) }
+        ≡ enters room.now made numbers.now who.now stanza.now presence.now nick.now past.now) }
 {
     match refusal(alloc, room, numbers, who, presence, nick)? {
         Some(condition) => refuse(alloc, who, stanza, condition),
         None => {
             let children = shown_children(alloc, presence.children.slice())?;
             let holder = holder_of(nick, room.occupants.slice());
-            entered(alloc, room, made, numbers, who, children, nick, holder)
+            let past = wanted_of(presence, past);
+            entered(
+                alloc, room, made, numbers, who, children, nick, holder, past,
+            )
         }
     }
 }
@@ -236,34 +241,48 @@ fn enters_by(
     to: &Jid,
     presence: &Element,
     nick: &Part,
+    past: &[Delayed],
 ) -> Result<Vec<Effect>, NoMemory>
     ensures { IfOk result (λ effects. effects.items
-        ≡ enters_by (option_copied room.entry) numbers.now who.now stanza.now to.now presence.now nick.now) }
+        ≡ enters_by (option_copied room.entry) numbers.now who.now stanza.now to.now presence.now nick.now past.now) }
 {
     match room {
-        Some(room) => enters(alloc, room, false, numbers, who, stanza, presence, nick),
+        Some(room) => enters(
+            alloc, room, false, numbers, who, stanza, presence, nick, past,
+        ),
         None if numbers.rooms >= MOST_ROOMS => {
             refuse(alloc, who, stanza, Condition::ResourceConstraint)
         }
         None => {
             let room = new_room(alloc, numbers.next_room, to, who)?;
-            enters(alloc, &room, true, numbers, who, stanza, presence, nick)
+            enters(
+                alloc,
+                &room,
+                true,
+                numbers,
+                who,
+                stanza,
+                presence,
+                nick,
+                &[],
+            )
         }
     }
 }
 
 /// What comes of available presence to a room and a nick, by a session that has no seat in it (XEP-0045, 7.2). `room` is the room of that
-/// address, where it is there; else it is made, locked, with the user as its owner. The effects are, in this order: the room is made; each
-/// other occupant's presence is queued for the newcomer; it enters, and its presence is broadcast; the subject is queued. Costs a
-/// spelling for each occupant.
+/// address, where it is there, and `past` what was said last in it; else it is made, locked, with the user as its owner. The effects are, in
+/// this order: the room is made; each other occupant's presence is queued for the newcomer; it enters, and its presence is broadcast; what
+/// was said last is queued, as much as it asks for; the subject is queued. Costs a spelling for each occupant and for each message.
 pub fn enter(
     alloc: Global,
     room: Option<&Room>,
     numbers: &Numbers,
     who: &Here,
     stanza: &Stanza,
+    past: &[Delayed],
 ) -> Result<Vec<Effect>, NoMemory>
-    ensures { IfOk result (λ effects. effects.items ≡ enter (option_copied room.entry) numbers.now who.now stanza.now) }
+    ensures { IfOk result (λ effects. effects.items ≡ enter (option_copied room.entry) numbers.now who.now stanza.now past.now) }
 {
     let Stanza::Presence {
         to: Some(to),
@@ -274,7 +293,7 @@ pub fn enter(
         return Ok(Vec::new(alloc));
     };
     match &to.resource {
-        Some(nick) => enters_by(alloc, room, numbers, who, stanza, to, element, nick),
+        Some(nick) => enters_by(alloc, room, numbers, who, stanza, to, element, nick, past),
         None => refuse(alloc, who, stanza, Condition::JidMalformed),
     }
 }

@@ -5,12 +5,13 @@ ghost use Rattle.muc_room.specs.Entries.{entered, entry, entry_affiliation, entr
 ghost use Rattle.muc_room.specs.Entries.{opening, openings, present, subject_for, subject_text, told_entry};
 
 use crate::entering::Numbers;
+use crate::histories::{delayed_text, push_history};
 use crate::seats::{affiliation_in, has_nick, sessions_of, spoken_from};
 use crate::views::{CLIENT_SPACE, seen};
 use jid_core::{Jid, Part};
 use muc_roles::{initial_role, sees_addresses};
 use stanza_model::make::{element_of, one_child, push_attr, spelt, text_of, written};
-use stanza_model::{Affiliation, Change, Effect, Here, Occupant, Role, Room, RoomItem, Subject};
+use stanza_model::{Affiliation, Change, Delayed, Effect, Here, Occupant, Role, Room, RoomItem};
 use stanza_tree::{Element, NoMemory, Origin, Several, Text};
 use std::alloc::Global;
 
@@ -173,11 +174,11 @@ fn no_subject(alloc: Global, room: &Jid) -> Result<Element, NoMemory>
     )
 }
 
-fn subject_text(alloc: Global, room: &Jid, subject: Option<&Subject>) -> Result<Text, NoMemory>
+fn subject_text(alloc: Global, room: &Jid, subject: Option<&Delayed>) -> Result<Text, NoMemory>
     ensures { IfOk result (λ t. t ≡ subject_text room.now (option_copied subject.entry)) }
 {
     match subject {
-        Some(subject) => subject.text.copy(alloc),
+        Some(subject) => delayed_text(alloc, room, subject),
         None => spelt(alloc, &no_subject(alloc, room)?),
     }
 }
@@ -249,7 +250,7 @@ fn push_entry(
     Ok(())
 }
 
-/// What comes of entering a room under this nick, which this occupant has already.
+/// What comes of entering a room under this nick, which this occupant has already, where so much of what was said is told.
 pub(crate) fn entered(
     alloc: Global,
     room: &Room,
@@ -259,23 +260,18 @@ pub(crate) fn entered(
     children: Text,
     nick: &Part,
     holder: Option<&Occupant>,
+    past: &[Delayed],
 ) -> Result<Vec<Effect>, NoMemory>
     ensures { IfOk result (λ effects. effects.items
-        ≡ entered room.now made numbers.now who.now children nick.now (option_copied holder.entry)) }
+        ≡ entered room.now made numbers.now who.now children nick.now (option_copied holder.entry) past.now) }
 {
     let mut effects = Vec::new(alloc);
     let role = entry_role(room, who, holder);
+    let stay = numbers.next_stay;
     push_made(alloc, room, made, who, &mut effects)?;
-    push_openings(
-        alloc,
-        room,
-        numbers.next_stay,
-        who,
-        role,
-        nick,
-        &mut effects,
-    )?;
+    push_openings(alloc, room, stay, who, role, nick, &mut effects)?;
     push_entry(alloc, room, made, who, children, nick, holder, &mut effects)?;
-    effects.push(subject_for(alloc, room, numbers.next_stay, who)?)?;
+    push_history(alloc, room, stay, who, past, &mut effects)?;
+    effects.push(subject_for(alloc, room, stay, who)?)?;
     Ok(effects)
 }

@@ -3,6 +3,7 @@
 
 pub mod entering;
 mod entry;
+mod histories;
 pub mod leaving;
 pub mod renaming;
 pub mod saying;

@@ -26,7 +26,7 @@ fn seen_by_others(alloc: Global, item: &RoomItem, sees: bool, room: &Jid) -> Res
         RoomItem::Presence { address, .. } => {
             presence_as(alloc, item, false, sees.then_some(address), room)?
         }
-        RoomItem::Message { text } => text.copy(alloc)?,
+        RoomItem::Message { text, .. } => text.copy(alloc)?,
         RoomItem::Destroyed { .. } => Text::empty(alloc),
     };
     text.share(alloc)?;
@@ -64,7 +64,7 @@ fn seen_sharing(
                 (false, false) => shared.plain.copy(alloc),
             }
         }
-        RoomItem::Message { text } => text.copy(alloc),
+        RoomItem::Message { text, .. } => text.copy(alloc),
         RoomItem::Destroyed { .. } => seen(alloc, item, sees, room, session, to),
     }
 }

@@ -7,7 +7,7 @@ ghost use Rattle.muc_room.specs.States.{with_affiliation, without_occupant};
 
 use crate::seats::has_seat;
 use jid_core::Jid;
-use stanza_model::{Affiliated, Affiliation, Config, Occupant, Role, Room, Seat, Subject};
+use stanza_model::{Affiliated, Affiliation, Config, Delayed, Occupant, Role, Room, Seat};
 use stanza_tree::{NoMemory, Several};
 use std::alloc::Global;
 
@@ -102,14 +102,14 @@ fn copy_occupants(alloc: Global, occupants: &[Occupant]) -> Result<Vec<Occupant>
     Ok(copies)
 }
 
-fn copy_subject(alloc: Global, subject: &Option<Subject>) -> Result<Option<Subject>, NoMemory>
+fn copy_subject(alloc: Global, subject: &Option<Delayed>) -> Result<Option<Delayed>, NoMemory>
     ensures { IfOk result (λ s. s ≡ subject.now) }
 {
     match subject {
         Some(subject) => {
-            let stamp = subject.stamp;
+            let stamp = subject.stamp.copy(alloc)?;
             let text = subject.text.copy(alloc)?;
-            Ok(Some(Subject { text, stamp }))
+            Ok(Some(Delayed { text, stamp }))
         }
         None => Ok(None),
     }

@@ -294,7 +294,7 @@ pub(crate) fn seen(
             let own = is_among(session, sessions.slice());
             presence_as(alloc, item, own, jid_for(own, sees, to, address), room)
         }
-        RoomItem::Message { text } => text.copy(alloc),
+        RoomItem::Message { text, .. } => text.copy(alloc),
         RoomItem::Destroyed { reason, nicks } => {
             let x = destroyed(alloc, reason.as_ref())?;
             let from = at(alloc, room, nick_of(session, nicks.slice()))?;

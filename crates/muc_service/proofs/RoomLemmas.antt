@@ -5,7 +5,7 @@ use Rattle.std.specs.List.{filter}
 use Rattle.stanza_model.specs.declared.effect.Change.{Change}
 use Rattle.stanza_model.specs.declared.effect.Change.TheVariants as change
 use Rattle.stanza_model.specs.declared.effect.Effect.{Effect}
-use Rattle.stanza_model.specs.declared.effect.Effect.TheVariants.{Queue, Broadcast, Enter, Leave, Set}
+use Rattle.stanza_model.specs.declared.effect.Effect.TheVariants.{Queue, Broadcast, Enter, Leave, Keep, Set}
 use Rattle.stanza_model.specs.declared.room.Room.{Room}
 use Rattle.muc_service.specs.Casting.{after}
 use Rattle.muc_service.specs.Rooms.{Hosted, Rooms, changed, changed_in, counted_in, enters, made_room, set, step}
@@ -74,7 +74,7 @@ set_counts (change.Affiliated n address a) rooms = changed_counts (Set (change.A
 set_counts (change.RoleSet n session role) rooms = changed_counts (Set (change.RoleSet n session role)) n _ rooms refl refl
 set_counts (change.Renamed n session nick) rooms = changed_counts (Set (change.Renamed n session nick)) n _ rooms refl refl
 set_counts (change.OccupantShown n session presence) rooms = changed_counts (Set (change.OccupantShown n session presence)) n _ rooms refl refl
-set_counts (change.Subject n text) rooms = changed_counts (Set (change.Subject n text)) n _ rooms refl refl
+set_counts (change.Subject n text stamp) rooms = changed_counts (Set (change.Subject n text stamp)) n _ rooms refl refl
 set_counts c rooms = same_counts (Set c) rooms refl refl
 
 pub step_counts : (e : Effect) (rooms : Rooms) → Counts e rooms (step e rooms)
@@ -91,6 +91,7 @@ step_counts (Enter n session address nick role) rooms = record {
 step_counts (Leave n session) rooms = changed_counts (Leave n session) n _ rooms refl refl
 step_counts (Set c) rooms = set_counts c rooms
 step_counts (Queue session to rest origin) rooms = same_counts (Queue session to rest origin) rooms refl refl
+step_counts (Keep user peer text moment) rooms = same_counts (Keep user peer text moment) rooms refl refl
 
 -- what a list counts
 pub record CountsAll (es : List Effect) (rooms new : Rooms) : Type 0 where

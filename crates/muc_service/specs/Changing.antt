@@ -16,7 +16,7 @@ set_in (change.Affiliated n address a) = set_affiliation address a
 set_in (change.RoleSet n session role) = set_role session role
 set_in (change.Renamed n session nick) = renames session nick
 set_in (change.OccupantShown n session presence) = shows session presence
-set_in (change.Subject n text) = has_subject text
+set_in (change.Subject n text stamp) = has_subject text stamp
 set_in c = λ room. room
 
 -- the most items that a room has broadcast

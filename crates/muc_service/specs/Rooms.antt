@@ -1,11 +1,11 @@
 -- The rooms that the service hosts, and what each effect makes of them (XEP-0045, 5 to 10).
-use Rattle.std.specs.Prelude.{ℕ, ◌+◌, ◌==◌, List, [], ◌∷◌, ◌++◌, map, length, replicate, Bool, true, false, not, Option, Some, None, is_some, if◌then◌else◌}
+use Rattle.std.specs.Prelude.{ℕ, ◌+◌, ◌==◌, List, [], ◌∷◌, ◌++◌, map, length, Bool, true, false, not, Option, Some, None, is_some, if◌then◌else◌}
 use Rattle.std.specs.List.{filter, find, list_any}
 use Rattle.jid_core.specs.Addresses.{Address, same_bare}
 use Rattle.stanza_model.specs.declared.effect.Change.{Change}
 use Rattle.stanza_model.specs.declared.effect.Change.TheVariants as change
 use Rattle.stanza_model.specs.declared.effect.Effect.{Effect}
-use Rattle.stanza_model.specs.declared.effect.Effect.TheVariants.{Queue, Broadcast, Enter, Leave, Set}
+use Rattle.stanza_model.specs.declared.effect.Effect.TheVariants.{Queue, Broadcast, Enter, Leave, Keep, Set}
 use Rattle.stanza_model.specs.declared.room.Affiliation.TheVariants.{Owner}
 use Rattle.stanza_model.specs.declared.room.Occupant.{Occupant}
 use Rattle.stanza_model.specs.declared.room.Role.{Role}
@@ -93,9 +93,9 @@ unlocked room = record room { locked = false }
 abbrev pub configured : Config → Room → Room
 configured config room = record room { config = config }
 
--- a subject's stamp is still to come
-abbrev pub has_subject : List ℕ → Room → Room
-has_subject text room = record room { subject = Some (record { text = text; stamp = replicate 24 0 }) }
+-- XEP-0045, 8.1
+abbrev pub has_subject : (text stamp : List ℕ) → Room → Room
+has_subject text stamp room = record room { subject = Some (record { text = text; stamp = stamp }) }
 
 -- Of all rooms.
 
@@ -152,7 +152,7 @@ set (change.Affiliated n address a) rooms = changed n (set_affiliation address a
 set (change.RoleSet n session role) rooms = changed n (set_role session role) rooms
 set (change.Renamed n session nick) rooms = changed n (renames session nick) rooms
 set (change.OccupantShown n session presence) rooms = changed n (shows session presence) rooms
-set (change.Subject n text) rooms = changed n (has_subject text) rooms
+set (change.Subject n text stamp) rooms = changed n (has_subject text stamp) rooms
 set c rooms = rooms
 
 abbrev pub step : Effect → Rooms → Rooms
@@ -161,6 +161,7 @@ step (Enter n session address nick role) rooms = entered n session address nick 
 step (Leave n session) rooms = changed n (leaves session) rooms
 step (Set c) rooms = set c rooms
 step (Queue session to rest origin) rooms = rooms
+step (Keep user peer text moment) rooms = rooms
 
 -- What is found.
 

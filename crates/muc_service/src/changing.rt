@@ -8,7 +8,7 @@ use crate::hosted::Hosted;
 use crate::seating::{enters, leaves, renames, shows};
 use jid_core::{Jid, Part};
 use muc_room::{copy_config, copy_room, default_config, set_affiliation, set_role};
-use stanza_model::{Affiliated, Affiliation, Change, Config, Role, Room, Seat, Subject};
+use stanza_model::{Affiliated, Affiliation, Change, Config, Delayed, Role, Room, Seat};
 use stanza_tree::{NoMemory, Several, Text};
 use std::alloc::Global;
 
@@ -19,14 +19,12 @@ fn configured(alloc: Global, room: &mut Room, config: &Config) -> Result<(), NoM
     Ok(())
 }
 
-fn has_subject(alloc: Global, room: &mut Room, text: &Text) -> Result<(), NoMemory>
-    ensures { OnOk result (room.new ≡ has_subject text.now room.old) }
+fn has_subject(alloc: Global, room: &mut Room, text: &Text, stamp: &Text) -> Result<(), NoMemory>
+    ensures { OnOk result (room.new ≡ has_subject text.now stamp.now room.old) }
 {
     let text = text.copy(alloc)?;
-    room.subject = Some(Subject {
-        text,
-        stamp: [0; 24],
-    });
+    let stamp = stamp.copy(alloc)?;
+    room.subject = Some(Delayed { text, stamp });
     Ok(())
 }
 
@@ -52,7 +50,7 @@ fn set_in(alloc: Global, change: &Change, room: &mut Room) -> Result<(), NoMemor
             presence,
             ..
         } => shows(alloc, room, *session, presence),
-        Change::Subject { text, .. } => has_subject(alloc, room, text),
+        Change::Subject { text, stamp, .. } => has_subject(alloc, room, text, stamp),
         _ => Ok(()),
     }
 }

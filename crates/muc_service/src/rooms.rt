@@ -217,7 +217,7 @@ impl Rooms {
                 changing::leave(alloc, *room, *session, &mut self.hosted)
             }
             Effect::Set(change) => self.set(alloc, change),
-            Effect::Queue { .. } => Ok(()),
+            Effect::Queue { .. } | Effect::Keep { .. } => Ok(()),
         }
     }
 }

@@ -9,7 +9,7 @@ use Rattle.stanza_model.specs.Subscriptions.{cancelled, outbound, unchanged, wit
 use Rattle.stanza_model.specs.declared.condition.Condition.{Condition}
 use Rattle.stanza_model.specs.declared.condition.Condition.TheVariants.{BadRequest}
 use Rattle.stanza_model.specs.declared.effect.Effect.{Effect}
-use Rattle.stanza_model.specs.declared.effect.Effect.TheVariants.{Queue, Broadcast, Enter, Leave, Set}
+use Rattle.stanza_model.specs.declared.effect.Effect.TheVariants.{Queue, Broadcast, Enter, Leave, Keep, Set}
 use Rattle.stanza_model.specs.declared.here.Here.{Here}
 use Rattle.stanza_model.specs.declared.kinds.PresenceForm.{PresenceForm}
 use Rattle.stanza_model.specs.declared.kinds.PresenceForm.TheVariants.{Subscribe, Subscribed, Unsubscribe, Unsubscribed}
@@ -37,6 +37,7 @@ noted_then (Queue s to rest origin ∷ xs) ys k = noted_then xs ys k
 noted_then (Broadcast n item ∷ xs) ys k = noted_then xs ys k
 noted_then (Enter n s address nick role ∷ xs) ys k = noted_then xs ys k
 noted_then (Leave n s ∷ xs) ys k = noted_then xs ys k
+noted_then (Keep user peer text moment ∷ xs) ys k = noted_then xs ys k
 
 -- What is queued, and the count of pushes, note nothing.
 

@@ -4,6 +4,7 @@ use Rattle.std.specs.Prelude.{Option, Some, None}
 use Rattle.house_model.specs.Sessions.{nobody}
 use Rattle.house_model.specs.States.{State, Kept, opening}
 use Rattle.house_model.specs.Histories.{StandsFor}
+use Rattle.house_model.proofs.ArchiveTurns.{archives_are_kept}
 use Rattle.house_model.proofs.SafeLaws.{safe}
 use Rattle.replay_script.specs.Deeds.{no_framers}
 use Rattle.replay_script.specs.Scripts.{Makes, IsPlayed, lines_of}
@@ -30,7 +31,8 @@ first-done left left_now took held ends = record {
   start = opening nobody [] 0;
   deeds = [];
   played = none-played;
-  safe = safe (opening nobody [] 0) [] none-played.starts none-played.legal;
+  safe =
+      safe (opening nobody [] 0) [] none-played.starts none-played.legal (archives_are_kept (opening nobody [] 0) [] none-played.starts);
   number = tt;
   read = λ all told.
       let end = ends all (unread-nil left ∙ told) in
@@ -47,7 +49,8 @@ first-taking left left_now took (status.Script n) stop = record {
   start = opening nobody [] 0;
   deeds = [];
   played = none-played;
-  safe = safe (opening nobody [] 0) [] none-played.starts none-played.legal;
+  safe =
+      safe (opening nobody [] 0) [] none-played.starts none-played.legal (archives_are_kept (opening nobody [] 0) [] none-played.starts);
   number = stop.0;
   read = λ all told.
       let passes = stop.1 all (unread-nil left ∙ told) in
@@ -61,7 +64,8 @@ first-taking left left_now took status.ReadFault stop = record {
   start = opening nobody [] 0;
   deeds = [];
   played = none-played;
-  safe = safe (opening nobody [] 0) [] none-played.starts none-played.legal;
+  safe =
+      safe (opening nobody [] 0) [] none-played.starts none-played.legal (archives_are_kept (opening nobody [] 0) [] none-played.starts);
   number = tt;
   read = λ all told. (lines_of all, (refl, tt));
   out = [];
@@ -74,7 +78,8 @@ first-taking left left_now took status.NoMemory stop = record {
   start = opening nobody [] 0;
   deeds = [];
   played = none-played;
-  safe = safe (opening nobody [] 0) [] none-played.starts none-played.legal;
+  safe =
+      safe (opening nobody [] 0) [] none-played.starts none-played.legal (archives_are_kept (opening nobody [] 0) [] none-played.starts);
   number = tt;
   read = λ all told. (lines_of all, (refl, tt));
   out = [];
@@ -92,7 +97,8 @@ first-bad left coming_now left_now took given_now text t never = record {
   start = opening nobody [] 0;
   deeds = [];
   played = none-played;
-  safe = safe (opening nobody [] 0) [] none-played.starts none-played.legal;
+  safe =
+      safe (opening nobody [] 0) [] none-played.starts none-played.legal (archives_are_kept (opening nobody [] 0) [] none-played.starts);
   number = refl;
   read = λ all told.
       let first = t.first all (unread-nil left ∙ told) in

@@ -1,6 +1,8 @@
 pub mod Conditions
 pub mod Errors
 pub mod Forms
+pub mod Growing
+pub mod Ids
 pub mod Kinds
 pub mod Nonzas
 pub mod Replies

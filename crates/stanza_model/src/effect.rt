@@ -33,6 +33,14 @@ pub enum Effect {
         room: u64,
         session: u64,
     },
+    /// A message is kept for a user, by its local part (XEP-0313, 2): with whom it was exchanged, its canonical spelling, and when, in
+    /// milliseconds since 1970.
+    Keep {
+        user: Part,
+        peer: Jid,
+        text: Text,
+        moment: u64,
+    },
     /// Something that the server keeps is set.
     Set(Change),
 }
@@ -131,9 +139,17 @@ pub enum Change {
         session: u64,
         presence: Text,
     },
-    /// A room's subject is this message, without its `to`.
+    /// A room's subject is this message, without its `to`, which was sent then (XEP-0082).
     Subject {
         room: u64,
         text: Text,
+        stamp: Text,
+    },
+    /// A message is kept for a room (XEP-0313, 2): who said it, its text without its `to`, and when, in milliseconds since 1970.
+    RoomRow {
+        room: u64,
+        peer: Jid,
+        text: Text,
+        moment: u64,
     },
 }

@@ -101,9 +101,9 @@ fn count_in(e: &Element) -> Option<u32>
     read_count(e.attr(b"h")?)
 }
 
-/// The number of 32 bits that one or more decimal digits write.
+/// The number of 32 bits that one or more decimal digits write (XML Schema Part 2, 3.3.22).
 #[tactic(auto, using(crate::proofs::Counts::count_parsed))]
-fn read_count(text: &Text) -> Option<u32>
+pub fn read_count(text: &Text) -> Option<u32>
     ensures { result ≡ count_of text.now }
 {
     if !are_digits(text.bytes()) {

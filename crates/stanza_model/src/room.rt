@@ -66,11 +66,11 @@ pub struct Affiliated {
     pub affiliation: Affiliation,
 }
 
-/// A message that set the subject, without its `to`, and when it was sent (XEP-0082).
+/// A message that was said earlier, without its `to`, and when (XEP-0203; XEP-0082).
 #[derive(Drop)]
-pub struct Subject {
+pub struct Delayed {
     pub text: Text,
-    pub stamp: [u8; 24],
+    pub stamp: Text,
 }
 
 #[derive(Drop)]
@@ -85,7 +85,8 @@ pub struct Room {
     pub affiliations: Several<Affiliated>,
     /// In the order of entering.
     pub occupants: Several<Occupant>,
-    pub subject: Option<Subject>,
+    /// The message that set the subject.
+    pub subject: Option<Delayed>,
 }
 
 /// What a room broadcasts to its occupants, each of which gets its own view.
@@ -111,9 +112,16 @@ pub enum RoomItem {
         /// Those that the occupant's own views have before them.
         own_statuses: Several<u16>,
     },
-    /// A message, without its `to` (XEP-0045, 7.4).
+    /// A message (XEP-0045, 7.4).
     Message {
+        /// Its text, without its `to`.
         text: Text,
+        /// Whether it has a body, so that it is kept.
+        body: bool,
+        /// The nick that said it, with the room's address.
+        from: Jid,
+        /// When, in milliseconds since 1970.
+        moment: u64,
     },
     /// The room is there no more (XEP-0045, 10.9).
     Destroyed {

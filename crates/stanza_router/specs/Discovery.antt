@@ -114,7 +114,7 @@ info_if (Some room) = Ok (room_info room)
 -- each place's identity and features; a room's address is that of the request
 abbrev pub info_of : Place → Option Address → List Listed → Result Element Condition
 info_of Server to rooms = Ok (described (codes "server") (codes "im") (info_space ∷ items_space ∷ codes "urn:xmpp:ping" ∷ []))
-info_of Account to rooms = Ok (described (codes "account") (codes "registered") (info_space ∷ []))
+info_of Account to rooms = Ok (described (codes "account") (codes "registered") (info_space ∷ archive_space ∷ ids_space ∷ []))
 info_of Service to rooms = Ok (described (codes "conference") (codes "text") (info_space ∷ items_space ∷ rooms_space ∷ []))
 info_of (Room room) to rooms = info_if (listed_at to rooms)
 info_of place to rooms = Err ItemNotFound

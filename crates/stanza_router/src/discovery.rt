@@ -27,6 +27,12 @@ const ITEMS_SPACE: &str = "http://jabber.org/protocol/disco#items";
 /// The namespace of pings (XEP-0199).
 const PING_SPACE: &str = "urn:xmpp:ping";
 
+/// The namespace of archives (XEP-0313, 12).
+pub(crate) const ARCHIVE_SPACE: &str = "urn:xmpp:mam:2";
+
+/// The namespace of their ids (XEP-0359, 4).
+pub(crate) const IDS_SPACE: &str = "urn:xmpp:sid:0";
+
 /// The namespace of rooms (XEP-0045).
 pub(crate) const ROOMS_SPACE: &str = "http://jabber.org/protocol/muc";
 
@@ -126,7 +132,12 @@ fn info_of(
             "im",
             &[INFO_SPACE, ITEMS_SPACE, PING_SPACE],
         ),
-        Place::Account => described(alloc, "account", "registered", &[INFO_SPACE]),
+        Place::Account => described(
+            alloc,
+            "account",
+            "registered",
+            &[INFO_SPACE, ARCHIVE_SPACE, IDS_SPACE],
+        ),
         Place::Service => described(
             alloc,
             "conference",

@@ -2,6 +2,7 @@
 #![tactic(auto)]
 
 pub mod discovery;
+mod giving;
 pub mod listed;
 pub mod message;
 pub mod places;
@@ -9,7 +10,8 @@ pub mod room;
 pub mod routing;
 
 pub use discovery::discover;
+pub use giving::is_to_oneself;
 pub use listed::Listed;
-pub use message::{copy_to, deliver, keep_receivers, message_receivers};
+pub use message::{copy_to, deliver, deliver_to, keep_receivers, message_receivers};
 pub use places::Place;
 pub use routing::place;

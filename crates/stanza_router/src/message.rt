@@ -3,16 +3,16 @@ ghost use Rattle.std.specs.Prelude.{◌≡◌, [], map, IfOk};
 ghost use Rattle.std.specs.List.{filter, list_any};
 ghost use Rattle.std.specs.Option.{option_copied};
 ghost use Rattle.jid_core.specs.Addresses.{same_part, address_text};
-ghost use Rattle.stanza_tree.specs.declared.frame.Origin.TheVariants.{Direct};
 ghost use Rattle.stanza_model.specs.declared.here.Here.{Here};
-ghost use Rattle.stanza_router.specs.Messages.{addressed, at_address, copied, copied_to, deliveries, else_of_user, is_reached, of_full};
+ghost use Rattle.stanza_router.specs.Messages.{addressed, at_address, copied_to, deliveries, else_of_user, given_to, is_reached, of_full};
 ghost use Rattle.stanza_router.specs.Messages.{of_user, receivers_of, route_of, to_full, to_no_session, to_user};
 
+use crate::giving::{address_of, given};
 use crate::places::Place;
 use jid_core::{Jid, Part};
 use stanza_model::make::written;
-use stanza_model::{Condition, Effect, Here, MessageForm, Stanza, refuse};
-use stanza_tree::{Element, NoMemory, Origin, Text, sent_text};
+use stanza_model::{Condition, Effect, Here, Keeping, MessageForm, Stanza, refuse};
+use stanza_tree::{Element, NoMemory, Origin, sent_text};
 use std::alloc::Global;
 
 /// What is done with a message.
@@ -176,8 +176,10 @@ fn keep_of_full(form: MessageForm, resource: &Part, sessions: &mut Vec<Here>)
 }
 
 /// What comes of a message of `who` to that place: a copy for each of `receivers`, whom `message_receivers` gave, or an error for the
-/// sender. `known` says whether the place's user has an account. Messages to rooms and occupants are not this call's: nothing comes
-/// of them here. Costs one spelling of the message, whatever the number of receivers.
+/// sender. `known` says whether the place's user has an account. A chat or normal message with a body is kept for both users, and its copies
+/// tell the id that it has in the receiver's archive; where there is no room for it, nothing is delivered. Messages to rooms and occupants are
+/// not this call's: nothing comes of them here. Costs a spelling of the message and two copies of that, whatever the number of receivers.
+/// One that comes with an id, or whose namespace isn't that of stanzas, is copied and spelt once more.
 pub fn deliver(
     alloc: Global,
     who: &Here,
@@ -185,17 +187,67 @@ pub fn deliver(
     place: &Place,
     known: bool,
     receivers: &[Here],
+    keeping: &Keeping,
 ) -> Result<Vec<Effect>, NoMemory>
-    ensures { IfOk result (λ effects. effects.items ≡ deliveries who.now stanza.now place.now known receivers.now) }
+    ensures { IfOk result (λ effects. effects.items ≡ deliveries who.now stanza.now place.now known receivers.now keeping.now) }
 {
     let Stanza::Message { to, form, element } = stanza else {
         return Ok(Vec::new(alloc));
     };
     match route_of(place, known, *form, receivers) {
-        Route::Deliver => copies(alloc, who, to.as_ref(), element, receivers),
+        Route::Deliver => {
+            let sessions = numbers(alloc, receivers)?;
+            given(
+                alloc,
+                who,
+                stanza,
+                to.as_ref(),
+                *form,
+                element,
+                keeping,
+                sessions.as_slice(),
+            )
+        }
         Route::Refuse(condition) => refuse(alloc, who, stanza, condition),
         Route::Drop => Ok(Vec::new(alloc)),
     }
+}
+
+/// What comes of a message of `who` to the address of a session that goes on: a copy for it. It is kept as `deliver` has it.
+pub fn deliver_to(
+    alloc: Global,
+    who: &Here,
+    stanza: &Stanza,
+    session: u64,
+    keeping: &Keeping,
+) -> Result<Vec<Effect>, NoMemory>
+    ensures { IfOk result (λ effects. effects.items ≡ given_to who.now stanza.now session keeping.now) }
+{
+    let Stanza::Message { to, form, element } = stanza else {
+        return Ok(Vec::new(alloc));
+    };
+    let sessions = [session];
+    given(
+        alloc,
+        who,
+        stanza,
+        to.as_ref(),
+        *form,
+        element,
+        keeping,
+        &sessions,
+    )
+}
+
+/// The numbers of sessions.
+fn numbers(alloc: Global, sessions: &[Here]) -> Result<Vec<u64>, NoMemory>
+    ensures { IfOk result (λ numbers. numbers.items ≡ map (λ h. h.session) sessions.now) }
+{
+    let mut numbers = Vec::new(alloc);
+    for h in sessions {
+        numbers.push(h.session)?;
+    }
+    Ok(numbers)
 }
 
 fn route_of(place: &Place, known: bool, form: MessageForm, receivers: &[Here]) -> Route
@@ -235,16 +287,6 @@ fn to_no_session(form: MessageForm) -> Route
     }
 }
 
-/// The text of a message's address, or of the sender's bare one.
-fn address_of(alloc: Global, who: &Here, to: Option<&Jid>) -> Result<Text, NoMemory>
-    ensures { IfOk result (λ t. t ≡ address_text (addressed who.now (option_copied to.entry))) }
-{
-    match to {
-        Some(to) => written(alloc, to),
-        None => written(alloc, &who.address.bare(alloc)?),
-    }
-}
-
 /// A copy of a stanza for one session.
 pub fn copy_to(
     alloc: Global,
@@ -262,44 +304,4 @@ pub fn copy_to(
         rest: sent_text(alloc, element, from.bytes())?,
         origin: Origin::Direct,
     })
-}
-
-/// A copy of the message for each receiver. They share its text.
-fn copies(
-    alloc: Global,
-    who: &Here,
-    to: Option<&Jid>,
-    element: &Element,
-    receivers: &[Here],
-) -> Result<Vec<Effect>, NoMemory>
-    ensures { IfOk result (λ effects. effects.items ≡ map (copied who.now (option_copied to.entry) element.now) receivers.now) }
-{
-    let mut effects = Vec::new(alloc);
-    let Some((last, others)) = receivers.split_last() else {
-        return Ok(effects);
-    };
-    let from = written(alloc, &who.address)?;
-    let mut to = address_of(alloc, who, to)?;
-    let mut rest = sent_text(alloc, element, from.bytes())?;
-    if !others.is_empty() {
-        to.share(alloc)?;
-        rest.share(alloc)?;
-    }
-    for other in others {
-        let (to, rest) = (to.copy(alloc)?, rest.copy(alloc)?);
-        effects.push(queued(other, to, rest))?;
-    }
-    effects.push(queued(last, to, rest))?;
-    Ok(effects)
-}
-
-fn queued(receiver: &Here, to: Text, rest: Text) -> Effect
-    ensures { result ≡ Effect.Queue receiver.now.session to rest Direct }
-{
-    Effect::Queue {
-        session: receiver.session,
-        to,
-        rest,
-        origin: Origin::Direct,
-    }
 }

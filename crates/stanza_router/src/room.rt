@@ -4,7 +4,7 @@ ghost use Rattle.std.specs.Option.{option_copied};
 ghost use Rattle.stanza_router.specs.Discovery.{address_feature, entry_feature, info_if, room_features, room_identity, room_info, secret_feature};
 ghost use Rattle.stanza_router.specs.Discovery.{stay_feature, voice_feature};
 
-use crate::discovery::{Found, INFO_SPACE, ROOMS_SPACE, described_as};
+use crate::discovery::{ARCHIVE_SPACE, Found, IDS_SPACE, INFO_SPACE, ROOMS_SPACE, described_as};
 use crate::listed::Listed;
 use stanza_model::make::{element_of, push_attr, text_of};
 use stanza_model::{Condition, Config};
@@ -48,8 +48,8 @@ fn room_features(c: &Config) -> [&'static str; 10]
     [
         INFO_SPACE,
         ROOMS_SPACE,
-        "urn:xmpp:mam:2",
-        "urn:xmpp:sid:0",
+        ARCHIVE_SPACE,
+        IDS_SPACE,
         entry_feature(c.members_only),
         voice_feature(c.moderated),
         address_feature(c.anyone),

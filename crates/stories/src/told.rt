@@ -1,5 +1,5 @@
 //! Stories. A story is a line `== TITLE` and the lines up to the next such line: lines of words for people that begin with `# `, and
-//! then a script.
+//! then a script, in which a line `times N LINE` stands for so many of the line.
 ghost use Rattle.std.specs.Prelude.{◌<◌};
 
 use outside::{MemSink, MemSource};
@@ -11,6 +11,8 @@ use std::io::{self, Write};
 const TITLE: &[u8] = b"== ";
 
 const COMMENT: &[u8] = b"# ";
+
+const TIMES: &[u8] = b"times ";
 
 /// How many bytes a reading or a writing moves at most in a story's first play.
 const PIECE: usize = 4096;
@@ -28,6 +30,23 @@ struct Played {
     status: Status,
 }
 
+/// How often a line stands there, and which, where it is one that says so.
+fn repeated(line: &[u8]) -> Option<(usize, &[u8])> {
+    let said = line.strip_prefix(TIMES)?;
+    let mut words = said.splitn(2, |byte| *byte == b' ');
+    let digits = str::from_utf8(words.next()?).ok()?;
+    Some((digits.parse().ok()?, words.next()?))
+}
+
+/// Adds a line of a story to its script.
+fn add(script: &mut Vec<u8>, line: &[u8]) -> io::Result<()> {
+    let (times, line) = repeated(line).unwrap_or((1, line));
+    for _time in 0..times {
+        script.extend_from_slice(line)?;
+    }
+    Ok(())
+}
+
 /// Plays each story and writes what comes of it. The lines before the first story are passed over.
 pub fn tell_all<W: Write>(alloc: Global, text: &[u8], out: &mut W) -> io::Result<()> {
     let mut told: Option<Vec<u8>> = None;
@@ -40,7 +59,7 @@ pub fn tell_all<W: Write>(alloc: Global, text: &[u8], out: &mut W) -> io::Result
             told = Some(Vec::new(alloc));
         } else if let Some(script) = &mut told {
             if !script.is_empty() || !line.starts_with(COMMENT) {
-                script.extend_from_slice(line)?;
+                add(script, line)?;
             }
         }
     }

@@ -7,15 +7,21 @@ use Rattle.house_model.specs.Steps.{verdict}
 use Rattle.house_model.specs.Routing.{effects}
 use Rattle.house_model.specs.States.{World}
 use Rattle.house_model.specs.Traffic.{KeptTraffic}
+use Rattle.stanza_model.specs.declared.effect.Effect.{Effect}
+use Rattle.archive_table.specs.Archives.{Archives}
+use Rattle.archive_table.specs.Tables.{archives_of}
 use Rattle.muc_service.specs.Casting.{after, cast}
 use Rattle.muc_service.specs.Rooms.{Rooms}
 use Rattle.roster_laws.specs.Keeping.{AreKept}
 use Rattle.house_world.specs.declared.world.World as code
-use Rattle.house_world.specs.Hosting.{AreHosted}
+use Rattle.house_world.specs.Hosting.{AreArchived, AreHosted}
 use Rattle.house_world.specs.Keeping.{AreShortNames}
+use Rattle.house_world.specs.Readiness.{HavePlaces}
 use Rattle.house_world.specs.Worlds.{Did, seen}
 use Rattle.house_world.proofs.ActLemmas.{act_ends, scene_is, some_kept}
 use Rattle.house_world.proofs.CastLemmas.{hosts_by, hosts_same}
+use Rattle.house_world.proofs.QuietLemmas.{archived_same}
+use Rattle.house_core.proofs.ArchiveLemmas.{archived_by, few_filable}
 use Rattle.house_core.proofs.BoundLemmas.{more_ends, on_err}
 use Rattle.house_world.proofs.DidLemmas.{did_none}
 use Rattle.house_core.proofs.EndsLemmas.{stop_ends}
@@ -41,6 +47,17 @@ pub effects_of-requires-clause-hosted : goal.effects_of-requires-clause-hosted
 effects_of-requires-clause-hosted c =
     subst (λ (r : Rooms). AreHosted (2 ^ 63 + 2 ^ 62) r) (sym c.check.ensures.rooms) c.requires.hosted
 
+pub effects_of-requires-clause-archived : goal.effects_of-requires-clause-archived
+effects_of-requires-clause-archived c =
+    subst (λ (a : Archives). AreArchived (2 ^ 63 + 2 ^ 62) a) (sym c.check.ensures.archives) c.requires.archived
+
+pub carry_out-requires-clause-filable : goal.carry_out-requires-clause-filable
+carry_out-requires-clause-filable c =
+    let made = c.in_ok-cast-in-Holds.cast in
+    few_filable made.effects.items c.prepare.new.self.archives (archives_of c.args.world.now.archives)
+    (c.prepare.ensures.archives ∙ c.check.ensures.archives) c.requires.archived c.in_ok-cast-in-Holds.ensures.few c.in_ok-cast-in-Holds.ensures.short
+    (subst (λ (es : List Effect). HavePlaces es c.prepare.new.self.archives) c.as_slice.ensures.value c.in_ok-prepare-in-Holds.ensures.rows)
+
 pub carry_out-requires-clause-rooms : goal.carry_out-requires-clause-rooms
 carry_out-requires-clause-rooms c =
     let made = c.in_ok-cast-in-Holds.cast in
@@ -56,6 +73,20 @@ returns-in_ok-prepare-in-Holds-clause-hosts c =
     hosts_by c.args.world.now.rooms c.check.new.world.rooms c.prepare.new.self.rooms c.carry_out.new.self.rooms made.rooms
     c.check.ensures.rooms (ap (λ (x : World KeptTraffic). x.rooms) c.prepare.ensures.same.world) c.carry_out.ensures.rooms
     c.in_ok-cast-in-Holds.ensures.hosts
+
+pub returns-in-Stop-clause-archives : goal.returns-in-Stop-clause-archives
+returns-in-Stop-clause-archives c =
+    archived_same (archives_of c.args.world.now.archives) (archives_of c.check.new.world.archives) c.check.ensures.archives
+
+pub returns-in_ok-prepare-in-Holds-clause-archives : goal.returns-in_ok-prepare-in-Holds-clause-archives
+returns-in_ok-prepare-in-Holds-clause-archives c =
+    archived_by c.in_ok-cast-in-Holds.cast.effects.items (archives_of c.args.world.now.archives) (archives_of c.check.new.world.archives)
+    (archives_of c.prepare.new.self.archives) (archives_of c.carry_out.new.self.archives) c.check.ensures.archives c.prepare.ensures.archives
+    c.carry_out.ensures.archives c.in_ok-cast-in-Holds.ensures.archives
+
+pub returns-in_default-clause-archives : goal.returns-in_default-clause-archives
+returns-in_default-clause-archives c =
+    archived_same (archives_of c.args.world.now.archives) (archives_of c.check.new.world.archives) c.check.ensures.archives
 
 pub returns-in_default-clause-hosts : goal.returns-in_default-clause-hosts
 returns-in_default-clause-hosts c = hosts_same c.args.world.now.rooms c.check.new.world.rooms c.check.ensures.rooms
@@ -91,6 +122,6 @@ returns-in_ok-prepare-in-Holds-clause-done c = λ k world now at names t.
     c.in_ok-cast-in-Holds.cast.effects.items passes.0 passes.1 c.prepare.ensures.same (c.carry_out.ensures.did c.args.stanza.now)
     (c.in_ok-cast-in-Holds.ensures.effects.effects
     ∙ ap (cast c.check.new.world.rooms)
-    (scene_is k c.domain.inside.domain c.args.users.now (seen c.check.new.world) s c.args.stanza.now (world ∙ ap seen (sym passes.1))
-    (ap (λ (a : Address). a.domain) (at ∙ sym c.domain.view_is)) names)
+    (scene_is k c.domain.inside.domain c.args.users.now (seen c.check.new.world) c.args.moment s c.args.stanza.now
+    (world ∙ ap seen (sym passes.1)) (ap (λ (a : Address). a.domain) (at ∙ sym c.domain.view_is)) names now)
     ∙ ap (λ (x : World KeptTraffic). cast x.rooms (effects k s c.args.stanza.now)) (sym (world ∙ ap seen (sym passes.1))))

@@ -5,7 +5,7 @@ use Rattle.house_model.specs.declared.answer.Answer.TheVariants as answer
 use Rattle.house_model.specs.Answers.{answer_text}
 use Rattle.house_model.specs.Effects.{At, Say}
 use Rattle.house_world.specs.Worlds.{Did}
-use Rattle.house_core.proofs.BoundLemmas.{refused_fits, refused_ends, made_ends, begun_did}
+use Rattle.house_core.proofs.BoundLemmas.{refused_fits, refused_ends, made_ends, begun_did, said_archives}
 use Rattle.house_core.proofs.binding.bind.Goals as goal
 
 pub say-requires-clause-short : goal.say-requires-clause-short
@@ -25,3 +25,6 @@ returns-then-has_place-clause-done c = λ k world.
     (sym (c.has_place.ensures.place k world) ∙ c.if-has_place.true)
     (begun_did k c.args.w c.args.address (answer.Bound c.args.id.now (address_text c.args.address)) a c.bind_at.new.world world
     c.in_ok-bind_at.ensures.done)
+
+pub returns-clause-archives : goal.returns-clause-archives
+returns-clause-archives c = said_archives c.args.w _ c.args.world.now c.say.new.self c.say.ensures

@@ -1,5 +1,7 @@
 use Rattle.std.proofs.Common.{◌≡◌, ◌<◌, ◌≤◌, true, List, length, refl, sym, ap, subst, arith}
 use Rattle.jid_core.specs.Addresses.{address_text}
+use Rattle.archive_table.specs.Archives.{Archives}
+use Rattle.archive_table.specs.Tables.{archives_of}
 use Rattle.session_table.specs.declared.line.Line as stage
 use Rattle.session_table.specs.Tables.{conn_of, is_logged, line_of}
 use Rattle.house_model.specs.declared.answer.Answer.{Answer}
@@ -7,7 +9,7 @@ use Rattle.house_model.specs.Answers.{answer_text}
 use Rattle.house_model.specs.States.{World}
 use Rattle.house_model.specs.Traffic.{KeptTraffic}
 use Rattle.house_core.specs.Bindings.{begun_in, told_in}
-use Rattle.house_world.specs.Hosting.{IsCast}
+use Rattle.house_world.specs.Hosting.{Archived, IsCast}
 use Rattle.house_world.specs.Worlds.{Did, seen}
 use Rattle.house_world.proofs.CastLemmas.{hosts_by}
 use Rattle.house_core.proofs.BoundLemmas.{bound_fits, room_answers, room_line, room_then}
@@ -47,3 +49,8 @@ pub returns-clause-hosts : goal.returns-clause-hosts
 returns-clause-hosts c =
     hosts_by c.args.world.now.rooms c.args.world.now.rooms c.make_room.new.world.rooms c.settle.new.world.rooms c.in_ok-told.told.rooms refl
     (ap (λ (x : World KeptTraffic). x.rooms) c.make_room.ensures.same.world) c.settle.ensures.rooms c.in_ok-told.ensures.hosts
+
+pub returns-clause-archives : goal.returns-clause-archives
+returns-clause-archives c =
+    subst (λ (x : Archives). Archived x (archives_of c.settle.new.world.archives))
+    (ap (λ (x : World KeptTraffic). x.archives) c.make_room.ensures.same.world) c.settle.ensures.archives

@@ -1,6 +1,7 @@
 use Rattle.std.proofs.Common.{◌≡◌, ◌&&◌, nat_lt, not, Bool, true, false, sym, ap, arith, ◌∙◌}
 use Rattle.std.proofs.lemmas.Bool.{lt-ltb, le-ltb}
 use Rattle.jid_core.specs.Addresses.{Address, same_address, same_bare}
+use Rattle.archive_table.specs.Tables.{archives_of}
 use Rattle.house_routing.proofs.CountLemmas.{counted_below, is_other, is_users_other, place_counted}
 use Rattle.house_core.proofs.binding.has_place.Goals as goal
 
@@ -28,8 +29,8 @@ overflow_add-of_user c =
 pub returns-then-all-lt-MOST_SESSIONS-clause-place : goal.returns-then-all-lt-MOST_SESSIONS-clause-place
 returns-then-all-lt-MOST_SESSIONS-clause-place c = λ k world.
     sym (
-    place_counted k c.args.address.now c.args.world.now.table c.args.world.now.answers.items c.args.world.now.book.book c.args.world.now.rooms c.loop-number.all
-    c.loop-number.of_user c.loop-number._number-iterator
+    place_counted k c.args.address.now c.args.world.now.table c.args.world.now.answers.items c.args.world.now.book.book c.args.world.now.rooms
+    (archives_of c.args.world.now.archives) c.loop-number.all c.loop-number.of_user c.loop-number._number-iterator
     c.requires.tied c.session.ensures.rises world c.in-None.ensures.steps.0 c.loop-number.invariant.all c.loop-number.invariant.users
     ∙ ap (λ (b : Bool). b && nat_lt c.loop-number.of_user 16) (lt-ltb c.loop-number.all 512 c.if-all-lt-MOST_SESSIONS.true)
     )
@@ -38,8 +39,8 @@ pub returns-else-all-lt-MOST_SESSIONS-clause-place : goal.returns-else-all-lt-MO
 returns-else-all-lt-MOST_SESSIONS-clause-place c = λ k world.
     le-ltb c.loop-number.all 512 c.if-all-lt-MOST_SESSIONS.false
     ∙ sym (
-    place_counted k c.args.address.now c.args.world.now.table c.args.world.now.answers.items c.args.world.now.book.book c.args.world.now.rooms c.loop-number.all
-    c.loop-number.of_user c.loop-number._number-iterator
+    place_counted k c.args.address.now c.args.world.now.table c.args.world.now.answers.items c.args.world.now.book.book c.args.world.now.rooms
+    (archives_of c.args.world.now.archives) c.loop-number.all c.loop-number.of_user c.loop-number._number-iterator
     c.requires.tied c.session.ensures.rises world c.in-None.ensures.steps.0 c.loop-number.invariant.all c.loop-number.invariant.users
     ∙ ap (λ (b : Bool). b && nat_lt c.loop-number.of_user 16) (le-ltb c.loop-number.all 512 c.if-all-lt-MOST_SESSIONS.false)
     )

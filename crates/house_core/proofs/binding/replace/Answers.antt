@@ -1,6 +1,7 @@
-use Rattle.std.proofs.Common.{◌+◌, ℕ, ap, sym, subst, ◌∙◌, List}
+use Rattle.std.proofs.Common.{◌+◌, ℕ, refl, ap, sym, subst, ◌∙◌, List}
 use Rattle.sm_resume.specs.declared.decision.Cause.TheVariants.{Replaced}
 use Rattle.stanza_model.specs.declared.effect.Effect as stanza
+use Rattle.archive_table.specs.Tables.{archives_of}
 use Rattle.house_model.specs.Effects.{Effect}
 use Rattle.house_model.specs.Steps.{departs}
 use Rattle.house_core.specs.Bindings.{replaced_by, told_by}
@@ -9,6 +10,7 @@ use Rattle.house_world.specs.Worlds.{Did, seen}
 use Rattle.house_core.proofs.BoundLemmas.{found_in}
 use Rattle.house_world.proofs.CastLemmas.{none_rooms}
 use Rattle.house_world.proofs.DidLemmas.{did_none}
+use Rattle.house_world.proofs.QuietLemmas.{archived_same}
 use Rattle.house_core.proofs.binding.replace.Goals as goal
 
 pub depart-requires-clause-told : goal.depart-requires-clause-told
@@ -35,3 +37,6 @@ returns-in_default-clause-rooms c =
     let a = c.args.world.now in
     let at = found_in a c.args.address.now c.requires.tied c.session.ensures.rises ∙ (sym c.at.ensures.number ∙ c.in_default.is) in
     none_rooms a.rooms c.args.told (subst (λ (es : List stanza.Effect). IsCast es a.rooms c.args.told) (ap (told_by (seen a)) at) c.requires.told)
+
+pub returns-in_default-clause-archives : goal.returns-in_default-clause-archives
+returns-in_default-clause-archives c = archived_same (archives_of c.args.world.now.archives) (archives_of c.args.world.now.archives) refl

@@ -1,7 +1,9 @@
 use Rattle.std.proofs.Common.{◌≡◌, ℕ, true, refl, sym, ap, subst, ◌∙◌}
+use Rattle.archive_table.specs.Tables.{archives_of}
 use Rattle.session_table.specs.Sessions.{is_due}
 use Rattle.session_table.specs.Tables.{IsFirst, first_due}
 use Rattle.house_world.proofs.CastLemmas.{hosts_same}
+use Rattle.house_world.proofs.QuietLemmas.{archived_same}
 use Rattle.house_core.proofs.SweepLemmas.{nothing_ends, swept_ends}
 use Rattle.house_core.proofs.ending.sweep.Goals as goal
 
@@ -17,3 +19,6 @@ returns-clause-done c = λ k w t world now.
 
 pub returns-in_default-clause-hosts : goal.returns-in_default-clause-hosts
 returns-in_default-clause-hosts c = hosts_same c.args.world.now.rooms c.args.world.now.rooms refl
+
+pub returns-in_default-clause-archives : goal.returns-in_default-clause-archives
+returns-in_default-clause-archives c = archived_same (archives_of c.args.world.now.archives) (archives_of c.args.world.now.archives) refl

@@ -1,10 +1,12 @@
 use Rattle.std.proofs.Common.{[], refl, sym, ap, subst, arith}
+use Rattle.archive_table.specs.Archives.{Archives}
+use Rattle.archive_table.specs.Tables.{archives_of}
 use Rattle.sm_resume.specs.declared.decision.Cause.TheVariants.{Lost}
 use Rattle.house_model.specs.Routing.{departure}
 use Rattle.house_model.specs.States.{World}
 use Rattle.house_model.specs.Steps.{departs}
 use Rattle.house_model.specs.Traffic.{KeptTraffic}
-use Rattle.house_world.specs.Hosting.{IsCast}
+use Rattle.house_world.specs.Hosting.{Archived, IsCast}
 use Rattle.house_world.specs.Worlds.{Did, seen}
 use Rattle.house_world.proofs.CastLemmas.{hosts_by}
 use Rattle.house_world.proofs.DidLemmas.{did_then}
@@ -36,3 +38,8 @@ pub returns-clause-hosts : goal.returns-clause-hosts
 returns-clause-hosts c =
     hosts_by c.args.world.now.rooms c.args.world.now.rooms c.prepare.new.self.rooms c.depart.new.self.rooms c.in_ok-told.told.rooms refl
     (ap (λ (x : World KeptTraffic). x.rooms) c.prepare.ensures.same.world) c.depart.ensures.rooms c.in_ok-told.ensures.hosts
+
+pub returns-clause-archives : goal.returns-clause-archives
+returns-clause-archives c =
+    subst (λ (x : Archives). Archived x (archives_of c.depart.new.self.archives))
+    (ap (λ (x : World KeptTraffic). x.archives) c.prepare.ensures.same.world) c.depart.ensures.archives

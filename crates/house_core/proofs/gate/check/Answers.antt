@@ -1,7 +1,7 @@
 use Rattle.std.proofs.Common.{sym, ◌∙◌, ◌+◌, arith}
 use Rattle.house_world.proofs.WorldLemmas.{few_later}
 use Rattle.session_table.specs.Tables.{conn_of, line_of}
-use Rattle.house_core.proofs.CallLemmas.{flood_rooms}
+use Rattle.house_core.proofs.CallLemmas.{flood_archives, flood_rooms}
 use Rattle.house_core.proofs.GateLemmas.{found_is, gate_floods}
 use Rattle.house_core.proofs.gate.check.Goals as goal
 
@@ -15,6 +15,11 @@ returns-in-None-clause-passes c =
 
 pub returns-in-None-clause-few : goal.returns-in-None-clause-few
 returns-in-None-clause-few c = λ turns few. few_later (turns + 0) turns c.flood.new.world.table (c.flood.ensures.few turns few) (omega arith)
+
+pub returns-in-None-clause-archives : goal.returns-in-None-clause-archives
+returns-in-None-clause-archives c =
+    flood_archives c.args.world.now c.flood.new.world c.args.w (conn_of (line_of c.args.w c.args.world.now.table)) c.args.moment
+    (line_of c.args.w c.args.world.now.table) c.flood.ensures
 
 pub returns-in-None-clause-rooms : goal.returns-in-None-clause-rooms
 returns-in-None-clause-rooms c =

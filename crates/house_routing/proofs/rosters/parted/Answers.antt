@@ -10,7 +10,7 @@ use Rattle.house_routing.proofs.RosterLemmas.{party_is}
 use Rattle.house_routing.proofs.rosters.parted.Goals as goal
 
 pub returns : goal.returns
-returns c = λ users.
+returns c = λ users moment.
     let domain = c.args.domain.now in
     let world = seen c.args.world.now in
     let own = c.args.own.now in
@@ -24,6 +24,6 @@ returns c = λ users.
     c.in_ok-theirs.theirs.presences.items c.in_ok-theirs.ensures.bare c.requires.domain c.in_ok-theirs.ensures.sessions
     c.in_ok-theirs.ensures.presences in
     subst (λ (u : Option (List ℕ)). IfOk c.removal.result (λ effects. effects.items
-    ≡ parted (record { domain = domain; users = users; world = world }) own u)) (sym (ap option_copied c.in-Some.is))
+    ≡ parted (record { domain = domain; users = users; world = world; moment = moment }) own u)) (sym (ap option_copied c.in-Some.is))
     (subst (λ (x : User). IfOk c.removal.result (λ effects. effects.items ≡ removal x (party domain world user))) mine
     (subst (λ (y : User). IfOk c.removal.result (λ effects. effects.items ≡ removal c.party.result y)) theirs c.removal.ensures))

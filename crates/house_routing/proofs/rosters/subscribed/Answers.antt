@@ -8,8 +8,8 @@ use Rattle.house_world.specs.Worlds.{seen}
 use Rattle.house_routing.proofs.rosters.subscribed.Goals as goal
 
 pub returns : goal.returns
-returns c =
-    let o : Scene = record { domain = c.args.domain.now; users = c.args.users.now; world = seen c.args.world.now } in
+returns c = λ moment.
+    let o : Scene = record { domain = c.args.domain.now; users = c.args.users.now; world = seen c.args.world.now; moment = moment } in
     let own = c.args.own.now in
     let user = c.in-Some.user.now in
     let is : has_user c.args.users.now user ≡ true = search rules in
@@ -18,4 +18,4 @@ returns c =
     (subst (λ (b : Bool). IfOk c.unless_full.result (λ effects. effects.items
     ≡ (if b then unless_full c.args.who.now c.args.stanza.now (between o own user c.args.form) else []))) (sym is)
     (subst (λ (x : Option (List Effect)). IfOk c.unless_full.result (λ effects. effects.items ≡ unless_full c.args.who.now c.args.stanza.now x))
-    (c.in_ok-effects.ensures c.args.users.now) c.unless_full.ensures))
+    (c.in_ok-effects.ensures c.args.users.now moment) c.unless_full.ensures))

@@ -7,7 +7,7 @@ use Rattle.roster_book.specs.Requests.{removed_by}
 use Rattle.house_routing.proofs.rosters.user_removed.Goals as goal
 
 pub returns : goal.returns
-returns c = λ users.
+returns c = λ users moment.
     let domain = c.args.domain.now in
     subst (λ (a : Option Address). IfOk c.user_at.result (λ user. user ≡ option_and_then (local_user domain) a))
     (c.as_ref.ensures.value

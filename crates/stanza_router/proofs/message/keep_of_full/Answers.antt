@@ -1,4 +1,4 @@
-use Rattle.std.proofs.Common.{Some, List, sym, ap, ◌∙◌}
+use Rattle.std.proofs.Common.{Some, sym, ap, ◌∙◌}
 use Rattle.std.specs.List.{list_any}
 use Rattle.jid_core.specs.Addresses.{same_part}
 use Rattle.stanza_model.specs.declared.here.Here.{Here}

@@ -1,6 +1,8 @@
 use Rattle.std.proofs.Common.{rules, ◌≡◌, ◌+◌, [], refl, sym, ap, subst, arith, ◌∙◌}
 use Rattle.std.specs.Option.{option_copied}
 use Rattle.jid_core.specs.Preparation.{is_local}
+use Rattle.archive_table.specs.Archives.{Archives}
+use Rattle.archive_table.specs.Tables.{archives_of}
 use Rattle.session_table.specs.Tables.{line_of}
 use Rattle.house_model.specs.declared.event.Event.TheVariants.{Bind}
 use Rattle.house_model.specs.declared.reply.Reply.TheVariants.{Unready}
@@ -10,9 +12,10 @@ use Rattle.house_model.specs.Steps.{resource_or, turn}
 use Rattle.house_world.specs.declared.world.World as code
 use Rattle.house_core.specs.Houses.{HouseRecord, held}
 use Rattle.muc_service.specs.Rooms.{Rooms}
-use Rattle.house_world.specs.Hosting.{AreHosted, Hosts}
+use Rattle.house_world.specs.Hosting.{Archived, AreHosted, Hosts}
 use Rattle.house_world.specs.Worlds.{Did, seen}
 use Rattle.house_world.proofs.CastLemmas.{hosted_later, hosts_same}
+use Rattle.house_world.proofs.QuietLemmas.{archived_same}
 use Rattle.house_core.proofs.BoundLemmas.{all_at, bind_ends, bound_is, on_err, other_ends, passed_is, same_did}
 use Rattle.house_core.proofs.CallLemmas.{house, later_passed, state_ends, whole_ends, whole_is}
 use Rattle.house_core.proofs.EndsLemmas.{stop_ends}
@@ -46,7 +49,7 @@ invariant_of-self-in_err-address-in-Knows c =
     (held (house h.domain h.users.items h.turns h.moment h.world)) in
     let same = (c.in-Knows.ensures.passes k refl (sym c.later-moment.ensures)).1 in
     whole_is h.users.items h.turns h.moment h.moment h.world c.check.new.world [] 0 c.self.invariant c.self.invariant.passed (omega arith)
-    (λ world. (refl, refl))
+    (λ world. (refl, refl, refl))
     (same_did h.world c.check.new.world c.check.ensures.tied same)
 
 pub returns-in_err-address-in-Knows-clause-refused : goal.returns-in_err-address-in-Knows-clause-refused
@@ -84,6 +87,7 @@ invariant_of-self-in_default c =
     whole_ends h.domain h.users.items h.turns h.moment now 0 h.world c.check.new.world e Unready c.self.invariant
     (later_passed h.moment c.args.t now c.self.invariant.passed c.later-moment.ensures) (omega arith) ends
     (hosts_same h.world.rooms c.check.new.world.rooms c.check.ensures.rooms)
+    (archived_same (archives_of h.world.archives) (archives_of c.check.new.world.archives) c.check.ensures.archives)
 
 pub returns-in_default-clause-state : goal.returns-in_default-clause-state
 returns-in_default-clause-state c =
@@ -115,6 +119,7 @@ invariant_of-self-in-Stop c =
     whole_ends h.domain h.users.items h.turns h.moment now 0 h.world c.check.new.world e c.in-Stop.reply c.self.invariant
     (later_passed h.moment c.args.t now c.self.invariant.passed c.later-moment.ensures) (omega arith) ends
     (hosts_same h.world.rooms c.check.new.world.rooms c.check.ensures.rooms)
+    (archived_same (archives_of h.world.archives) (archives_of c.check.new.world.archives) c.check.ensures.archives)
 
 pub returns-in-Stop-clause-state : goal.returns-in-Stop-clause-state
 returns-in-Stop-clause-state c =
@@ -141,7 +146,7 @@ invariant_of-self-in_err-reply-in-Knows c =
     let k = turn e (held (house h.domain h.users.items h.turns h.moment h.world)) in
     let same = (c.in-Knows.ensures.passes k refl (sym c.later-moment.ensures)).1 in
     whole_is h.users.items h.turns h.moment h.moment h.world c.bind.new.world [] 0 c.self.invariant c.self.invariant.passed (omega arith)
-    (λ world. (refl, refl))
+    (λ world. (refl, refl, refl))
     (subst (λ (x : code.World). Did [] 0 x c.bind.new.world) same c.in_err-reply-in-Knows.ensures.refused)
 
 pub returns-in_err-reply-in-Knows-clause-refused : goal.returns-in_err-reply-in-Knows-clause-refused
@@ -175,6 +180,7 @@ invariant_of-self-in-Knows c =
     whole_ends h.domain h.users.items h.turns h.moment now 1 h.world d e reply c.self.invariant
     (later_passed h.moment c.args.t now c.self.invariant.passed c.later-moment.ensures) (omega arith) ends
     (subst (λ (r : Rooms). Hosts r d.rooms) c.check.ensures.rooms c.in_ok-reply-in-Knows.ensures.hosts)
+    (subst (λ (x : Archives). Archived x (archives_of d.archives)) c.check.ensures.archives c.in_ok-reply-in-Knows.ensures.archives)
 
 pub returns-in_ok-reply-in-Knows-clause-state : goal.returns-in_ok-reply-in-Knows-clause-state
 returns-in_ok-reply-in-Knows-clause-state c =

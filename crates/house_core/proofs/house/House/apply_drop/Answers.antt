@@ -12,4 +12,4 @@ invariant_of-self-in_default c =
     whole_is h.users.items h.turns h.moment now h.world c.leave.new.self (left_at (seen h.world) now (line_of c.args.w h.world.table) ++ At c.args.w Leave ∷ [])
     0
     c.self.invariant (later_passed h.moment c.args.t now c.self.invariant.passed c.later-self-inside.ensures) (omega arith)
-    (left_then (seen h.world) now (line_of c.args.w h.world.table) (At c.args.w Leave) (λ world. (refl, refl))) c.leave.ensures
+    (left_then (seen h.world) now (line_of c.args.w h.world.table) (At c.args.w Leave) (λ world. (refl, refl, refl))) c.leave.ensures

@@ -11,4 +11,4 @@ invariant_of-self c =
     whole_is h.users.items h.turns h.moment h.moment h.world c.open.new.self
     (left_at (seen h.world) h.moment (line_of c.args.w h.world.table) ++ Open c.args.w ∷ []) 1
     c.self.invariant c.self.invariant.passed (omega arith)
-    (left_then (seen h.world) h.moment (line_of c.args.w h.world.table) (Open c.args.w) (λ world. (refl, refl))) c.open.ensures.did
+    (left_then (seen h.world) h.moment (line_of c.args.w h.world.table) (Open c.args.w) (λ world. (refl, refl, refl))) c.open.ensures.did

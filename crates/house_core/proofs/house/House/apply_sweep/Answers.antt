@@ -18,7 +18,7 @@ pub invariant_of-self-in_err-reply : goal.invariant_of-self-in_err-reply
 invariant_of-self-in_err-reply c =
     let h = c.self.inside in
     whole_is h.users.items h.turns h.moment h.moment h.world c.sweep.new.world [] 0 c.self.invariant c.self.invariant.passed (omega arith)
-    (λ world. (refl, refl))
+    (λ world. (refl, refl, refl))
     c.in_err-reply.ensures.refused
 
 pub returns-in_err-reply-clause-refused : goal.returns-in_err-reply-clause-refused
@@ -37,6 +37,7 @@ invariant_of-self-2 c =
     whole_ends h.domain h.users.items h.turns h.moment now 0 h.world c.sweep.new.world e c.in_ok-reply.reply
     c.self.invariant (later_passed h.moment c.args.t now c.self.invariant.passed c.later-moment.ensures) (omega arith)
     (c.in_ok-reply.ensures.done k c.args._w c.args.t refl (sym c.later-moment.ensures)) c.in_ok-reply.ensures.hosts
+    c.in_ok-reply.ensures.archives
 
 pub returns-clause-state : goal.returns-clause-state
 returns-clause-state c =

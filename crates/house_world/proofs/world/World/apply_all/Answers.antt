@@ -3,9 +3,10 @@ use Rattle.std.proofs.lemmas.List.{nil_from_length}
 use Rattle.stanza_model.specs.declared.effect.Effect.{Effect}
 use Rattle.house_model.specs.Fitting.{AreSmall}
 use Rattle.house_world.specs.Hosting.{but_rooms}
-use Rattle.house_world.specs.Readiness.{AreNotable, AreReady}
+use Rattle.house_world.specs.Readiness.{AreFilable, AreNotable, AreReady}
 use Rattle.house_world.specs.Worlds.{Did}
 use Rattle.house_world.proofs.DidLemmas.{did_none}
+use Rattle.house_world.proofs.FilingLemmas.{filable_first}
 use Rattle.house_world.proofs.ReadyLemmas.{applied_first, ready_first, ready_rest}
 use Rattle.house_world.proofs.StayLemmas.{stays_then}
 use Rattle.house_world.proofs.WorldLemmas.{few_later}
@@ -21,6 +22,11 @@ pub apply-requires-clause-places : goal.apply-requires-clause-places
 apply-requires-clause-places c = λ user.
     let all = subst (λ (es : List Effect). AreNotable es c.loop-effect.self.book) c.in-Some.ensures.steps.0 c.loop-effect.invariant.places user in
     omega (arith, all)
+
+pub apply-requires-clause-filable : goal.apply-requires-clause-filable
+apply-requires-clause-filable c =
+    filable_first c.in-Some.effect c.next.new.self.rest.items c.loop-effect.self.archives
+    (subst (λ (es : List Effect). AreFilable es c.loop-effect.self.archives) c.in-Some.ensures.steps.0 c.loop-effect.invariant.filable)
 
 pub loop-effect-preserved : goal.loop-effect-preserved
 loop-effect-preserved c =
@@ -44,6 +50,7 @@ loop-effect-preserved c =
           let all = subst (λ (es : List Effect). AreNotable es before.book) first was.places user in
           let left = c.apply.ensures.places user in
           omega (arith, all, left);
+      filable = c.apply.ensures.archives more (subst (λ (es : List Effect). AreFilable es before.archives) first was.filable);
       stays = stays_then c.args.self.now before after was.stays c.apply.ensures.stays;
       all = λ b rest. was.all b
           (applied_first e more c.loop-effect.effect-iterator.rest.items before after b first did rest);

@@ -5,7 +5,10 @@ use Rattle.muc_service.specs.Rooms.{Rooms}
 use Rattle.house_model.specs.Effects.{On}
 use Rattle.house_model.specs.Sessions.{Act}
 use Rattle.house_model.specs.Steps.{effect_of}
-use Rattle.house_world.specs.Readiness.{needed}
+use Rattle.archive_table.specs.Tables as archive
+use Rattle.archive_table.specs.Tables.{archives_of}
+use Rattle.house_world.specs.Hosting.{filed_all}
+use Rattle.house_world.specs.Readiness.{AreFilable, needed}
 use Rattle.house_world.proofs.DidLemmas.{did_then}
 use Rattle.house_world.proofs.ReadyLemmas.{some_stanza}
 use Rattle.house_world.proofs.world.World.carry_out.Goals as goal
@@ -27,6 +30,14 @@ run-requires-clause-ready c = λ s. c.act.ensures.room (needed s c.args.cast.eff
 pub run-requires-clause-rooms : goal.run-requires-clause-rooms
 run-requires-clause-rooms c =
     subst (λ (r : Rooms). unwrap_or c.args.cast.rooms r ≡ after r c.args.cast.effects.items) (sym c.act.ensures.rooms) c.requires.rooms
+
+pub run-requires-clause-filable : goal.run-requires-clause-filable
+run-requires-clause-filable c =
+    subst (λ (t : archive.TableRecord). AreFilable c.args.cast.effects.items t) (sym c.act.ensures.archives) c.requires.filable
+
+pub returns-clause-archives : goal.returns-clause-archives
+returns-clause-archives c =
+    c.run.ensures.archives ∙ ap (λ (t : archive.TableRecord). filed_all c.args.cast.effects.items (archives_of t)) c.act.ensures.archives
 
 pub returns-clause-did : goal.returns-clause-did
 returns-clause-did c = λ stanza.

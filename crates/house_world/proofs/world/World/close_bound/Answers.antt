@@ -20,4 +20,4 @@ pub returns : goal.returns
 returns c =
     close_did c.args.self.now c.args.w c.args.s c.args.moment c.requires.tied c.requires.line c.requires.answered c.requires.held
     c.line_over.new.self c.release.new.self.table c.clear.new.self c.args.cause c.release.ensures.table c.line_over.ensures c.clear.ensures c.release.new.self
-    c.release.ensures.answers c.release.ensures.book c.release.ensures.rooms
+    c.release.ensures.answers c.release.ensures.book c.release.ensures.rooms c.release.ensures.archives

@@ -1,6 +1,8 @@
 use Rattle.std.proofs.Common.{◌≡◌, arith, ◌∷◌, [], List, map, sym, ap, subst, ◌∙◌}
 use Rattle.std.specs.Prelude.{unwrap_or}
 use Rattle.stanza_model.specs.declared.effect.Effect as stanza
+use Rattle.archive_table.specs.Tables as archive
+use Rattle.archive_table.specs.Tables.{archives_of}
 use Rattle.muc_service.specs.Casting.{after, cast}
 use Rattle.muc_service.specs.Rooms.{Rooms}
 use Rattle.session_table.specs.Tables.{session_of}
@@ -8,10 +10,13 @@ use Rattle.house_model.specs.Effects.{On}
 use Rattle.house_model.specs.Routing.{departure}
 use Rattle.house_model.specs.Sessions.{End, Part}
 use Rattle.house_model.specs.Steps.{effect_of}
+use Rattle.house_model.proofs.KeptRows.{quiet}
+use Rattle.house_world.specs.Hosting.{filed_all}
 use Rattle.house_world.specs.Readiness.{needed}
 use Rattle.house_world.specs.Worlds.{Did, seen}
 use Rattle.house_world.proofs.DepartLemmas.{some_of}
 use Rattle.house_world.proofs.DidLemmas.{did_then}
+use Rattle.house_world.proofs.QuietLemmas.{cast_quiet, quiet_archived, quiet_filable}
 use Rattle.house_world.proofs.StayLemmas.{ended_over, stays_then}
 use Rattle.house_world.proofs.WorldLemmas.{few_later}
 use Rattle.house_world.proofs.world.World.depart.Goals as goal
@@ -30,6 +35,22 @@ run-requires-clause-ready c = λ s. c.end.ensures.queues (needed s c.args.told.e
 pub run-requires-clause-rooms : goal.run-requires-clause-rooms
 run-requires-clause-rooms c =
     subst (λ (r : Rooms). unwrap_or c.args.told.rooms r ≡ after r c.args.told.effects.items) (sym c.end.ensures.rooms) c.requires.told.put
+
+pub run-requires-clause-filable : goal.run-requires-clause-filable
+run-requires-clause-filable c =
+    let a = c.args.self.now in
+    quiet_filable c.args.told.effects.items c.end.new.self.archives
+    (cast_quiet (departure (seen a) c.args.s) c.args.told.effects.items a.rooms c.requires.told.effects
+    (quiet (seen a) c.args.s))
+
+pub returns-clause-archives : goal.returns-clause-archives
+returns-clause-archives c =
+    let a = c.args.self.now in
+    let es = c.args.told.effects.items in
+    quiet_archived es (archives_of a.archives) (archives_of c.remove.new.self.archives)
+    (cast_quiet (departure (seen a) c.args.s) es a.rooms c.requires.told.effects (quiet (seen a) c.args.s))
+    (ap archives_of c.remove.ensures.archives
+    ∙ (c.run.ensures.archives ∙ ap (λ (t : archive.TableRecord). filed_all es (archives_of t)) c.end.ensures.archives))
 
 pub remove-requires-clause-over : goal.remove-requires-clause-over
 remove-requires-clause-over c =

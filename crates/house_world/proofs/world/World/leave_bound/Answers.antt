@@ -20,4 +20,4 @@ pub returns : goal.returns
 returns c =
     leave_did c.args.self.now c.args.w c.args.s c.args.moment c.requires.tied c.requires.line c.requires.answered c.requires.held
     c.clear.new.self c.release.new.self.table c.clear-2.new.self c.release.ensures.table c.clear.ensures c.clear-2.ensures c.release.new.self
-    c.release.ensures.answers c.release.ensures.book c.release.ensures.rooms
+    c.release.ensures.answers c.release.ensures.book c.release.ensures.rooms c.release.ensures.archives

@@ -12,4 +12,4 @@ returns-clause-did c =
     open_did c.args.self.now c.args.w c.args.s c.args.moment c.requires.tied c.requires.line c.requires.answered c.requires.held
     c.open_conn.new.self c.release.new.self.table c.open_conn.result c.clear.new.self c.release.ensures.table c.open_conn.ensures.table
     (omega (arith, few, same, number))
-    c.clear.ensures c.release.new.self c.release.ensures.answers c.release.ensures.book c.release.ensures.rooms
+    c.clear.ensures c.release.new.self c.release.ensures.answers c.release.ensures.book c.release.ensures.rooms c.release.ensures.archives

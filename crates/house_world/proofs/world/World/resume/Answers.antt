@@ -63,7 +63,7 @@ returns-in-Some-old-clause-did c =
     (live_now c.args.s c.args.self.now.table x there c.requires.live) (c.requires.counts x there) c.requires.logged handled.0 handled.1
     c.in-Some-old.v (sym c.holder-old.ensures ∙ c.in-Some-old.is) c.line_over.new.self c.attach.new.self c.clear.new.self c.args.conn
     (c.attach.ensures ∙ ap (attached c.args.s c.args.w) c.rewind.ensures.table) c.requires.conn c.line_over.ensures c.clear.ensures
-    c.rewind.new.self c.rewind.ensures.answers c.rewind.ensures.book c.rewind.ensures.rooms)
+    c.rewind.new.self c.rewind.ensures.answers c.rewind.ensures.book c.rewind.ensures.rooms c.rewind.ensures.archives)
 
 pub returns-in_default-old-clause-did : goal.returns-in_default-old-clause-did
 returns-in_default-old-clause-did c =
@@ -73,4 +73,4 @@ returns-in_default-old-clause-did c =
     resume_away_did c.args.self.now c.args.w c.args.s c.args.h c.args.n x c.requires.tied c.requires.line c.requires.answered there
     (live_now c.args.s c.args.self.now.table x there c.requires.live) (c.requires.counts x there) c.requires.logged handled.0 handled.1
     c.attach.new.self c.args.conn (c.attach.ensures ∙ ap (attached c.args.s c.args.w) c.rewind.ensures.table) c.requires.conn
-    (sym c.holder-old.ensures ∙ c.in_default-old.is) c.rewind.new.self c.rewind.ensures.answers c.rewind.ensures.book c.rewind.ensures.rooms
+    (sym c.holder-old.ensures ∙ c.in_default-old.is) c.rewind.new.self c.rewind.ensures.answers c.rewind.ensures.book c.rewind.ensures.rooms c.rewind.ensures.archives

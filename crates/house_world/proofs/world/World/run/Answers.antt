@@ -1,4 +1,4 @@
-use Rattle.house_world.proofs.HostLemmas.{put_did, put_is, put_stays}
+use Rattle.house_world.proofs.HostLemmas.{put_did, put_files, put_is, put_stays}
 use Rattle.house_world.proofs.world.World.run.Goals as goal
 
 pub returns-clause-did : goal.returns-clause-did
@@ -12,4 +12,9 @@ returns-clause-stays c = put_stays c.args.self.now c.apply_all.new.self c.put_ro
 pub returns-clause-rooms : goal.returns-clause-rooms
 returns-clause-rooms c =
     put_is c.args.cast.effects.items c.args.cast.rooms c.args.self.now c.apply_all.new.self c.put_rooms.new.self c.apply_all.ensures.did
+    c.put_rooms.ensures
+
+pub returns-clause-archives : goal.returns-clause-archives
+returns-clause-archives c =
+    put_files c.args.cast.effects.items c.args.cast.rooms c.args.self.now c.apply_all.new.self c.put_rooms.new.self c.apply_all.ensures.did
     c.put_rooms.ensures
