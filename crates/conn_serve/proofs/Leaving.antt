@@ -8,7 +8,6 @@ use Rattle.account_book.specs.Lists.{Book}
 use Rattle.house_model.specs.Histories.{IsOpening, Legal, MayBeShort, Turn, made}
 use Rattle.house_model.specs.Promises.{Safe}
 use Rattle.house_model.specs.States as house
-use Rattle.house_model.proofs.ArchiveTurns.{archives_are_kept}
 use Rattle.house_model.proofs.SafeLaws.{safe}
 use Rattle.hall.specs.Desks.{Served, turns_of}
 use Rattle.hall.specs.declared.desk.DeskFault.{DeskFault}
@@ -310,4 +309,4 @@ never_opened o t fault line old new tape moments drawn f e d served =
 
 -- what is legal is safe
 pub is_safe : (o : house.State) (h : List Turn) → IsOpening o → ∥ Legal o h ∥₁ → ∥ Safe o h ∥₁
-is_safe o h opens legal = ∥∥₁_map legal (λ (l : Legal o h). safe o h opens l (archives_are_kept o h opens))
+is_safe o h opens legal = ∥∥₁_map legal (λ (l : Legal o h). safe o h opens l)

@@ -6,7 +6,6 @@ use Rattle.outside.specs.Devices.{Rose}
 use Rattle.outside.specs.Tapes.{Mark, Tells}
 use Rattle.outside.specs.Tapes as mark
 use Rattle.house_model.specs.Histories.{Turn}
-use Rattle.conn_asks.specs.declared.ended.Ended.{Ended}
 use Rattle.conn_asks.specs.declared.ended.Ended.TheVariants as ended
 use Rattle.conn_flow.specs.declared.phase.Phase.TheVariants.{Resting}
 use Rattle.conn_flow.specs.Moves.{Move, Hears, Waits, Hangs, Stops, marks, turns, moments, draws}

@@ -16,7 +16,7 @@ use Rattle.conn_flow.specs.declared.phase.Phase.TheVariants.{LoggedIn, PullingOn
 use Rattle.conn_flow.specs.declared.talk.Talk.{Talk}
 use Rattle.conn_flow.specs.declared.want.Want.{Want}
 use Rattle.conn_flow.specs.Moves.{Move, Hears, Waits, Hangs, Fails, Takes, Says, Sends, Enters, Draws, Stops}
-use Rattle.conn_flow.specs.Duties.{Site, Duty}
+use Rattle.conn_flow.specs.Duties.{Site}
 use Rattle.conn_flow.specs.Following.{GoesOn}
 use Rattle.conn_flow.specs.Flows.{IsGoing, IsLoaded, IsThere, IsWish, State, ToAwait, ToDraw, ToFinish, ToSay, ToSubmit, Wants}
 use Rattle.conn_flow.specs.Flows.{event_wish, last_text, login_wish, parting_wish, wish, wish_of, wished}

@@ -1,11 +1,11 @@
 -- What a want of the flow, and a round, make of a connection.
-use Rattle.std.specs.Prelude.{◌≡◌, ◌≢◌, ◌⊎◌, ◌≤◌, ℕ, List, [], ◌∷◌, ◌+◌, length, Bool, true, Option, Some, None}
+use Rattle.std.specs.Prelude.{◌≡◌, ◌≢◌, ◌⊎◌, ◌≤◌, ℕ, List, [], ◌∷◌, length, Bool, true, Option, Some, None}
 use Rattle.outside.specs.Plans.{raised}
 use Rattle.outside.specs.Tapes.{Tells}
 use Rattle.conn_flow.specs.declared.phase.Phase.TheVariants.{Resting}
 use Rattle.conn_flow.specs.Duties.{Site, Duty}
 use Rattle.conn_flow.specs.Flows.{State, ToFinish, wish_of}
-use Rattle.flow_laws.specs.Standing.{Place, duty}
+use Rattle.flow_laws.specs.Standing.{duty}
 use Rattle.conn_serve.specs.Serving.{Came, Exhausted, Finished, Grew, Moved, Tale}
 use Rattle.conn_serve.specs.declared.turn.Next.{Next}
 use Rattle.conn_serve.specs.declared.turn.Next.TheVariants as next

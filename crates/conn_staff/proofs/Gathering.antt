@@ -7,7 +7,6 @@ use Rattle.std.proofs.lemmas.List.Elements.{All-nil, All-cons, All-head, All-tai
 use Rattle.account_book.specs.Lists.{Book}
 use Rattle.house_model.specs.Histories.{StandsFor, Turn}
 use Rattle.house_model.specs.States.{Kept, State}
-use Rattle.house_model.proofs.ArchiveTurns.{archives_are_kept}
 use Rattle.house_model.proofs.SafeLaws.{safe}
 use Rattle.turn_lock.specs.Histories.{StartsWith, counted, if_so, places}
 use Rattle.turn_lock.specs.Passes.{mine, number_of, refused, seen}
@@ -210,8 +209,7 @@ module _ {W P : Type 0} (pass : W → HallPass) (post : W → P) (tell : P → T
             (subst (λ (l : List Telling). AllEnded (told_of (seats olds)) l (failed_of (seats news))) (seats_tell news ∙ ap (map tell) (sym back_is))
             (all_ended hall accounts (seats olds) (seats news) tended));
         worked_is = worked_is ∙ ap worked_by (sym (seats_failed news));
-        safe = ∥∥₁_map stands (λ (s : StandsFor (opening_state hall) h k). safe (opening_state hall) h s.starts s.legal
-            (archives_are_kept (opening_state hall) h s.starts));
+        safe = ∥∥₁_map stands (λ (s : StandsFor (opening_state hall) h k). safe (opening_state hall) h s.starts s.legal);
         each = subst (λ (l : List Telling). Attended (opening_state hall) accounts h 0 l (map tell back)) (seats_tell olds ∙ ap (map tell) same_posts)
             (subst (λ (l : List Telling). Attended (opening_state hall) accounts h 0 (told_of (seats olds)) l) (seats_tell news ∙ ap (map tell) (sym back_is))
             (attended hall accounts h 0 (seats olds) (seats news) tended

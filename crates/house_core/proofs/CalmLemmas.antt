@@ -6,7 +6,7 @@ use Rattle.house_model.specs.declared.event.Event.{Event}
 use Rattle.house_model.specs.declared.event.Event.TheVariants as event
 use Rattle.archive_table.specs.Tables.{archives_of}
 use Rattle.house_model.specs.Effects.{Effect, Open, At, Begin, On, Note, Hosts, Files, Leave, Close, apply, apply_all}
-use Rattle.house_model.specs.Gate.{Needs, Waits, Knows, Holds, Verdict, closed, gate_at, left, most_answers, to_act, to_ask, to_login, to_manage, to_pull}
+use Rattle.house_model.specs.Gate.{Needs, Waits, Knows, Holds, closed, gate_at, left, most_answers, to_act, to_ask, to_login, to_manage, to_pull}
 use Rattle.house_model.specs.States.{Kept, World}
 use Rattle.house_model.specs.Steps.{body, verdict}
 use Rattle.house_model.specs.Traffic.{KeptTraffic, brief}

@@ -10,7 +10,6 @@ use Rattle.house_model.specs.declared.reply.Reply.TheVariants as reply
 use Rattle.house_model.specs.Traffic.{KeptTraffic}
 use Rattle.house_model.specs.States.{World, Kept}
 use Rattle.house_model.specs.Gate as model
-use Rattle.house_model.specs.Gate.{Verdict}
 use Rattle.house_model.specs.Steps.{asks, enables, id_if, body}
 use Rattle.house_core.specs.declared.gate.Pass.TheVariants.{Stop}
 use Rattle.house_world.specs.declared.world.World as code

@@ -69,6 +69,9 @@ pub mod NameSizes
 pub mod NamesKept
 pub mod OrderLemmas
 pub mod Outs
+pub mod PageRows
+pub mod PageTurns
+pub mod PageWalks
 pub mod PairCases
 pub mod PartSizes
 pub mod Partings

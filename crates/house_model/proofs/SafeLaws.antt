@@ -19,11 +19,9 @@ use Rattle.house_model.specs.Sessions.{Hold, Held, Away, Ended, Gone}
 use Rattle.house_model.specs.States.{State, keep}
 use Rattle.house_model.specs.Gate.{Verdict}
 use Rattle.house_model.specs.Steps.{verdict, turn}
-use Rattle.house_model.specs.Archiving.{AreArchives, keeps_from}
 use Rattle.house_model.specs.Histories.{Made, Turn, made, step, next, after, Legal, IsOpening}
 use Rattle.house_model.specs.Bridge.{hold_of, core_of, effects_ops, turn_ops, ops_of, alone_of}
 use Rattle.house_model.specs.Lines.{carried, arrivals}
-use Rattle.house_model.specs.Stays.{logs_of}
 use Rattle.house_model.specs.Resuming.{InTurn, is_live, IsNotFound, IsResumed}
 use Rattle.house_model.specs.Accounts.{IsAccountOf, total_handled}
 use Rattle.house_model.specs.Promises.{session_in, can_resume, number_of, too_high, reply_to, CarriesFrom, Resumption, Safe}
@@ -43,6 +41,8 @@ use Rattle.house_model.proofs.HandledRuns.{handled_runs}
 use Rattle.house_model.proofs.StayVerdicts.{gapless}
 use Rattle.house_model.proofs.QueueLaws.{queueing}
 use Rattle.house_model.proofs.FullLaws.{deliveries}
+use Rattle.house_model.proofs.ArchiveTurns.{archives_are_kept}
+use Rattle.house_model.proofs.PageWalks.{pages_tell_all}
 
 -- a Resume in turn
 fails : (o : State) (h : List Turn) → IsOpening o → Legal o h → (w c user count t : ℕ) (id : Option ResumeId)
@@ -170,8 +170,8 @@ resumption o h starts legal = record {
   departs = departs_is (after o h);
 }
 
-pub safe : (o : State) (h : List Turn) → IsOpening o → Legal o h → AreArchives (after o h).world (logs_of o h).order (keeps_from o h) → Safe o h
-safe o h starts legal archived = record {
+pub safe : (o : State) (h : List Turn) → IsOpening o → Legal o h → Safe o h
+safe o h starts legal = record {
   handled_prefix = λ s a is. handled_is o h s a starts legal is;
   acted_once = λ s a is. acted_is o h s a starts legal is;
   resumption = resumption o h starts legal;
@@ -181,5 +181,6 @@ safe o h starts legal archived = record {
   closings = closings_are o h starts;
   queueing = queueing o h starts;
   deliveries = deliveries o h starts;
-  archived = archived;
+  archived = archives_are_kept o h starts;
+  paged = pages_tell_all o h starts;
 }

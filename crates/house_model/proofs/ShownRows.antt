@@ -12,7 +12,7 @@ use Rattle.archive_table.specs.Pages.{shown, shown_by, wanted_by}
 use Rattle.house_model.proofs.Founds.{append_all, filter_all}
 
 module _ (P : Row → Type 0) where
-  take-all : (n : ℕ) (rows : List Row) → AllByRecursion P rows → AllByRecursion P (take n rows)
+  pub take-all : (n : ℕ) (rows : List Row) → AllByRecursion P rows → AllByRecursion P (take n rows)
   take-all zero rows all = tt
   take-all (suc n) [] all = tt
   take-all (suc n) (r ∷ rows) all = (all.0, take-all n rows all.1)

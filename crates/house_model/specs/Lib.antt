@@ -17,6 +17,7 @@ pub mod Lookups
 pub mod Losses
 pub mod Names
 pub mod Numbered
+pub mod Paging
 pub mod Presences
 pub mod Promises
 pub mod Queueing

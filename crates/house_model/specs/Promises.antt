@@ -23,6 +23,7 @@ use Rattle.house_model.specs.Endings.{Endings}
 use Rattle.house_model.specs.Closings.{Closings}
 use Rattle.house_model.specs.Queueing.{queued_for}
 use Rattle.house_model.specs.Deliveries.{Deliveries}
+use Rattle.house_model.specs.Paging.{PagesTellAll}
 use Rattle.house_model.specs.Resuming.{InTurn, is_live, is_of_user, IsNotFound, IsResumed, IsSwept, IsReplaced}
 
 abbrev pub session_in : State → List Turn → ℕ → Session Traffic
@@ -115,3 +116,5 @@ pub record Safe (o : State) (h : List Turn) : Type 0 where
   pub deliveries : Deliveries (after o h)
   -- Of what a room broadcasts, and of what users say to each other, the last 10,000 messages with a body are kept.
   pub archived : AreArchives (after o h).world (logs_of o h).order (keeps_from o h)
+  -- Pages of an archive that are asked for one after the other tell each row that is asked for, once and in order.
+  pub paged : PagesTellAll o h

@@ -38,6 +38,7 @@ ghost use Rattle.house_model.specs.Closings.{Closings};
 ghost use Rattle.house_model.specs.Endings.{Endings};
 ghost use Rattle.house_model.specs.Promises.{session_in, counted, Resumption, Safe};
 ghost use Rattle.house_model.specs.Stays.{Gapless, IsWithin, logs_of};
+ghost use Rattle.house_model.specs.Paging.{PagesTellAll};
 ghost use Rattle.house_model.specs.Queueing.{queued_for};
 ghost use Rattle.house_model.specs.Deliveries.{Deliveries};
 ghost use Rattle.house_model.specs.Story.{small_house, faulty, whole_story, her_account};
@@ -229,6 +230,13 @@ pub fn closings()
 /// order: numbered from 1, each with its peer, its text and the greatest moment up to it.
 pub fn archives_are_the_history()
     ensures { (o : State) (h : List Turn) → IsOpening o → AreArchives (after o h).world (logs_of o h).order (keeps_from o h) }
+{}
+
+/// Pages of an archive that are asked for one after the other while a history goes on (XEP-0059, 2.2), the first from the beginning, each next after the last
+/// row of the one before, and the last of them complete: their rows are, each once and in order, those that were asked for of all that were kept when the first
+/// was asked for and that came until the last was, also where rows came and went between.
+pub fn pages_tell_all()
+    ensures { (o : State) (h : List Turn) → IsOpening o → PagesTellAll o h }
 {}
 
 /// Every legal history is safe.

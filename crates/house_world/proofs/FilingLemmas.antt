@@ -11,7 +11,7 @@ use Rattle.stanza_model.specs.declared.effect.Change.{Change}
 use Rattle.stanza_model.specs.declared.effect.Change.TheVariants as change
 use Rattle.stanza_model.specs.declared.effect.Effect as stanza
 use Rattle.stanza_model.specs.declared.effect.Effect.TheVariants.{Queue, Keep, Set}
-use Rattle.archive_table.specs.Archives.{Archives, Rows, Said, displaced, filed, no_rows, with_row}
+use Rattle.archive_table.specs.Archives.{Archives, Rows, Said, filed, no_rows, with_row}
 use Rattle.archive_table.specs.declared.filing.Filing.{Filing}
 use Rattle.archive_table.specs.declared.filing.Filing.TheVariants.{OfUser, OfRoom, NoRoom}
 use Rattle.archive_table.specs.Tables as archive
@@ -21,7 +21,7 @@ use Rattle.house_model.specs.Effects.{Files}
 use Rattle.house_world.specs.declared.world.World as code
 use Rattle.house_world.specs.Hosting.{but_rooms_of}
 use Rattle.house_world.specs.Marks.{is_of_archives, is_of_users, named_by}
-use Rattle.house_world.specs.Readiness.{AreFilable, HasNumbers, HasPlaces, IsCounted, added}
+use Rattle.house_world.specs.Readiness.{AreFilable, HasNumbers, HasPlaces, added}
 use Rattle.house_world.specs.Views.{world_of}
 use Rattle.house_world.specs.Wholes.{IsTied}
 use Rattle.house_world.specs.Worlds.{Did, Stays}

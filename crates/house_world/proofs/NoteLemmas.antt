@@ -1,7 +1,7 @@
 -- A change of what is kept of users.
 use Rattle.std.proofs.Common.{◌≡◌, ◌⊎◌, inl, inr, ℕ, zero, suc, ◌+◌, ◌<◌, ◌≤◌, List, [], ◌∷◌, ◌++◌, drop, get_or, Bool, true}
-use Rattle.std.proofs.Common.{false, not, None, length, refl, sym, ap, subst, arith, ◌∙◌, if◌then◌else◌}
-use Rattle.std.specs.Prelude.{bytes_eq, is_some}
+use Rattle.std.proofs.Common.{false, not, length, refl, sym, ap, subst, arith, ◌∙◌, if◌then◌else◌}
+use Rattle.std.specs.Prelude.{bytes_eq}
 use Rattle.std.specs.List.{filter, list_any}
 use Rattle.std.proofs.lemmas.List.{drop_all, drop_more}
 use Rattle.stanza_model.specs.declared.effect.Change.{Change}

@@ -5,7 +5,7 @@ use Rattle.std.specs.Prelude.{flat_map}
 use Rattle.std.specs.List.{AllByRecursion, filter}
 use Rattle.stanza_model.specs.declared.effect.Change.TheVariants.{RoomGone, RoomRow}
 use Rattle.stanza_model.specs.declared.effect.Effect.{Effect}
-use Rattle.stanza_model.specs.declared.effect.Effect.TheVariants.{Queue, Broadcast, Enter, Leave, Keep, Set}
+use Rattle.stanza_model.specs.declared.effect.Effect.TheVariants.{Broadcast, Keep, Set}
 use Rattle.stanza_model.specs.declared.room.Occupant.{Occupant}
 use Rattle.stanza_model.specs.declared.room.RoomItem.{RoomItem}
 use Rattle.stanza_model.specs.declared.room.Seat.{Seat}

@@ -15,7 +15,7 @@ use Rattle.session_table.specs.declared.life.Life.TheVariants as life
 use Rattle.session_table.specs.declared.line.Line as stage
 use Rattle.session_table.specs.declared.line.Line.TheVariants.{Empty, Logged, Bound, Over}
 use Rattle.session_table.specs.Sessions.{SessionRecord, held_by}
-use Rattle.session_table.specs.Tables.{IsLive, TableRecord, Rises, attached, changed, conn_of, is_empty, is_logged, line_ended, line_of, session_of}
+use Rattle.session_table.specs.Tables.{IsLive, TableRecord, Rises, attached, changed, conn_of, is_logged, line_ended, line_of, session_of}
 use Rattle.session_table.specs.Tables as tables
 use Rattle.session_table.proofs.ListLemmas.{rises_changed}
 use Rattle.session_table.proofs.NumberLemmas.{lookup_changed}

@@ -4,7 +4,6 @@ use Rattle.std.specs.Prelude.{Option, Some, None}
 use Rattle.house_model.specs.Sessions.{nobody}
 use Rattle.house_model.specs.States.{State, Kept, opening}
 use Rattle.house_model.specs.Histories.{StandsFor}
-use Rattle.house_model.proofs.ArchiveTurns.{archives_are_kept}
 use Rattle.house_model.proofs.SafeLaws.{safe}
 use Rattle.replay_script.specs.Deeds.{no_framers}
 use Rattle.replay_script.specs.Scripts.{Makes, IsPlayed, lines_of}
@@ -32,7 +31,7 @@ first-done left left_now took held ends = record {
   deeds = [];
   played = none-played;
   safe =
-      safe (opening nobody [] 0) [] none-played.starts none-played.legal (archives_are_kept (opening nobody [] 0) [] none-played.starts);
+      safe (opening nobody [] 0) [] none-played.starts none-played.legal;
   number = tt;
   read = λ all told.
       let end = ends all (unread-nil left ∙ told) in
@@ -50,7 +49,7 @@ first-taking left left_now took (status.Script n) stop = record {
   deeds = [];
   played = none-played;
   safe =
-      safe (opening nobody [] 0) [] none-played.starts none-played.legal (archives_are_kept (opening nobody [] 0) [] none-played.starts);
+      safe (opening nobody [] 0) [] none-played.starts none-played.legal;
   number = stop.0;
   read = λ all told.
       let passes = stop.1 all (unread-nil left ∙ told) in
@@ -65,7 +64,7 @@ first-taking left left_now took status.ReadFault stop = record {
   deeds = [];
   played = none-played;
   safe =
-      safe (opening nobody [] 0) [] none-played.starts none-played.legal (archives_are_kept (opening nobody [] 0) [] none-played.starts);
+      safe (opening nobody [] 0) [] none-played.starts none-played.legal;
   number = tt;
   read = λ all told. (lines_of all, (refl, tt));
   out = [];
@@ -79,7 +78,7 @@ first-taking left left_now took status.NoMemory stop = record {
   deeds = [];
   played = none-played;
   safe =
-      safe (opening nobody [] 0) [] none-played.starts none-played.legal (archives_are_kept (opening nobody [] 0) [] none-played.starts);
+      safe (opening nobody [] 0) [] none-played.starts none-played.legal;
   number = tt;
   read = λ all told. (lines_of all, (refl, tt));
   out = [];
@@ -98,7 +97,7 @@ first-bad left coming_now left_now took given_now text t never = record {
   deeds = [];
   played = none-played;
   safe =
-      safe (opening nobody [] 0) [] none-played.starts none-played.legal (archives_are_kept (opening nobody [] 0) [] none-played.starts);
+      safe (opening nobody [] 0) [] none-played.starts none-played.legal;
   number = refl;
   read = λ all told.
       let first = t.first all (unread-nil left ∙ told) in

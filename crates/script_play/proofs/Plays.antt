@@ -6,7 +6,6 @@ use Rattle.std.proofs.lemmas.List.{map-append}
 use Rattle.std.proofs.lemmas.Grind.{flat_map-append}
 use Rattle.house_model.specs.States.{State, Kept}
 use Rattle.house_model.specs.Histories.{Turn, next, after, StandsFor}
-use Rattle.house_model.proofs.ArchiveTurns.{archives_are_kept}
 use Rattle.house_model.proofs.SafeLaws.{safe}
 use Rattle.house_model.proofs.Turns.{turns-counted, workers-kept}
 use Rattle.replay_script.specs.declared.step.Step.{Step}
@@ -163,8 +162,7 @@ stop-done left coming held left_now took now given house framers number g ends =
   deeds = g.deeds;
   played = played left coming given house framers number g.lines g.start g.deeds g.along;
   safe =
-      safe g.start (turns_of g.deeds) g.along.stands.starts g.along.stands.legal
-      (archives_are_kept g.start (turns_of g.deeds) g.along.stands.starts);
+      safe g.start (turns_of g.deeds) g.along.stands.starts g.along.stands.legal;
   number = tt;
   read = λ all told.
       let old = g.along.read all told in
@@ -185,8 +183,7 @@ stop-taking left coming left_now took now given house framers number (status.Scr
   deeds = g.deeds;
   played = played left coming given house framers number g.lines g.start g.deeds g.along;
   safe =
-      safe g.start (turns_of g.deeds) g.along.stands.starts g.along.stands.legal
-      (archives_are_kept g.start (turns_of g.deeds) g.along.stands.starts);
+      safe g.start (turns_of g.deeds) g.along.stands.starts g.along.stands.legal;
   number = stop.0 ∙ g.along.count;
   read = λ all told.
       let old = g.along.read all told in
@@ -207,8 +204,7 @@ stop-taking left coming left_now took now given house framers number status.Read
   deeds = g.deeds;
   played = played left coming given house framers number g.lines g.start g.deeds g.along;
   safe =
-      safe g.start (turns_of g.deeds) g.along.stands.starts g.along.stands.legal
-      (archives_are_kept g.start (turns_of g.deeds) g.along.stands.starts);
+      safe g.start (turns_of g.deeds) g.along.stands.starts g.along.stands.legal;
   number = tt;
   read = λ all told. let old = g.along.read all told in (lines_of old.0, (old.1.1, tt));
   out = prints g.deeds;
@@ -222,8 +218,7 @@ stop-taking left coming left_now took now given house framers number status.NoMe
   deeds = g.deeds;
   played = played left coming given house framers number g.lines g.start g.deeds g.along;
   safe =
-      safe g.start (turns_of g.deeds) g.along.stands.starts g.along.stands.legal
-      (archives_are_kept g.start (turns_of g.deeds) g.along.stands.starts);
+      safe g.start (turns_of g.deeds) g.along.stands.starts g.along.stands.legal;
   number = tt;
   read = λ all told. let old = g.along.read all told in (lines_of old.0, (old.1.1, tt));
   out = prints g.deeds;
@@ -258,8 +253,7 @@ stop-bad left coming coming_now left_now took now given given_now house framers 
   deeds = g.deeds;
   played = played left coming given house framers number g.lines g.start g.deeds g.along;
   safe =
-      safe g.start (turns_of g.deeds) g.along.stands.starts g.along.stands.legal
-      (archives_are_kept g.start (turns_of g.deeds) g.along.stands.starts);
+      safe g.start (turns_of g.deeds) g.along.stands.starts g.along.stands.legal;
   number = g.along.count;
   read = λ all told.
       let old = g.along.read all told in
@@ -319,8 +313,7 @@ stop-writing left coming coming_now left_now took before now given given_now hou
       (along-on left coming coming_now given given_now house house_now framers framers_now number text out g.lines g.start g.deeds g.along t p);
   safe =
       let next = along-on left coming coming_now given given_now house house_now framers framers_now number text out g.lines g.start g.deeds g.along t p in
-      safe g.start (turns_of (g.deeds ++ p.plays.deed ∷ [])) next.stands.starts next.stands.legal
-      (archives_are_kept g.start (turns_of (g.deeds ++ p.plays.deed ∷ [])) next.stands.starts);
+      safe g.start (turns_of (g.deeds ++ p.plays.deed ∷ [])) next.stands.starts next.stands.legal;
   number = tt;
   read = λ all told.
       let old = (along-on left coming coming_now given given_now house house_now framers framers_now number text out g.lines g.start g.deeds g.along t p).read

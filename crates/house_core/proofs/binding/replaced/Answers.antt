@@ -1,4 +1,4 @@
-use Rattle.std.proofs.Common.{◌≡◌, IfOk, List, None, refl, ap, sym, subst, ◌∙◌}
+use Rattle.std.proofs.Common.{IfOk, List, None, refl, ap, sym, subst, ◌∙◌}
 use Rattle.stanza_model.specs.declared.effect.Effect.{Effect}
 use Rattle.house_core.specs.Bindings.{told_by}
 use Rattle.house_world.specs.Hosting.{IsCast}

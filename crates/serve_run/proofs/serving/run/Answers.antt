@@ -1,4 +1,3 @@
-use Rattle.std.proofs.Common.{◌≡◌}
 use Rattle.serve_run.specs.Services.{tally}
 use Rattle.serve_run.proofs.Running.{by_printing, given_printed, memory-accounts, memory-done, memory-listen, memory-read, memory-script, memory-usage}
 use Rattle.serve_run.proofs.Running.{printed, printed_front, printed_nothing, run_served, write-accounts, write-done, write-listen, write-read, write-script}

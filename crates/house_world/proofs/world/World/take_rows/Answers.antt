@@ -1,4 +1,4 @@
-use Rattle.std.proofs.Common.{[], ◌∙◌, sym, subst, arith}
+use Rattle.std.proofs.Common.{[], ◌∙◌, arith}
 use Rattle.house_world.specs.Readiness.{HasPlaces}
 use Rattle.house_world.proofs.DidLemmas.{did_then}
 use Rattle.house_world.proofs.RowLemmas.{all_taken, one_taken}
