@@ -14,7 +14,7 @@ use Rattle.clap.specs.declared.error.kind.ErrorKind.TheVariants.{UnknownArgument
 use Rattle.clap.proofs.OnLiterals.{clap_on_literals}
 use Rattle.serve_words.specs.Grammars.{bare}
 use Rattle.serve_words.specs.Options.{is_value}
-use Rattle.commands.specs.Grammars.{account_grammar}
+use Rattle.commands.specs.Grammars.{pair_grammar}
 use Rattle.commands.proofs.Conjunctions.{not-true}
 
 -- such a word is no option and not `--`
@@ -67,13 +67,13 @@ pub replay_free : is_simple_and_free (bare (codes "replay")) ≡ true
 unfolding clap_on_literals
 replay_free = refl
 
-pub account_free : is_simple_and_free account_grammar ≡ true
+pub pair_free : is_simple_and_free pair_grammar ≡ true
 unfolding clap_on_literals
-account_free = refl
+pair_free = refl
 
-pub account_simple : is_simple account_grammar ≡ true
+pub pair_simple : is_simple pair_grammar ≡ true
 unfolding clap_on_literals
-account_simple = refl
+pair_simple = refl
 
 -- `replay` takes no word
 pub replay_none : fault_of (bare (codes "replay")) [] ≡ []
@@ -96,9 +96,9 @@ replay-first word more p =
     first-wins (turn_fault (built (bare (codes "replay"))).top [] (at 1 nothing_held) word) _ _
     (turn-fault (built (bare (codes "replay"))).top 1 word nothing_held p)
 
--- `account` takes two
+-- two words are taken
 abbrev grammar : App
-grammar = built account_grammar
+grammar = built pair_grammar
 
 abbrev rules : List Rule
 rules = grammar.top.rules
@@ -119,21 +119,21 @@ end-fault w =
     (or_else (settle_fault rules grammar.top.args_override_self w.held)
     (or_else (defaults_fault (settled rules w.held).rows rules) (check_fault grammar.top (finished rules w.held) (is_some (entered grammar w.stopped)))))
 
-pub account-none : fault_of account_grammar [] ≡ MissingRequiredArgument ∷ []
+pub pair-none : fault_of pair_grammar [] ≡ MissingRequiredArgument ∷ []
 unfolding clap_on_literals
-account-none = refl
+pair-none = refl
 
 one-end : (a : List ℕ) → end-fault (after-one a) ≡ MissingRequiredArgument ∷ []
 unfolding clap_on_literals
 one-end a = refl
 
-one-form : (a : List ℕ) → fault_of account_grammar (a ∷ [])
+one-form : (a : List ℕ) → fault_of pair_grammar (a ∷ [])
     ≡ or_else (or_else (turn_fault grammar.top [] (at 1 nothing_held) a) []) (end-fault (walked rules [] (at 1 nothing_held) a))
 unfolding walk_fault
 one-form a = refl
 
-pub account-one : (a : List ℕ) → is_value a ≡ true → fault_of account_grammar (a ∷ []) ≡ MissingRequiredArgument ∷ []
-account-one a p =
+pub pair-one : (a : List ℕ) → is_value a ≡ true → fault_of pair_grammar (a ∷ []) ≡ MissingRequiredArgument ∷ []
+pair-one a p =
     one-form a
     ∙ ap₂ (λ k w. or_else (or_else k []) (end-fault w)) (turn-fault grammar.top 1 a nothing_held p) (turn-walk rules 1 a nothing_held p)
     ∙ one-end a
@@ -142,7 +142,7 @@ two-end : (a s : List ℕ) → end-fault (after-two a s) ≡ []
 unfolding clap_on_literals
 two-end a s = refl
 
-two-form : (a s : List ℕ) → fault_of account_grammar (a ∷ s ∷ [])
+two-form : (a s : List ℕ) → fault_of pair_grammar (a ∷ s ∷ [])
     ≡ or_else (or_else (turn_fault grammar.top [] (at 1 nothing_held) a) (or_else (turn_fault grammar.top [] (walked rules [] (at 1 nothing_held) a) s) []))
     (end-fault (walked rules [] (walked rules [] (at 1 nothing_held) a) s))
 unfolding walk_fault
@@ -152,8 +152,8 @@ second-fault : (a s : List ℕ) → is_value a ≡ true → is_value s ≡ true 
 second-fault a s p q =
     ap (λ w. turn_fault grammar.top [] w s) (turn-walk rules 1 a nothing_held p) ∙ turn-fault grammar.top 2 s (after-one a).held q
 
-pub account-two : (a s : List ℕ) → is_value a ≡ true → is_value s ≡ true → fault_of account_grammar (a ∷ s ∷ []) ≡ []
-account-two a s p q =
+pub pair-two : (a s : List ℕ) → is_value a ≡ true → is_value s ≡ true → fault_of pair_grammar (a ∷ s ∷ []) ≡ []
+pair-two a s p q =
     two-form a s
     ∙ ap (λ w. or_else (or_else (turn_fault grammar.top [] (at 1 nothing_held) a)
     (or_else (turn_fault grammar.top [] (walked rules [] (at 1 nothing_held) a) s) [])) (end-fault w))
@@ -165,17 +165,17 @@ third-fault : (a s x : List ℕ) → is_value a ≡ true → is_value s ≡ true
     → turn_fault grammar.top [] (walked rules [] (walked rules [] (at 1 nothing_held) a) s) x ≡ UnknownArgument ∷ []
 third-fault a s x p q r = ap (λ w. turn_fault grammar.top [] w x) (walk-two a s p q) ∙ turn-fault grammar.top 3 x (after-two a s).held r
 
-pub account-three : (a s x : List ℕ) (more : List (List ℕ)) → is_value a ≡ true → is_value s ≡ true → is_value x ≡ true
-    → fault_of account_grammar (a ∷ s ∷ x ∷ more) ≡ UnknownArgument ∷ []
+pub pair-three : (a s x : List ℕ) (more : List (List ℕ)) → is_value a ≡ true → is_value s ≡ true → is_value x ≡ true
+    → fault_of pair_grammar (a ∷ s ∷ x ∷ more) ≡ UnknownArgument ∷ []
 unfolding walk_fault
-account-three a s x more p q r =
+pair-three a s x more p q r =
     third-wins (turn_fault grammar.top [] (at 1 nothing_held) a) (turn_fault grammar.top [] (walked rules [] (at 1 nothing_held) a) s)
     (turn_fault grammar.top [] (walked rules [] (walked rules [] (at 1 nothing_held) a) s) x) _ _ (turn-fault grammar.top 1 a nothing_held p)
     (second-fault a s p q) (third-fault a s x p q r)
 
 -- and gives both
-pub account-name : (a s : List ℕ) → is_value a ≡ true → is_value s ≡ true → first_of (codes "NAME") (matches_of account_grammar (a ∷ s ∷ [])) ≡ Some a
-account-name a s p q = ap (λ w. first_of (codes "NAME") (finished rules w.held)) (walk-two a s p q)
+pub pair-first : (a s : List ℕ) → is_value a ≡ true → is_value s ≡ true → first_of (codes "FIRST") (matches_of pair_grammar (a ∷ s ∷ [])) ≡ Some a
+pair-first a s p q = ap (λ w. first_of (codes "FIRST") (finished rules w.held)) (walk-two a s p q)
 
-pub account-salt : (a s : List ℕ) → is_value a ≡ true → is_value s ≡ true → first_of (codes "SALT") (matches_of account_grammar (a ∷ s ∷ [])) ≡ Some s
-account-salt a s p q = ap (λ w. first_of (codes "SALT") (finished rules w.held)) (walk-two a s p q)
+pub pair-second : (a s : List ℕ) → is_value a ≡ true → is_value s ≡ true → first_of (codes "SECOND") (matches_of pair_grammar (a ∷ s ∷ [])) ≡ Some s
+pair-second a s p q = ap (λ w. first_of (codes "SECOND") (finished rules w.held)) (walk-two a s p q)

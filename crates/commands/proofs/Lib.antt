@@ -1,4 +1,5 @@
 pub mod Conjunctions
+pub mod Drills
 pub mod Endings
 pub mod GrammarLemmas
 pub mod Passwords

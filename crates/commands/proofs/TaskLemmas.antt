@@ -1,9 +1,8 @@
 -- Which task words are.
-use Rattle.std.proofs.Common.{◌≡◌, ℕ, ◌&&◌, List, [], ◌∷◌, length, Bool, true, false, true≢false, Some, None, codes, bytes_eq, arith, refl, sym, ap, ap₂, ◌∙◌}
+use Rattle.std.proofs.Common.{◌≡◌, ℕ, ◌&&◌, List, [], ◌∷◌, length, Bool, true, false, true≢false, Some, None, codes, arith, refl, sym, ap, ap₂, ◌∙◌}
 use Rattle.std.specs.Prelude.{Option, Err, is_some, unwrap_or}
 use Rattle.std.specs.List.{list_all}
 use Rattle.std.proofs.lemmas.Bool.{cond-false, cond-true}
-use Rattle.std.proofs.lemmas.Slice.Eq.{bytes_eq-Decides}
 use Rattle.account_book.specs.Fields.{on, salt_in}
 use Rattle.clap.specs.Words.{Row, fault_of, first_of, matches_of}
 use Rattle.script_play.specs.declared.status.Status.{Status}
@@ -11,9 +10,9 @@ use Rattle.script_play.specs.declared.status.Status.TheVariants as status
 use Rattle.serve_words.specs.Grammars.{bare}
 use Rattle.serve_words.specs.Options.{IsRefusal, is_value}
 use Rattle.commands.specs.Commands.{Play, Make, account_task, make_of, name_in, replay_task}
-use Rattle.commands.specs.Grammars.{Parses, account_grammar, pair_in}
+use Rattle.commands.specs.Grammars.{Parses, pair_grammar, pair_in}
 use Rattle.commands.proofs.Conjunctions.{two-true, true-two}
-use Rattle.commands.proofs.GrammarLemmas.{replay_none, replay-first, account-none, account-one, account-two, account-three, account-name, account-salt}
+use Rattle.commands.proofs.GrammarLemmas.{replay_none, replay-first, pair-none, pair-one, pair-two, pair-three, pair-first, pair-second}
 
 one-fault : {X : Type 0} {x : X} {xs : List X} → x ∷ xs ≡ [] → ⊥
 one-fault e = let n = ap length e in omega (arith, n)
@@ -39,59 +38,59 @@ pub replay_other : (words : List (List ℕ)) → list_all is_value words ≡ fal
 replay_other [] other = absurd (true≢false other)
 replay_other (w ∷ more) other = refl
 
--- `account` has two
+-- two words
 pub record ArePair (words : List (List ℕ)) : Type 0 where
-  pub name : List ℕ
-  pub salt : List ℕ
-  pub words_are : words ≡ name ∷ salt ∷ []
-  pub name_is : first_of (codes "NAME") (matches_of account_grammar words) ≡ Some name
-  pub salt_is : first_of (codes "SALT") (matches_of account_grammar words) ≡ Some salt
+  pub first : List ℕ
+  pub second : List ℕ
+  pub words_are : words ≡ first ∷ second ∷ []
+  pub first_is : first_of (codes "FIRST") (matches_of pair_grammar words) ≡ Some first
+  pub second_is : first_of (codes "SECOND") (matches_of pair_grammar words) ≡ Some second
 
-pub are_pair : (words : List (List ℕ)) → list_all is_value words ≡ true → fault_of account_grammar words ≡ [] → ArePair words
-are_pair [] all none = absurd (one-fault (sym account-none ∙ none))
-are_pair (a ∷ []) all none = absurd (one-fault (sym (account-one a (two-true (is_value a) true all).0) ∙ none))
+pub are_pair : (words : List (List ℕ)) → list_all is_value words ≡ true → fault_of pair_grammar words ≡ [] → ArePair words
+are_pair [] all none = absurd (one-fault (sym pair-none ∙ none))
+are_pair (a ∷ []) all none = absurd (one-fault (sym (pair-one a (two-true (is_value a) true all).0) ∙ none))
 are_pair (a ∷ s ∷ []) all none =
     let more = two-true (is_value a) (is_value s && true) all in
     let last = two-true (is_value s) true more.1 in
-    record { name = a; salt = s; words_are = refl; name_is = account-name a s more.0 last.0; salt_is = account-salt a s more.0 last.0 }
+    record { first = a; second = s; words_are = refl; first_is = pair-first a s more.0 last.0; second_is = pair-second a s more.0 last.0 }
 are_pair (a ∷ s ∷ x ∷ more) all none =
-    let first = two-true (is_value a) (list_all is_value (s ∷ x ∷ more)) all in
-    let second = two-true (is_value s) (list_all is_value (x ∷ more)) first.1 in
-    let third = two-true (is_value x) (list_all is_value more) second.1 in
-    absurd (one-fault (sym (account-three a s x more first.0 second.0 third.0) ∙ none))
+    let b = two-true (is_value a) (list_all is_value (s ∷ x ∷ more)) all in
+    let c = two-true (is_value s) (list_all is_value (x ∷ more)) b.1 in
+    let d = two-true (is_value x) (list_all is_value more) c.1 in
+    absurd (one-fault (sym (pair-three a s x more b.0 c.0 d.0) ∙ none))
 
-pub no_pair : (words : List (List ℕ)) → list_all is_value words ≡ true → (fault_of account_grammar words ≡ [] → ⊥) → pair_in words ≡ None
+pub no_pair : (words : List (List ℕ)) → list_all is_value words ≡ true → (fault_of pair_grammar words ≡ [] → ⊥) → pair_in words ≡ None
 no_pair [] all fault = refl
 no_pair (a ∷ []) all fault = refl
 no_pair (a ∷ s ∷ []) all fault =
     let more = two-true (is_value a) (is_value s && true) all in
-    absurd (fault (account-two a s more.0 (two-true (is_value s) true more.1).0))
+    absurd (fault (pair-two a s more.0 (two-true (is_value s) true more.1).0))
 no_pair (a ∷ s ∷ x ∷ more) all fault = refl
 
 -- and clap's matches have them
 value-is : (v w : List ℕ) (o : Option (List ℕ)) → o ≡ Some v → o ≡ Some w → v ≡ w
 value-is v w o e f = ap (λ p. unwrap_or p []) (sym e ∙ f)
 
-pub name_there : (words : List (List ℕ)) (rows : List Row) → list_all is_value words ≡ true → fault_of account_grammar words ≡ []
-    → rows ≡ matches_of account_grammar words
-    → is_some (first_of (codes "NAME") rows) ≡ true
-name_there words rows all none same = ap (λ r. is_some (first_of (codes "NAME") r)) same ∙ ap is_some (are_pair words all none).name_is
+pub first_there : (words : List (List ℕ)) (rows : List Row) → list_all is_value words ≡ true → fault_of pair_grammar words ≡ []
+    → rows ≡ matches_of pair_grammar words
+    → is_some (first_of (codes "FIRST") rows) ≡ true
+first_there words rows all none same = ap (λ r. is_some (first_of (codes "FIRST") r)) same ∙ ap is_some (are_pair words all none).first_is
 
-pub salt_there : (words : List (List ℕ)) (rows : List Row) → list_all is_value words ≡ true → fault_of account_grammar words ≡ []
-    → rows ≡ matches_of account_grammar words
-    → is_some (first_of (codes "SALT") rows) ≡ true
-salt_there words rows all none same = ap (λ r. is_some (first_of (codes "SALT") r)) same ∙ ap is_some (are_pair words all none).salt_is
+pub second_there : (words : List (List ℕ)) (rows : List Row) → list_all is_value words ≡ true → fault_of pair_grammar words ≡ []
+    → rows ≡ matches_of pair_grammar words
+    → is_some (first_of (codes "SECOND") rows) ≡ true
+second_there words rows all none same = ap (λ r. is_some (first_of (codes "SECOND") r)) same ∙ ap is_some (are_pair words all none).second_is
 
-pub pair_read : (words : List (List ℕ)) (rows : List Row) (name salt : List ℕ) → list_all is_value words ≡ true → fault_of account_grammar words ≡ []
-    → rows ≡ matches_of account_grammar words → first_of (codes "NAME") rows ≡ Some name → first_of (codes "SALT") rows ≡ Some salt
-    → pair_in words ≡ Some (name, salt)
-pair_read words rows name salt all none same is are =
+pub pair_read : (words : List (List ℕ)) (rows : List Row) (first second : List ℕ) → list_all is_value words ≡ true → fault_of pair_grammar words ≡ []
+    → rows ≡ matches_of pair_grammar words → first_of (codes "FIRST") rows ≡ Some first → first_of (codes "SECOND") rows ≡ Some second
+    → pair_in words ≡ Some (first, second)
+pair_read words rows first second all none same is are =
     let pair = are_pair words all none in
     ap pair_in pair.words_are
-    ∙ ap₂ (λ (n s : List ℕ). Some (n, s)) (value-is pair.name name (first_of (codes "NAME") rows) (ap (first_of (codes "NAME")) same ∙ pair.name_is) is)
-    (value-is pair.salt salt (first_of (codes "SALT") rows) (ap (first_of (codes "SALT")) same ∙ pair.salt_is) are)
+    ∙ ap₂ (λ (n s : List ℕ). Some (n, s)) (value-is pair.first first (first_of (codes "FIRST") rows) (ap (first_of (codes "FIRST")) same ∙ pair.first_is) is)
+    (value-is pair.second second (first_of (codes "SECOND") rows) (ap (first_of (codes "SECOND")) same ∙ pair.second_is) are)
 
-pub pair_refused : (M : Type 0) (words : List (List ℕ)) (s : Status) → list_all is_value words ≡ true → Parses {M = M} (fault_of account_grammar words) (Err s)
+pub pair_refused : (M : Type 0) (words : List (List ℕ)) (s : Status) → list_all is_value words ≡ true → Parses {M = M} (fault_of pair_grammar words) (Err s)
     → IsRefusal (pair_in words) s
 pair_refused M words status.Usage all parsed = no_pair words all parsed
 pair_refused M words status.NoMemory all parsed = tt

@@ -1,18 +1,19 @@
 -- The words of a command line, and what they ask for.
-use Rattle.std.specs.Prelude.{◌≡◌, ◌<◌, ℕ, ◌==◌, ⊤, Bool, false, not, ◌&&◌, List, [], ◌∷◌, Option, Some, None, Result, Ok, Err, bytes_eq, codes, if◌then◌else◌}
+use Rattle.std.specs.Prelude.{◌≡◌, ◌<◌, ℕ, ◌-◌, ◌^◌, ⊤, ◌&&◌, List, [], ◌∷◌, Option, Some, None, Result, Ok, Err, bytes_eq, codes, if◌then◌else◌}
 use Rattle.std.specs.Result.{result_ok}
 use Rattle.jid_core.specs.Preparation.{local_of}
 use Rattle.account_book.specs.Fields.{on, salt_in}
-use Rattle.serve_words.specs.Options.{IsRefusal, Wanted, is_value, wanted, wanted_of}
+use Rattle.serve_words.specs.Options.{IsRefusal, Wanted, is_value, number, wanted, wanted_of}
 use Rattle.commands.specs.declared.words.Command.{Command}
 use Rattle.commands.specs.declared.words.Command.TheVariants as command
 use Rattle.script_play.specs.declared.status.Status.{Status}
 
--- to play a script, to make the account line of a name with a salt, or to serve
+-- to play a script, to make the account line of a name with a salt, to serve, or to run a drill of n rounds by a key
 pub data Task : Type 0 where
   Play : Task
   Make : (name salt : List ℕ) → Task
   Serve : Wanted → Task
+  Drill : (n key : ℕ) → Task
 
 -- NAME: a local part, as it is prepared (RFC 7622, 3.3)
 abbrev pub name_in : List ℕ → Option (List ℕ)
@@ -36,6 +37,15 @@ replay_task _ = None
 abbrev pub serve_task : List (List ℕ) → Option Task
 serve_task words = on (wanted words) (λ w. Some (Serve w))
 
+-- `drill N KEY`, where N is at most 100,000, and KEY has at most 64 bits
+abbrev pub drill_of : List ℕ → List ℕ → Option Task
+drill_of n key = on (number 0 100000 n) (λ rounds. on (number 0 (2 ^ 64 - 1) key) (λ k. Some (Drill rounds k)))
+
+-- the words after `drill`
+abbrev pub drill_task : List (List ℕ) → Option Task
+drill_task (n ∷ key ∷ []) = drill_of n key
+drill_task _ = None
+
 -- what the words ask for: the first names the command by its exact bytes
 abbrev pub task_of : List (List ℕ) → Option Task
 task_of [] = None
@@ -43,6 +53,7 @@ task_of (first ∷ words) =
     if bytes_eq first (codes "replay") then replay_task words
     else if bytes_eq first (codes "account") then account_task words
     else if bytes_eq first (codes "serve") then serve_task words
+    else if bytes_eq first (codes "drill") then drill_task words
     else None
 
 -- what was read of a word, or why nothing was
@@ -55,9 +66,11 @@ abbrev pub task : Command → Task
 task command.Replay = Play
 task (command.Account name salt) = Make name salt.items
 task (command.Serve serving) = Serve (wanted_of serving)
+task (command.Drill n key) = Drill n key
 
 -- a server has a worker at least
 abbrev pub HasWorker : Command → Type 0
 HasWorker command.Replay = ⊤
 HasWorker (command.Account name salt) = ⊤
 HasWorker (command.Serve serving) = 0 < serving.workers
+HasWorker (command.Drill n key) = ⊤

@@ -10,9 +10,9 @@ use Rattle.script_play.specs.declared.status.Status.TheVariants as status
 abbrev pub wanted : List ℕ → Rule
 wanted id = record (new_rule id) { required = true; action = Some Set }
 
--- `account NAME SALT`
-abbrev pub account_grammar : App
-account_grammar = with_rule (with_rule (bare (codes "account")) (wanted (codes "NAME"))) (wanted (codes "SALT"))
+-- two such words
+abbrev pub pair_grammar : App
+pair_grammar = with_rule (with_rule (bare (codes "pair")) (wanted (codes "FIRST"))) (wanted (codes "SECOND"))
 
 -- words were read without fault, or have a fault of one of these kinds; or there was no memory to read them
 abbrev pub Parses : {M : Type 0} → Kinds → Result M Status → Type 0

@@ -4,7 +4,8 @@ ghost use Rattle.account_book.specs.Entries.{Entry};
 ghost use Rattle.account_book.specs.Lists.{entries_of};
 ghost use Rattle.serve_words.specs.Options.{Wanted};
 ghost use Rattle.commands.specs.Accounts.{Accounted, IsPasswordLine};
-ghost use Rattle.commands.specs.Commands.{Make, Serve, task_of};
+ghost use Rattle.commands.specs.Commands.{Drill, Make, Serve, task_of};
+ghost use Rattle.drill_run.specs.Endings.{Ends};
 ghost use Rattle.script_play.specs.Runs.{Replayed};
 ghost use Rattle.replay_script.specs.Valid.{IsValid};
 
@@ -64,6 +65,22 @@ pub fn valid_lists_are_served<R: Threads + Wait + Sync>(
     requires short { length source.old ≤ 8388608 }
     requires valid { (entries : List Entry) × (entries_of source.old ≡ Ok entries) }
     ensures ends { (result ≡ Status.Done) ⊎ (result ≡ Status.NoMemory) }
+{
+    run(rt, alloc, words, source, sink, ports)
+}
+
+/// Over a sink that never fails, `drill` runs its drill to the end, but for want of memory.
+pub fn drills_are_run<R: Threads + Wait + Sync>(
+    rt: &R,
+    alloc: Global,
+    words: &[Text],
+    source: &mut CleanSource,
+    sink: &mut CleanSink,
+    ports: &mut CleanPorts,
+) -> Status
+    requires task { (n : ℕ) × ((key : ℕ) × (task_of words.now ≡ Some (Drill n key))) }
+    ensures ends { (result ≡ Status.Done) ⊎ (result ≡ Status.NoMemory) }
+    ensures drilled { (n key : ℕ) → task_of words.now ≡ Some (Drill n key) → Ends (λ _. None) n key sink.old sink.new result }
 {
     run(rt, alloc, words, source, sink, ports)
 }

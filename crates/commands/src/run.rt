@@ -4,12 +4,14 @@ ghost use Rattle.outside.specs.Devices.{Rose};
 ghost use Rattle.commands.specs.Accounts.{Accounted, ReadsAtMost};
 ghost use Rattle.serve_run.specs.Services.{tally};
 ghost use Rattle.serve_words.specs.Options.{Wanted};
-ghost use Rattle.commands.specs.Commands.{Make, Serve, task_of};
+ghost use Rattle.commands.specs.Commands.{Drill, Make, Serve, task_of};
 ghost use Rattle.commands.specs.Servings.{Concluded};
+ghost use Rattle.drill_run.specs.Endings.{Ends};
 ghost use Rattle.script_play.specs.Runs.{Replayed};
 
 use crate::account::account;
 use crate::words::{Command, read_words};
+use drill_run::drill::drill;
 use outside::{Door, Ports, Sink, Source};
 use script_play::Status;
 use script_play::replay::replay;
@@ -19,9 +21,9 @@ use std::alloc::Global;
 use std::sync::Wait;
 use std::thread::Threads;
 
-/// Runs the command of these words: `replay`, which reads a script; `account NAME SALT`, which reads a password line; or `serve` with its options,
-/// which reads a list of accounts and serves clients at the ports. `serve` never returns if a door hands out links for ever, or a link goes on
-/// for ever; the others touch no ports.
+/// Runs the command of these words: `replay`, which reads a script; `account NAME SALT`, which reads a password line; `serve` with its options,
+/// which reads a list of accounts and serves clients at the ports; or `drill N KEY`, which reads nothing. `serve` never returns if a door hands out links
+/// for ever, or a link goes on for ever; the others touch no ports.
 pub fn run<R: Threads + Wait + Sync, S: Source, K: Sink, P: Ports>(
     rt: &R,
     alloc: Global,
@@ -42,6 +44,8 @@ where
     ensures served { (w : Wanted) → task_of words.now ≡ Some (Serve w)
         → Concluded w (S.left source.old) (S.left source.new) (tally (P.tapes ports.old) (P.links ports.old) (P.dice_faults ports.old))
         (tally (P.tapes ports.new) (P.links ports.new) (P.dice_faults ports.new)) (K.took sink.old) (K.took sink.new) result }
+    ensures drilled { (n key : ℕ) → task_of words.now ≡ Some (Drill n key) → Ends K.took n key sink.old sink.new result }
+    ensures aside { (n key : ℕ) → task_of words.now ≡ Some (Drill n key) → (source.new ≡ source.old) × (ports.new ≡ ports.old) }
     ensures usage { result ≡ Status.Usage → task_of words.now ≡ None }
     ensures refused { task_of words.now ≡ None → ((result ≡ Status.Usage) ⊎ (result ≡ Status.NoMemory)) × (source.new ≡ source.old) × (sink.new ≡ sink.old)
         × (ports.new ≡ ports.old) }
@@ -54,6 +58,7 @@ where
         Ok(Command::Replay) => replay(alloc, source, sink),
         Ok(Command::Account { name, salt }) => account(alloc, &name, salt.as_slice(), source, sink),
         Ok(Command::Serve(serving)) => serve(rt, alloc, &serving, source, sink, ports),
+        Ok(Command::Drill { n, key }) => drill(alloc, n, key, sink),
         Err(status) => status,
     }
 }

@@ -5,8 +5,8 @@ ghost use Rattle.account_book.specs.Fields.{salt_in};
 ghost use Rattle.clap.specs.Words.{HasMatchesOf, app_of, fault_of, first_of, found_of, is_simple_and_free, matches_of, rows_of, rule_of};
 ghost use Rattle.serve_words.specs.Grammars.{bare};
 ghost use Rattle.serve_words.specs.Options.{IsRefusal, is_value};
-ghost use Rattle.commands.specs.Commands.{HasWorker, Reads, account_task, name_in, replay_task, serve_task, task, task_of};
-ghost use Rattle.commands.specs.Grammars.{Parses, account_grammar, pair_in, wanted};
+ghost use Rattle.commands.specs.Commands.{HasWorker, Reads, account_task, drill_task, name_in, replay_task, serve_task, task, task_of};
+ghost use Rattle.commands.specs.Grammars.{Parses, pair_grammar, pair_in, wanted};
 
 use account_book::{LEAST_SALT, MOST_SALT};
 use base64::DecodeAllocError;
@@ -16,6 +16,7 @@ use clap::{Arg, ArgAction, ArgMatches};
 use jid_core::{JidFault, Part};
 use script_play::Status;
 use serve_run::Serving;
+use serve_words::number::number;
 use serve_words::read_serve;
 use stanza_tree::{NoMemory, Text};
 use std::alloc::{AllocError, Global};
@@ -29,6 +30,8 @@ pub enum Command {
     Account { name: Part, salt: Vec<u8> },
     /// Serves clients.
     Serve(Serving),
+    /// Runs a drill of `n` rounds, 100,000 at most, by a key.
+    Drill { n: u32, key: u64 },
 }
 
 /// The command of these words. `Usage` comes exactly where they are none.
@@ -47,6 +50,9 @@ pub fn read_words(alloc: Global, words: &[Text]) -> Result<Command, Status>
     }
     if first.bytes() == b"serve".as_slice() {
         return read_serving(alloc, rest);
+    }
+    if first.bytes() == b"drill".as_slice() {
+        return read_drill(alloc, rest);
     }
     Err(Status::Usage)
 }
@@ -80,10 +86,29 @@ fn read_account(alloc: Global, words: &[Text]) -> Result<Command, Status>
     ensures some { IfOk result HasWorker }
 {
     let texts = read_positionals(alloc, words)?;
-    let (name, salt) = account_values(alloc, texts.as_slice())?;
+    let (name, salt) = pair_values(alloc, texts.as_slice())?;
     let name = read_name(alloc, name.as_bytes())?;
     let salt = read_salt(alloc, salt.as_bytes())?;
     Ok(Command::Account { name, salt })
+}
+
+/// How many rounds a drill may have.
+const MOST_ROUNDS: u64 = 100_000;
+
+/// `drill N KEY`.
+fn read_drill(alloc: Global, words: &[Text]) -> Result<Command, Status>
+    ensures task { Reads task (drill_task words.now) result }
+    ensures some { IfOk result HasWorker }
+{
+    let texts = read_positionals(alloc, words)?;
+    let (n, key) = pair_values(alloc, texts.as_slice())?;
+    let Some(n) = number(n, 0, MOST_ROUNDS) else {
+        return Err(Status::Usage);
+    };
+    let Some(key) = number(key, 0, u64::MAX) else {
+        return Err(Status::Usage);
+    };
+    Ok(Command::Drill { n: n as u32, key })
 }
 
 /// Whether a word is not empty and begins with no `-`.
@@ -134,12 +159,13 @@ fn wanted<'a>(alloc: Global, id: &'a str) -> Arg<'a>
     Arg::new(alloc, id).required(true).action(ArgAction::Set)
 }
 
-fn account_grammar<'a>(alloc: Global) -> Result<clap::Command<'a>, AllocError>
-    ensures { IfOk result (λ command. app_of command ≡ account_grammar) }
+/// Two such words.
+fn pair_grammar<'a>(alloc: Global) -> Result<clap::Command<'a>, AllocError>
+    ensures { IfOk result (λ command. app_of command ≡ pair_grammar) }
 {
-    let name = wanted(alloc, "NAME");
-    let salt = wanted(alloc, "SALT");
-    bare(alloc, "account").arg(name)?.arg(salt)
+    let first = wanted(alloc, "FIRST");
+    let second = wanted(alloc, "SECOND");
+    bare(alloc, "pair").arg(first)?.arg(second)
 }
 
 /// What clap makes of the words.
@@ -164,12 +190,12 @@ fn parse_replay<'a>(alloc: Global, words: &'a [&'a str]) -> Result<ArgMatches<'a
     parse(bare(alloc, "replay"), words)
 }
 
-/// What clap makes of the words of `account`.
-fn parse_account<'a>(alloc: Global, words: &'a [&'a str]) -> Result<ArgMatches<'a>, Status>
-    ensures matches { IfOk result (λ matches. rows_of (found_of matches) ≡ matches_of account_grammar (map (λ word. word.now) words.entry.now)) }
-    ensures fault { Parses (fault_of account_grammar (map (λ word. word.now) words.entry.now)) result }
+/// What clap makes of the words of a command that has two.
+fn parse_pair<'a>(alloc: Global, words: &'a [&'a str]) -> Result<ArgMatches<'a>, Status>
+    ensures matches { IfOk result (λ matches. rows_of (found_of matches) ≡ matches_of pair_grammar (map (λ word. word.now) words.entry.now)) }
+    ensures fault { Parses (fault_of pair_grammar (map (λ word. word.now) words.entry.now)) result }
 {
-    parse(account_grammar(alloc)?, words)
+    parse(pair_grammar(alloc)?, words)
 }
 
 /// The value of a word that must be there.
@@ -183,18 +209,18 @@ fn value<'a>(matches: &ArgMatches<'a>, id: &str) -> &'a str
     }
 }
 
-/// The name and the salt among the words of `account`.
-fn account_values<'a>(alloc: Global, words: &'a [&'a str]) -> Result<(&'a str, &'a str), Status>
+/// The first word and the second, of a command that has two.
+fn pair_values<'a>(alloc: Global, words: &'a [&'a str]) -> Result<(&'a str, &'a str), Status>
     requires { list_all is_value (map (λ word. word.now) words.now) ≡ true }
     ensures { Reads (λ pair. (pair.0.now, pair.1.now)) (pair_in (map (λ word. word.now) words.entry.now)) result }
 {
-    let matches = match parse_account(alloc, words) {
+    let matches = match parse_pair(alloc, words) {
         Ok(matches) => matches,
         Err(status) => return Err(status),
     };
-    let name = value(&matches, "NAME");
-    let salt = value(&matches, "SALT");
-    Ok((name, salt))
+    let first = value(&matches, "FIRST");
+    let second = value(&matches, "SECOND");
+    Ok((first, second))
 }
 
 /// A local part, which is prepared.

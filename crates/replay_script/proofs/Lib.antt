@@ -6,3 +6,8 @@ mod StanzaTexts
 mod UserLemmas
 mod NoticeLemmas
 pub mod Printing
+mod DrillAddresses
+pub mod DrillWords
+mod DrillEvents
+mod DrillOrders
+mod DrillTallies

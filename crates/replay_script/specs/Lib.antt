@@ -1,5 +1,10 @@
 pub mod Characters
 pub mod Deeds
+pub mod DrillStanzas
+pub mod DrillSections
+pub mod DrillStands
+pub mod DrillTasks
+pub mod Drills
 pub mod Lines
 pub mod Notices
 pub mod Numbers

@@ -2,7 +2,7 @@
 #![tactic(auto)]
 
 mod grammar;
-mod number;
+pub mod number;
 mod option;
 mod words;
 

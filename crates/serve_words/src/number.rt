@@ -14,7 +14,7 @@ fn are_digits(text: &[u8]) -> bool
 
 #[tactic(auto, using(crate::proofs::NumberLemmas::number_in, crate::proofs::NumberLemmas::number_low, crate::proofs::NumberLemmas::number_high, crate::proofs::NumberLemmas::number_err))]
 /// A number of ASCII digits, leading zeros allowed, from the least to the most.
-pub(crate) fn number(text: &str, least: u64, most: u64) -> Option<u64>
+pub fn number(text: &str, least: u64, most: u64) -> Option<u64>
     ensures number { result ≡ number least most text.now }
     ensures least { IfSome result (λ n. least ≤ n) }
 {

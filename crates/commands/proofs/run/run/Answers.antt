@@ -2,6 +2,7 @@ use Rattle.std.proofs.Common.{ap, rules}
 use Rattle.serve_run.specs.Services.{tally}
 use Rattle.serve_words.specs.Options.{wanted_of}
 use Rattle.commands.specs.Commands.{task_of}
+use Rattle.commands.proofs.Drills.{drill_unread}
 use Rattle.commands.proofs.Endings.{replay_unread}
 use Rattle.commands.proofs.Servings.{as_asked, serve_unread}
 use Rattle.commands.proofs.run.run.Goals as goal
@@ -21,3 +22,7 @@ returns-in-Ok-Serve-clause-served g c = λ w asked.
     (tally (g.P.Ports.tapes c.serve.new.ports) (g.P.Ports.links c.serve.new.ports) (g.P.Ports.dice_faults c.serve.new.ports)) _ _ c.serve.result (search rules)
     c.serve.ensures.served c.serve.ensures.cut (λ other fault. ap g.K.Sink.took (c.serve.ensures.silent other fault)) c.serve.ensures.given
     c.serve.ensures.accounts c.serve.ensures.usage.0 c.serve.ensures.usage.1 asked
+
+pub returns-in-Err-clause-drilled : goal.returns-in-Err-clause-drilled
+returns-in-Err-clause-drilled g c = λ n key is.
+    drill_unread g.K.Sink.took (task_of c.args.words.now) n key c.args.sink.now c.in-Err.status (search rules) is
