@@ -1,12 +1,14 @@
 //! Stories. A story is a line `== TITLE` and the lines up to the next such line.
-ghost use Rattle.std.specs.Prelude.{◌≡◌, ◌<◌, IfOk, Some, []};
-ghost use Rattle.outside.specs.Posts.{IsUnused};
+ghost use Rattle.std.specs.Prelude.{◌≡◌, ◌<◌, IfOk};
+ghost use Rattle.outside.specs.Polls.{IsFresh, SeatState};
+ghost use Rattle.outside.specs.Posts.{Each, IsUnused};
 
 use crate::story::Story;
 use commands::run::run;
 use commands::status_line::StatusLine;
 use outside::{
-    CleanDice, CleanPorts, MemClock, MemDice, MemDoor, MemLink, MemPorts, MemSink, MemSource, Post,
+    CleanDice, CleanPorts, MemClock, MemDice, MemLink, MemPoller, MemPorts, MemSink, MemSource,
+    PollPost, Rung, Sources,
 };
 use script_play::Status;
 use std::alloc::{AllocError, Global};
@@ -98,17 +100,30 @@ fn run_clean<R: Threads + Wait + Sync>(
     run(rt, alloc, story.words.as_slice(), source, sink, &mut ports)
 }
 
-/// A post with one link, which has ended.
-fn post_of(alloc: Global) -> Result<Post<MemDoor, MemClock, MemDice>, AllocError>
-    ensures { IfOk result IsUnused }
+/// A poller with one place and one link, which has ended.
+fn poller_of(alloc: Global) -> Result<MemPoller, AllocError>
+    ensures faults { IfOk result (λ p. p.plan.faults ≡ 0) }
+    ensures links { IfOk result (λ p. p.links ≡ 0) }
+    ensures unused { IfOk result (λ p. Each SeatState IsFresh p.places) }
 {
     let link = MemLink::new(alloc, Vec::new(alloc), 100, Vec::new(alloc), 100, 1000)?;
     let links = Vec::from_array(alloc, [link])?;
+    let script = Vec::from_array(alloc, [Rung::New(0), Rung::Ready(0)])?;
+    MemPoller::new(alloc, 1, script, links, Vec::new(alloc), 1, 10)
+}
+
+/// A post with that poller.
+fn post_of(alloc: Global) -> Result<PollPost<MemPoller, MemClock, MemDice>, AllocError>
+    ensures { IfOk result IsUnused }
+{
     let dice = Vec::from_array(alloc, [0u8; 100])?;
-    Ok(Post {
-        door: MemDoor::new(alloc, links, Vec::new(alloc), 1)?,
+    let source = Sources {
         clock: MemClock::new(alloc, Vec::new(alloc), 100)?,
         dice: MemDice::new(alloc, dice, Vec::new(alloc), 10)?,
+    };
+    Ok(PollPost {
+        poller: poller_of(alloc)?,
+        sources: Vec::from_array(alloc, [source])?,
     })
 }
 

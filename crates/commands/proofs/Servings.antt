@@ -7,37 +7,46 @@ use Rattle.account_book.specs.declared.fault.LineKind.{LineKind}
 use Rattle.script_play.specs.Runs.{Front}
 use Rattle.script_play.specs.declared.status.Status.{Status}
 use Rattle.script_play.specs.declared.status.Status.TheVariants as status
-use Rattle.serve_run.specs.Services.{GivenBack, HasListened, ReadsList, Served, Tally}
+use Rattle.serve_run.specs.Services.{ListeningFailed, ReadsList, Served, Tally, Unserved}
 use Rattle.serve_run.proofs.Endings.{ends_served}
 use Rattle.serve_words.specs.Options.{IsRefusal, Wanted}
 use Rattle.commands.specs.Commands.{Serve, Task}
 use Rattle.commands.specs.Servings.{Concluded}
 
+-- what is known of the end of a run
+record Ended (w : Wanted) (left left_now : Option (List ℕ)) (ports now_ports : Tally) (took took_now : Option (List ℕ)) (s : Status) : Type 0 where
+  served : s ≡ status.Done → (list : List ℕ) × (line : List ℕ) × ReadsList left left_now list
+      × Served w.domain w.port w.workers w.links w.connections list ports now_ports line
+      × ((taken : List ℕ) → took ≡ Some taken → took_now ≡ Some (taken ++ line))
+  cut : s ≡ status.WriteFault → (list : List ℕ) × (line : List ℕ) × ReadsList left left_now list
+      × Served w.domain w.port w.workers w.links w.connections list ports now_ports line
+      × ((taken : List ℕ) → took ≡ Some taken → Front taken line took_now)
+  silent : s ≢ status.Done → s ≢ status.WriteFault → took_now ≡ took
+  accounts : (n : ℕ) → s ≡ status.Accounts n → (list : List ℕ) × ReadsList left left_now list × ((kind : LineKind) × (entries_of list ≡ Err (n, kind)))
+      × Unserved w.port w.workers w.links w.connections ports now_ports
+  failed : s ≡ status.ListenFault → (list : List ℕ) × ReadsList left left_now list
+      × ListeningFailed w.domain w.port w.workers w.links w.connections list ports now_ports
+  usage : s ≢ status.Usage
+  script : (n : ℕ) → s ≢ status.Script n
+
 concluded : (w : Wanted) (left left_now : Option (List ℕ)) (ports now_ports : Tally) (took took_now : Option (List ℕ)) (s : Status)
-    → (s ≡ status.Done → (list : List ℕ) × (line : List ℕ) × ReadsList left left_now list × Served w.domain w.workers w.connections list ports now_ports line
-    × ((taken : List ℕ) → took ≡ Some taken → took_now ≡ Some (taken ++ line)))
-    → (s ≡ status.WriteFault → (list : List ℕ) × (line : List ℕ) × ReadsList left left_now list
-    × Served w.domain w.workers w.connections list ports now_ports line
-    × ((taken : List ℕ) → took ≡ Some taken → Front taken line took_now))
-    → (s ≢ status.Done → s ≢ status.WriteFault → took_now ≡ took)
-    → (HasListened s → GivenBack w.workers ports now_ports)
-    → ((n : ℕ) → s ≡ status.Accounts n → (list : List ℕ) × ReadsList left left_now list × ((kind : LineKind) × (entries_of list ≡ Err (n, kind))))
-    → (s ≢ status.Usage) → ((n : ℕ) → s ≢ status.Script n) → Concluded w left left_now ports now_ports took took_now s
-concluded w left left_now ports now_ports took took_now status.Done served cut silent given accounts usage script = served refl
-concluded w left left_now ports now_ports took took_now status.WriteFault served cut silent given accounts usage script = cut refl
-concluded w left left_now ports now_ports took took_now (status.Accounts n) served cut silent given accounts usage script = (
-  accounts n refl,
-  given tt,
-  silent (λ e. absurd (let k : status.Accounts n ≡ status.Done = e in cc)) (λ e. absurd (let k : status.Accounts n ≡ status.WriteFault = e in cc)),
+    → Ended w left left_now ports now_ports took took_now s → Concluded w left left_now ports now_ports took took_now s
+concluded w left left_now ports now_ports took took_now status.Done e = e.served refl
+concluded w left left_now ports now_ports took took_now status.WriteFault e = e.cut refl
+concluded w left left_now ports now_ports took took_now (status.Accounts n) e = (
+  e.accounts n refl,
+  e.silent (λ is. absurd (let k : status.Accounts n ≡ status.Done = is in cc)) (λ is. absurd (let k : status.Accounts n ≡ status.WriteFault = is in cc)),
 )
-concluded w left left_now ports now_ports took took_now status.ReadFault served cut silent given accounts usage script =
-    silent (λ e. absurd (let k : status.ReadFault ≡ status.Done = e in cc)) (λ e. absurd (let k : status.ReadFault ≡ status.WriteFault = e in cc))
-concluded w left left_now ports now_ports took took_now status.ListenFault served cut silent given accounts usage script =
-    silent (λ e. absurd (let k : status.ListenFault ≡ status.Done = e in cc)) (λ e. absurd (let k : status.ListenFault ≡ status.WriteFault = e in cc))
-concluded w left left_now ports now_ports took took_now status.NoMemory served cut silent given accounts usage script =
-    silent (λ e. absurd (let k : status.NoMemory ≡ status.Done = e in cc)) (λ e. absurd (let k : status.NoMemory ≡ status.WriteFault = e in cc))
-concluded w left left_now ports now_ports took took_now status.Usage served cut silent given accounts usage script = absurd (usage refl)
-concluded w left left_now ports now_ports took took_now (status.Script n) served cut silent given accounts usage script = absurd (script n refl)
+concluded w left left_now ports now_ports took took_now status.ReadFault e =
+    e.silent (λ is. absurd (let k : status.ReadFault ≡ status.Done = is in cc)) (λ is. absurd (let k : status.ReadFault ≡ status.WriteFault = is in cc))
+concluded w left left_now ports now_ports took took_now status.ListenFault e = (
+  e.failed refl,
+  e.silent (λ is. absurd (let k : status.ListenFault ≡ status.Done = is in cc)) (λ is. absurd (let k : status.ListenFault ≡ status.WriteFault = is in cc)),
+)
+concluded w left left_now ports now_ports took took_now status.NoMemory e =
+    e.silent (λ is. absurd (let k : status.NoMemory ≡ status.Done = is in cc)) (λ is. absurd (let k : status.NoMemory ≡ status.WriteFault = is in cc))
+concluded w left left_now ports now_ports took took_now status.Usage e = absurd (e.usage refl)
+concluded w left left_now ports now_ports took took_now (status.Script n) e = absurd (e.script n refl)
 
 same-wanted : (v w : Wanted) → Some (Serve v) ≡ Some (Serve w) → v ≡ w
 same-wanted v w e = cc
@@ -45,18 +54,22 @@ same-wanted v w e = cc
 -- by the words that were read
 pub as_asked : (task : Option Task) (v w : Wanted) (left left_now : Option (List ℕ)) (ports now_ports : Tally) (took took_now : Option (List ℕ)) (s : Status)
     → task ≡ Some (Serve v)
-    → (s ≡ status.Done → (list : List ℕ) × (line : List ℕ) × ReadsList left left_now list × Served v.domain v.workers v.connections list ports now_ports line
+    → (s ≡ status.Done → (list : List ℕ) × (line : List ℕ) × ReadsList left left_now list
+    × Served v.domain v.port v.workers v.links v.connections list ports now_ports line
     × ((taken : List ℕ) → took ≡ Some taken → took_now ≡ Some (taken ++ line)))
     → (s ≡ status.WriteFault → (list : List ℕ) × (line : List ℕ) × ReadsList left left_now list
-    × Served v.domain v.workers v.connections list ports now_ports line
+    × Served v.domain v.port v.workers v.links v.connections list ports now_ports line
     × ((taken : List ℕ) → took ≡ Some taken → Front taken line took_now))
     → (s ≢ status.Done → s ≢ status.WriteFault → took_now ≡ took)
-    → (HasListened s → GivenBack v.workers ports now_ports)
-    → ((n : ℕ) → s ≡ status.Accounts n → (list : List ℕ) × ReadsList left left_now list × ((kind : LineKind) × (entries_of list ≡ Err (n, kind))))
+    → ((n : ℕ) → s ≡ status.Accounts n → (list : List ℕ) × ReadsList left left_now list × ((kind : LineKind) × (entries_of list ≡ Err (n, kind)))
+    × Unserved v.port v.workers v.links v.connections ports now_ports)
+    → (s ≡ status.ListenFault → (list : List ℕ) × ReadsList left left_now list
+    × ListeningFailed v.domain v.port v.workers v.links v.connections list ports now_ports)
     → (s ≢ status.Usage) → ((n : ℕ) → s ≢ status.Script n) → task ≡ Some (Serve w) → Concluded w left left_now ports now_ports took took_now s
-as_asked task v w left left_now ports now_ports took took_now s read served cut silent given accounts usage script asked =
+as_asked task v w left left_now ports now_ports took took_now s read served cut silent accounts failed usage script asked =
     subst (λ (x : Wanted). Concluded x left left_now ports now_ports took took_now s) (same-wanted v w (sym read ∙ asked))
-    (concluded v left left_now ports now_ports took took_now s served cut silent given accounts usage script)
+    (concluded v left left_now ports now_ports took took_now s
+    (record { served = served; cut = cut; silent = silent; accounts = accounts; failed = failed; usage = usage; script = script }))
 
 -- no words were read
 pub serve_unread : (task : Option Task) (w : Wanted) (left left_now : Option (List ℕ)) (ports now_ports : Tally) (took : Option (List ℕ)) (s : Status)
@@ -75,7 +88,7 @@ pub ends_concluded : (w : Wanted) (bytes now : List ℕ) (entries : List Entry) 
     → length bytes ≤ 8388608 → entries_of bytes ≡ Ok entries → Concluded w (Some bytes) (Some now) ports now_ports took took_now s
     → (s ≡ status.ReadFault → ⊥) → (s ≡ status.WriteFault → ⊥) → (s ≡ status.ListenFault → ⊥) → (s ≡ status.Done) ⊎ (s ≡ status.NoMemory)
 ends_concluded w bytes now entries ports now_ports took took_now s short valid how read written listened =
-    ends_served bytes now entries s short valid (λ n is. (by-status (status.Accounts n) is).0) read written listened (λ is. by-status status.Usage is)
+    ends_served bytes now entries s short valid (λ n is. let a = (by-status (status.Accounts n) is).0 in (a.0, a.1, a.2)) read written listened (λ is. by-status status.Usage is)
     (λ n is. by-status (status.Script n) is)
   where
     by-status : (t : Status) → s ≡ t → Concluded w (Some bytes) (Some now) ports now_ports took took_now t

@@ -1,5 +1,5 @@
 -- The words of a command line, and what they ask for.
-use Rattle.std.specs.Prelude.{◌≡◌, ◌<◌, ℕ, ◌-◌, ◌^◌, ⊤, ◌&&◌, List, [], ◌∷◌, Option, Some, None, Result, Ok, Err, bytes_eq, codes, if◌then◌else◌}
+use Rattle.std.specs.Prelude.{◌≡◌, ◌<◌, ◌≤◌, ℕ, ◌-◌, ◌*◌, ◌^◌, ⊤, ◌&&◌, List, [], ◌∷◌, Option, Some, None, Result, Ok, Err, bytes_eq, codes, if◌then◌else◌}
 use Rattle.std.specs.Result.{result_ok}
 use Rattle.jid_core.specs.Preparation.{local_of}
 use Rattle.account_book.specs.Fields.{on, salt_in}
@@ -68,9 +68,9 @@ task (command.Account name salt) = Make name salt.items
 task (command.Serve serving) = Serve (wanted_of serving)
 task (command.Drill n key) = Drill n key
 
--- a server has a worker at least
-abbrev pub HasWorker : Command → Type 0
-HasWorker command.Replay = ⊤
-HasWorker (command.Account name salt) = ⊤
-HasWorker (command.Serve serving) = 0 < serving.workers
-HasWorker (command.Drill n key) = ⊤
+-- a server has a worker at least, each worker a place, and all together at most 1,024
+abbrev pub HasPlaces : Command → Type 0
+HasPlaces command.Replay = ⊤
+HasPlaces (command.Account name salt) = ⊤
+HasPlaces (command.Serve serving) = (0 < serving.workers) × (0 < serving.links) × (serving.workers * serving.links ≤ 1024)
+HasPlaces (command.Drill n key) = ⊤

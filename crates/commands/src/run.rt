@@ -12,7 +12,7 @@ ghost use Rattle.script_play.specs.Runs.{Replayed};
 use crate::account::account;
 use crate::words::{Command, read_words};
 use drill_run::drill::drill;
-use outside::{Door, Ports, Sink, Source};
+use outside::{Poller, Ports, Sink, Source};
 use script_play::Status;
 use script_play::replay::replay;
 use serve_run::serve;
@@ -22,7 +22,7 @@ use std::sync::Wait;
 use std::thread::Threads;
 
 /// Runs the command of these words: `replay`, which reads a script; `account NAME SALT`, which reads a password line; `serve` with its options,
-/// which reads a list of accounts and serves clients at the ports; or `drill N KEY`, which reads nothing. `serve` never returns if a door hands out links
+/// which reads a list of accounts and serves clients at the ports; or `drill N KEY`, which reads nothing. `serve` never returns if a poller hands out links
 /// for ever, or a link goes on for ever; the others touch no ports.
 pub fn run<R: Threads + Wait + Sync, S: Source, K: Sink, P: Ports>(
     rt: &R,
@@ -33,8 +33,8 @@ pub fn run<R: Threads + Wait + Sync, S: Source, K: Sink, P: Ports>(
     ports: &mut P,
 ) -> Status
 where
-    P::Door: Send + Drop,
-    <P::Door as Door>::Link: Send,
+    P::Poller: Send + Drop,
+    <P::Poller as Poller>::Link: Send + Drop,
     P::Clock: Send + Drop,
     P::Dice: Send + Drop,
     ensures replayed { words.now ≡ codes "replay" ∷ [] → Replayed (S.left source.old) (S.left source.new) (K.took sink.old) (K.took sink.new) result }
@@ -42,8 +42,9 @@ where
         → Accounted K.took name salt (S.left source.old) (S.left source.new) sink.old sink.new result }
     ensures few { (name salt : List ℕ) → task_of words.now ≡ Some (Make name salt) → ReadsAtMost 258 (S.left source.old) (S.left source.new) }
     ensures served { (w : Wanted) → task_of words.now ≡ Some (Serve w)
-        → Concluded w (S.left source.old) (S.left source.new) (tally (P.tapes ports.old) (P.links ports.old) (P.dice_faults ports.old))
-        (tally (P.tapes ports.new) (P.links ports.new) (P.dice_faults ports.new)) (K.took sink.old) (K.took sink.new) result }
+        → Concluded w (S.left source.old) (S.left source.new)
+        (tally (P.tapes ports.old) (P.links ports.old) (P.dice_faults ports.old) (P.address ports.old))
+        (tally (P.tapes ports.new) (P.links ports.new) (P.dice_faults ports.new) (P.address ports.new)) (K.took sink.old) (K.took sink.new) result }
     ensures drilled { (n key : ℕ) → task_of words.now ≡ Some (Drill n key) → Ends K.took n key sink.old sink.new result }
     ensures aside { (n key : ℕ) → task_of words.now ≡ Some (Drill n key) → (source.new ≡ source.old) × (ports.new ≡ ports.old) }
     ensures usage { result ≡ Status.Usage → task_of words.now ≡ None }

@@ -5,7 +5,7 @@ ghost use Rattle.account_book.specs.Fields.{salt_in};
 ghost use Rattle.clap.specs.Words.{HasMatchesOf, app_of, fault_of, first_of, found_of, is_simple_and_free, matches_of, rows_of, rule_of};
 ghost use Rattle.serve_words.specs.Grammars.{bare};
 ghost use Rattle.serve_words.specs.Options.{IsRefusal, is_value};
-ghost use Rattle.commands.specs.Commands.{HasWorker, Reads, account_task, drill_task, name_in, replay_task, serve_task, task, task_of};
+ghost use Rattle.commands.specs.Commands.{HasPlaces, Reads, account_task, drill_task, name_in, replay_task, serve_task, task, task_of};
 ghost use Rattle.commands.specs.Grammars.{Parses, pair_grammar, pair_in, wanted};
 
 use account_book::{LEAST_SALT, MOST_SALT};
@@ -37,7 +37,7 @@ pub enum Command {
 /// The command of these words. `Usage` comes exactly where they are none.
 pub fn read_words(alloc: Global, words: &[Text]) -> Result<Command, Status>
     ensures task { Reads task (task_of words.now) result }
-    ensures some { IfOk result HasWorker }
+    ensures places { IfOk result HasPlaces }
 {
     let Some((first, rest)) = words.split_first() else {
         return Err(Status::Usage);
@@ -60,7 +60,7 @@ pub fn read_words(alloc: Global, words: &[Text]) -> Result<Command, Status>
 /// `serve` with its options.
 fn read_serving(alloc: Global, words: &[Text]) -> Result<Command, Status>
     ensures task { Reads task (serve_task words.now) result }
-    ensures some { IfOk result HasWorker }
+    ensures places { IfOk result HasPlaces }
 {
     match read_serve(alloc, words) {
         Ok(serving) => Ok(Command::Serve(serving)),
@@ -71,7 +71,7 @@ fn read_serving(alloc: Global, words: &[Text]) -> Result<Command, Status>
 /// `replay` has no further words.
 fn read_replay(alloc: Global, words: &[Text]) -> Result<Command, Status>
     ensures task { Reads task (replay_task words.now) result }
-    ensures some { IfOk result HasWorker }
+    ensures places { IfOk result HasPlaces }
 {
     let texts = read_positionals(alloc, words)?;
     match parse_replay(alloc, texts.as_slice()) {
@@ -83,7 +83,7 @@ fn read_replay(alloc: Global, words: &[Text]) -> Result<Command, Status>
 /// `account NAME SALT`.
 fn read_account(alloc: Global, words: &[Text]) -> Result<Command, Status>
     ensures task { Reads task (account_task words.now) result }
-    ensures some { IfOk result HasWorker }
+    ensures places { IfOk result HasPlaces }
 {
     let texts = read_positionals(alloc, words)?;
     let (name, salt) = pair_values(alloc, texts.as_slice())?;
@@ -98,7 +98,7 @@ const MOST_ROUNDS: u64 = 100_000;
 /// `drill N KEY`.
 fn read_drill(alloc: Global, words: &[Text]) -> Result<Command, Status>
     ensures task { Reads task (drill_task words.now) result }
-    ensures some { IfOk result HasWorker }
+    ensures places { IfOk result HasPlaces }
 {
     let texts = read_positionals(alloc, words)?;
     let (n, key) = pair_values(alloc, texts.as_slice())?;

@@ -265,12 +265,11 @@ pub fn challenge(
 {
     let nonce = nonce_of(alloc, &dice)?;
     let user = prepared(alloc, hello.name())?;
+    // Made for every name, so that one with an account takes no less time.
+    let salt = accounts.decoy(user.as_slice());
     match accounts.find(user.as_slice()) {
         Some(account) => known(alloc, mechanism, hello, nonce.as_slice(), account),
-        None => {
-            let salt = accounts.decoy(user.as_slice());
-            unknown(alloc, mechanism, hello, nonce.as_slice(), salt)
-        }
+        None => unknown(alloc, mechanism, hello, nonce.as_slice(), salt),
     }
 }
 

@@ -18,7 +18,8 @@ use Rattle.conn_asks.specs.declared.failure.Failure.{Failure}
 use Rattle.conn_asks.specs.declared.failure.Failure.TheVariants as failure
 use Rattle.conn_asks.specs.declared.stream_error.StreamError.{StreamError}
 use Rattle.conn_asks.specs.declared.login.Exchanging.TheVariants.{Outside, Invited, Challenged}
-use Rattle.conn_asks.specs.declared.stage.Stage.TheVariants.{Login, Logged}
+use Rattle.conn_asks.specs.declared.stage.Stage.{Stage}
+use Rattle.conn_asks.specs.declared.stage.Stage.TheVariants.{Bound, Login, Logged}
 use Rattle.conn_asks.specs.declared.stage.Purpose.{Purpose}
 use Rattle.conn_asks.specs.declared.stage.Purpose.TheVariants.{Challenge, Bind, Enable}
 use Rattle.conn_asks.specs.StreamErrors.{error_of, error_text}
@@ -33,6 +34,12 @@ use Rattle.conn_flow.specs.declared.want.Want.{Want}
 use Rattle.conn_flow.specs.declared.want.Want.TheVariants.{Say, Submit, NeedDice, Await, Finish}
 use Rattle.stream_frames.specs.Limits.{limits}
 use Rattle.conn_flow.specs.Duties.{features_of, follows, id_of, is_idle, is_overdue, stage_after, stage_for}
+
+-- who logged in, if anybody did
+abbrev pub logged_user : Stage → Option (List ℕ)
+logged_user (Login x) = None
+logged_user (Logged user) = Some user
+logged_user (Bound user) = Some user
 
 -- a flow is what it reads and what it knows
 pub record State : Type 0 where

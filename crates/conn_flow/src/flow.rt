@@ -1,18 +1,19 @@
 //! A connection without its socket.
 
 ghost use Rattle.std.specs.Prelude.{◌≡◌, true, IfOk, OnErr, OnOk};
+ghost use Rattle.std.specs.Option.{option_copied};
 ghost use Rattle.stream_grammar.specs.machine.Reading.{handed, is_ready, waiting};
 ghost use Rattle.conn_asks.specs.declared.ended.Ended.TheVariants as ended;
 ghost use Rattle.conn_asks.specs.Texts.{stream_id};
 ghost use Rattle.conn_flow.specs.declared.phase.Phase.TheVariants as phase;
 ghost use Rattle.conn_flow.specs.Flows.{IsAfter, IsGoing, IsLoaded, IsReadyAt, IsTold, IsToldAll, Prepares, State, Takes, Wants};
-ghost use Rattle.conn_flow.specs.Flows.{fresh, gave_at, hears, hung_at, is_late, late_at, short_at, taken_of, told, waited};
+ghost use Rattle.conn_flow.specs.Flows.{fresh, gave_at, hears, hung_at, is_late, late_at, short_at, taken_of, logged_user, told, waited};
 
 use crate::phase::Phase;
 use crate::talk::Talk;
 use crate::want::Want;
 use account_book::Accounts;
-use conn_asks::{DRAW, Ended, stream_id};
+use conn_asks::{DRAW, Ended, Stage, stream_id};
 use house_model::Reply;
 use jid_core::Part;
 use stanza_tree::{NoMemory, Several};
@@ -134,6 +135,17 @@ impl Flow {
         ensures { result ≡ self.now.talk.moment }
     {
         self.talk.moment
+    }
+
+    /// Who logged in, if anybody did.
+    pub fn user(&self) -> Option<&Part>
+        ensures { option_copied result ≡ logged_user self.now.talk.stage }
+    {
+        match &self.talk.stage {
+            Stage::Login(_) => None,
+            Stage::Logged(user) => Some(user),
+            Stage::Bound(user) => Some(user),
+        }
     }
 
     /// Takes a piece up to the end of its first item, or all of it: how many bytes were taken. What is left is to be handed in again, at the

@@ -292,7 +292,7 @@ gone_unturned o a v x t fault line old new tape moments drawn f e d h served =
     subst (λ (y : List Turn). Gone o a v (tale tape y moments drawn f e d) ended.Spent) (sym (no_turn line x t fault old new served))
     (gone_without o a (tale tape (turns_of line old) moments drawn f e d) v x t h)
 
-open_turn : (line : ℕ) (fault : DeskFault) (old new : List Turn) → Served line (event.OpenLine line) [] (Err fault) old new
+pub open_turn : (line : ℕ) (fault : DeskFault) (old new : List Turn) → Served line (event.OpenLine line) [] (Err fault) old new
     → turns_of line new ≡ turns_of line old
 open_turn line desk.NoMemory old new h = absurd h.1
 open_turn line desk.Spent old new h = ap (turns_of line) h.1

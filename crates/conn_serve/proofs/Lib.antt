@@ -1,14 +1,14 @@
-mod Attending
-mod Cutting
-mod Entering
-mod Growing
-mod Laws
-mod Leaving
-mod Listening
-mod Marking
-mod Openings
-mod Passing
-mod Sending
-mod Skipping
-mod Standing
-mod Turning
+pub mod Attending
+pub mod Cutting
+pub mod Entering
+pub mod Growing
+pub mod Laws
+pub mod Leaving
+pub mod Listening
+pub mod Marking
+pub mod Openings
+pub mod Passing
+pub mod Sending
+pub mod Skipping
+pub mod Standing
+pub mod Turning

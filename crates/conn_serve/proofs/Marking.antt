@@ -94,7 +94,7 @@ spent_makes o v w (Enters turn) h = absurd h
 spent_makes o v w (Draws dice) h = absurd h
 
 -- no connection is to leave its line for want of a turn
-spent_left : (o : Site) (v : Duty) (moves : List Move) (w : Duty) (c : CausedFrom o v moves ended.Spent) → GoesThrough o v moves w
+pub spent_left : (o : Site) (v : Duty) (moves : List Move) (w : Duty) (c : CausedFrom o v moves ended.Spent) → GoesThrough o v moves w
     → w.due ≡ Left ended.Spent ∷ []
 spent_left o v moves w c through =
     let s : Split o v c.before (Stops ended.Spent) c.after w =
@@ -140,7 +140,7 @@ left_marked end x t old new is same = subst (λ (e : End). MarkedLeaving e x old
 pub unleft : (end : End) (x : Ended) (t : ℕ) (old new : Bool) → end ≡ Over x t → new ≡ true → MarkedLeaving end ended.Spent old new
 unleft end x t old new is set = subst (λ (e : End). MarkedLeaving e ended.Spent old new) (sym is) (inr (refl, set))
 
-keeps : (x : Ended) (marked : Bool) → (x ≡ ended.Spent → ⊥) → marked_at x marked ≡ marked
+pub keeps : (x : Ended) (marked : Bool) → (x ≡ ended.Spent → ⊥) → marked_at x marked ≡ marked
 keeps ended.Spent marked not = absurd (not refl)
 keeps ended.Closed marked not = refl
 keeps ended.Hung marked not = refl

@@ -135,7 +135,7 @@ read_once a b c d Later e h f = tt
 read_once a b c d Exhausts e h f = tt
 read_once a b c d (Ends x t) e h f = tt
 
-pub asked_once : (a b c : Option (List ℕ)) (round : Round) → b ≡ a → Asked b c → ReadOnce a c round
+pub asked_once : (a b c : Option (List ℕ)) (round : Round) → b ≡ a → ReadOnce b c round → ReadOnce a c round
 asked_once a b c Goes e h = (h.0, subst (λ (x : Option (List ℕ)). Tells ℕ x c (h.0 ∷ [])) e h.1)
 asked_once a b c More e h = tt
 asked_once a b c Later e h = tt

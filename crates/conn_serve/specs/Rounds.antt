@@ -88,6 +88,11 @@ abbrev pub ReadOnce : (before now : Option (List ℕ)) → Round → Type 0
 ReadOnce before now Goes = Asked before now
 ReadOnce before now round = Unit {0}
 
+-- so it was where the round goes on, or rests
+abbrev pub AskedIf : (before now : Option (List ℕ)) → Option Round → Type 0
+AskedIf before now None = Asked before now
+AskedIf before now (Some round) = ReadOnce before now round
+
 -- The count of Laters rises by one where a round stops for the link. It may where the connection ends, and nowhere else.
 
 abbrev pub Counts : (before now : ℕ) → Round → Type 0

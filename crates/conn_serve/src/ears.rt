@@ -1,6 +1,6 @@
 //! What was read of a link and is still to be heard.
 
-ghost use Rattle.std.specs.Prelude.{true, false, ◌≡◌, ◌≢◌, ◌≤◌, [], length, drop, IfOk};
+ghost use Rattle.std.specs.Prelude.{true, false, ◌≡◌, ◌≢◌, ◌≤◌, [], length, drop, IfOk, OnErr, Ok};
 ghost use Rattle.outside.specs.Devices.{Rose};
 ghost use Rattle.conn_serve.specs.Reading.{Refilled};
 
@@ -27,20 +27,19 @@ impl Model for Ears {
 
     ghost view = { λ e. take (e.to - e.from) (drop e.from e.buffer.items) };
 
-    ghost invariant = { λ e. (e.from ≤ e.to) × (e.to ≤ length e.buffer.items) × (0 < length e.buffer.items) };
+    ghost invariant = { λ e. (e.from ≤ e.to) × (e.to ≤ length e.buffer.items) };
 }
 
 impl Ears {
-    pub(crate) fn new(alloc: Global) -> Result<Ears, NoMemory>
-        ensures { IfOk result (λ ears. ears ≡ []) }
+    /// Nothing. Takes no memory: a reading takes what it needs.
+    pub fn new(alloc: Global) -> Ears
+        ensures { result ≡ [] }
     {
-        let mut buffer = Vec::new(alloc);
-        buffer.resize(ROOM, 0)?;
-        Ok(Ears {
-            buffer,
+        Ears {
+            buffer: Vec::new(alloc),
             from: 0,
             to: 0,
-        })
+        }
     }
 
     pub(crate) fn ahead(&self) -> &[u8]
@@ -72,21 +71,34 @@ impl Ears {
         self.to = 0;
     }
 
-    /// Reads what comes next, where all that was read was heard.
-    pub(crate) fn refill<L: Link>(&mut self, link: &mut L) -> Heard
-        ensures told { Refilled (L.tape link.old) (L.tape link.new) self.new result }
+    /// Gives its memory back, where nothing is left to be heard.
+    pub(crate) fn rest(&mut self, alloc: Global)
+        ensures { self.new ≡ self.old }
+    {
+        if self.is_empty() {
+            self.buffer = Vec::new(alloc);
+            self.from = 0;
+            self.to = 0;
+        }
+    }
+
+    /// Reads what comes next, where all that was read was heard. Nothing is read where there is no memory for it.
+    pub(crate) fn refill<L: Link>(&mut self, link: &mut L) -> Result<Heard, NoMemory>
+        ensures told { IfOk result (λ heard. Refilled (L.tape link.old) (L.tape link.new) self.new heard) }
         ensures kept { L.faults link.old ≤ L.faults link.new }
-        ensures cause { result ≡ Heard.Failed → Rose (L.faults link.old) (L.faults link.new) }
+        ensures cause { result ≡ Ok Heard.Failed → Rose (L.faults link.old) (L.faults link.new) }
         ensures ends_kept { L.ends link.old ≤ L.ends link.new }
-        ensures ended { result ≡ Heard.End → Rose (L.ends link.old) (L.ends link.new) }
+        ensures ended { result ≡ Ok Heard.End → Rose (L.ends link.old) (L.ends link.new) }
         ensures laters { L.laters link.new ≡ L.laters link.old }
+        ensures unread { OnErr result (link.new ≡ link.old) }
     {
         self.from = 0;
         self.to = 0;
+        self.buffer.resize(ROOM, 0)?;
         let heard = link.recv(self.buffer.as_mut_slice());
         if let Heard::Bytes(n) = heard {
             self.to = n;
         }
-        heard
+        Ok(heard)
     }
 }

@@ -16,6 +16,6 @@ mod worker;
 pub use ears::Ears;
 pub use owed::Owed;
 pub use round::Conn;
-pub use service::serve;
-pub use turn::Round;
+pub use service::{conclude, serve};
+pub use turn::{End, Round};
 pub use worker::{Worked, work};

@@ -6,7 +6,7 @@ ghost use Rattle.house_model.specs.Histories.{Turn};
 ghost use Rattle.conn_flow.specs.declared.phase.Phase.TheVariants as phase;
 ghost use Rattle.conn_flow.specs.Duties.{Site};
 ghost use Rattle.flow_laws.specs.Standing.{Place, duty};
-ghost use Rattle.conn_serve.specs.Rounds.{Asked, CountsIf, Turned, WasRead, marked_next, marked_step};
+ghost use Rattle.conn_serve.specs.Rounds.{AskedIf, CountsIf, Turned, WasRead, marked_next, marked_step};
 ghost use Rattle.conn_serve.specs.Serving.{HearsOn, IsAt, tale};
 
 use crate::ears::Ears;
@@ -49,7 +49,7 @@ pub(crate) fn hear_on(flow: &mut Flow, ears: &mut Ears) -> Next
     }
 }
 
-/// Reads once, where all that was read was heard, and has what comes heard. What comes too late for a login is not.
+/// Reads once, where all that was read was heard and there is memory for a reading, and has what comes heard. What comes too late for a login is not.
 pub(crate) fn read<L: Link, C: Clock>(
     link: &mut L,
     clock: &mut C,
@@ -61,11 +61,13 @@ pub(crate) fn read<L: Link, C: Clock>(
     ensures read { (o : Site) (p : Place) (turns : List Turn) (drawn : Option (List (List ℕ))) (dice : ℕ) → IsAt o p flow.old ears.old []
         → WasRead o (tale (L.tape link.old) turns (C.told clock.old) drawn (L.faults link.old) (L.ends link.old) dice) (duty o p)
         (tale (L.tape link.new) turns (C.told clock.new) drawn (L.faults link.new) (L.ends link.new) dice) flow.new ears.new [] result }
-    ensures once { Asked (C.told clock.old) (C.told clock.new) }
+    ensures once { AskedIf (C.told clock.old) (C.told clock.new) result }
     ensures counts { CountsIf (L.laters link.old) (L.laters link.new) result }
     ensures mark { (marked : Bool) → marked_step result marked ≡ marked }
 {
-    let heard = ears.refill(link);
+    let Ok(heard) = ears.refill(link) else {
+        return Some(Round::Ends(Ended::NoMemory, flow.moment()));
+    };
     let moment = clock.moment();
     match heard {
         Heard::Bytes(_) => {

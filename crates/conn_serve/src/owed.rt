@@ -60,7 +60,7 @@ impl Owed {
         &self.bytes[self.sent..]
     }
 
-    pub(crate) fn is_empty(&self) -> bool
+    pub fn is_empty(&self) -> bool
         ensures none { result ≡ true → self.now ≡ [] }
         ensures some { result ≡ false → self.now ≢ [] }
     {

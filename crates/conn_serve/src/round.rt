@@ -221,7 +221,7 @@ fn advance<W: Wait, D: Desk, L: Link, C: Clock, I: Dice>(
 
 impl Conn {
     /// Sends what an earlier round left and finishes that round, then reads once and handles what comes. `said` gathers what is said, and is empty
-    /// before and after. Where the link can take no byte, nothing more is handled, and the rest of what is owed is kept; memory may be wanting for
+    /// before and after. At rest the connection owns no memory for readings. Where the link can take no byte, nothing more is handled, and the rest of what is owed is kept; memory may be wanting for
     /// that. `More` comes so that others may have their round.
     pub fn round<W: Wait, D: Desk, L: Link, C: Clock, I: Dice>(
         &mut self,
@@ -268,7 +268,10 @@ impl Conn {
         match advance(
             rt, desk, pass, accounts, link, clock, dice, flow, ears, said,
         ) {
-            Round::Goes => Round::Goes,
+            Round::Goes => {
+                ears.rest(alloc);
+                Round::Goes
+            }
             Round::More => Round::More,
             Round::Later => match said.keep(alloc) {
                 Ok(left) => {

@@ -41,7 +41,7 @@ fn equip(
     ensures said { IfOk result (λ made. made.1 ≡ []) }
 {
     let said = Owed::with_room(alloc)?;
-    let ears = Ears::new(alloc)?;
+    let ears = Ears::new(alloc);
     let flow = Flow::new(alloc, line, domain, dice, moment)?;
     let left = Owed::new(alloc);
     Ok((Conn { flow, ears, left }, said))
@@ -105,7 +105,7 @@ fn leave<W: Wait, D: Desk>(
 }
 
 /// The line is left, if the connection ended while turns were left: how it ended then.
-fn conclude<W: Wait, D: Desk, L: Link>(
+pub fn conclude<W: Wait, D: Desk, L: Link>(
     rt: &W,
     desk: &D,
     pass: &mut D::Pass,

@@ -3,11 +3,13 @@ use Rattle.std.proofs.Common.{◌≡◌, ℕ, suc, ◌+◌, ◌^◌, ◌≤◌, 
 use Rattle.std.proofs.Common.{true, false, cond, eqb, refl, sym, ap, subst, ◌∙◌, arith}
 use Rattle.std.proofs.Math.Logic.{∥∥₁_map}
 use Rattle.std.proofs.Math.Seq.{take-append_seam}
-use Rattle.std.proofs.lemmas.List.Elements.{All-nil, All-cons, All-head, All-tail}
+use Rattle.std.proofs.lemmas.List.{map-append}
+use Rattle.std.proofs.lemmas.List.Elements.{All-nil, All-cons, All-head, All-tail, All-map}
 use Rattle.account_book.specs.Lists.{Book}
 use Rattle.house_model.specs.Histories.{StandsFor, Turn}
 use Rattle.house_model.specs.States.{Kept, State}
 use Rattle.house_model.proofs.SafeLaws.{safe}
+use Rattle.outside.specs.Posts.{all_of}
 use Rattle.turn_lock.specs.Histories.{StartsWith, counted, if_so, places}
 use Rattle.turn_lock.specs.Passes.{mine, number_of, refused, seen}
 use Rattle.hall.specs.declared.hall.Hall.{Hall}
@@ -16,11 +18,11 @@ use Rattle.hall.specs.Halls.{CameFrom, Closed, opening_state}
 use Rattle.hall.specs.Stories.{HallPass, line}
 use Rattle.conn_serve.specs.Connections.{site_of}
 use Rattle.conn_serve.specs.Shifts.{Attends}
-use Rattle.conn_staff.specs.Staffs.{AllEnded, Attended, Staffed, Telling, at_line, worked_by}
-use Rattle.conn_serve.specs.declared.worker.Worked.{Worked}
+use Rattle.conn_staff.specs.declared.roster.Worked.{Worked}
+use Rattle.conn_staff.specs.Staffs.{AllEnded, Attended, PostTelling, Staffed, Telling, at_line, places_of, worked_by}
+use Rattle.conn_staff.specs.Workers.{AllTended, AllWorked, Crew, Seat, Tended, post_of}
 use Rattle.std.specs.List.{list_any}
 use Rattle.std.specs.Prelude.{◌||◌}
-use Rattle.conn_staff.specs.Workers.{AllTended, Seat, Tended, seat}
 
 -- The turns that a pass has seen of its line are all that the history has of it.
 
@@ -84,9 +86,6 @@ passes_of l = map (λ s. s.pass) l
 abbrev pub told_of : List Seat → List Telling
 told_of l = map (λ s. s.told) l
 
-abbrev pub failed_of : List Seat → List Bool
-failed_of l = map (λ s. s.failed) l
-
 next_number : (n : ℕ) → suc n ≡ n + 1
 next_number n = omega arith
 
@@ -126,93 +125,172 @@ all_came hall accounts [] (b ∷ news) tended = absurd tended
 all_came hall accounts (a ∷ olds) [] tended = absurd tended
 all_came hall accounts (a ∷ olds) (b ∷ news) (first, rest) = All-cons (CameFrom hall) b.pass (passes_of news) first.came (all_came hall accounts olds news rest)
 
-one_more : (m n : ℕ) → m ≡ n → suc m ≡ suc n
-one_more m n h = ap suc h
-
-all_ended : (hall : Hall) (accounts : Book) (olds news : List Seat) → AllTended hall accounts olds news
-    → AllEnded (told_of olds) (told_of news) (failed_of news)
-all_ended hall accounts [] [] tended = tt
-all_ended hall accounts [] (b ∷ news) tended = absurd tended
-all_ended hall accounts (a ∷ olds) [] tended = absurd tended
-all_ended hall accounts (a ∷ olds) (b ∷ news) (first, rest) = (first.ended, all_ended hall accounts olds news rest)
-
 as_many : (hall : Hall) (accounts : Book) (olds news : List Seat) → AllTended hall accounts olds news → length news ≡ length olds
 as_many hall accounts [] [] tended = refl
 as_many hall accounts [] (b ∷ news) tended = absurd tended
 as_many hall accounts (a ∷ olds) [] tended = absurd tended
-as_many hall accounts (a ∷ olds) (b ∷ news) (first, rest) = one_more (length news) (length olds) (as_many hall accounts olds news rest)
+as_many hall accounts (a ∷ olds) (b ∷ news) (first, rest) = ap suc (as_many hall accounts olds news rest)
 
 passes_length : (l : List Seat) → length (passes_of l) ≡ length l
 passes_length [] = refl
 passes_length (s ∷ ss) = ap suc (passes_length ss)
 
+-- Worker by worker.
+
+abbrev pub seats_of : List Crew → List Seat
+seats_of crews = all_of (map (λ (c : Crew). c.seats) crews)
+
+abbrev pub failed_of : List Crew → List Bool
+failed_of crews = map (λ (c : Crew). c.failed) crews
+
+both : (hall : Hall) (accounts : Book) (xs more ys more' : List Seat) → AllTended hall accounts xs ys → AllTended hall accounts more more'
+    → AllTended hall accounts (xs ++ more) (ys ++ more')
+both hall accounts [] more [] more' first rest = rest
+both hall accounts [] more (y ∷ ys) more' first rest = absurd first
+both hall accounts (x ∷ xs) more [] more' first rest = absurd first
+both hall accounts (x ∷ xs) more (y ∷ ys) more' (one, next) rest = (one, both hall accounts xs more ys more' next rest)
+
+all_seats : (hall : Hall) (accounts : Book) (olds news : List Crew) → AllWorked hall accounts olds news
+    → AllTended hall accounts (seats_of olds) (seats_of news)
+all_seats hall accounts [] [] worked = tt
+all_seats hall accounts [] (b ∷ news) worked = absurd worked
+all_seats hall accounts (a ∷ olds) [] worked = absurd worked
+all_seats hall accounts (a ∷ olds) (b ∷ news) (first, rest) =
+    both hall accounts a.seats (seats_of olds) b.seats (seats_of news) first.tended (all_seats hall accounts olds news rest)
+
+all_ended : (hall : Hall) (accounts : Book) (olds news : List Crew) → AllWorked hall accounts olds news
+    → AllEnded (map post_of olds) (map post_of news) (failed_of news)
+all_ended hall accounts [] [] worked = tt
+all_ended hall accounts [] (b ∷ news) worked = absurd worked
+all_ended hall accounts (a ∷ olds) [] worked = absurd worked
+all_ended hall accounts (a ∷ olds) (b ∷ news) (first, rest) = (first.ended, all_ended hall accounts olds news rest)
+
+as_many_crews : (hall : Hall) (accounts : Book) (olds news : List Crew) → AllWorked hall accounts olds news → length news ≡ length olds
+as_many_crews hall accounts [] [] worked = refl
+as_many_crews hall accounts [] (b ∷ news) worked = absurd worked
+as_many_crews hall accounts (a ∷ olds) [] worked = absurd worked
+as_many_crews hall accounts (a ∷ olds) (b ∷ news) (first, rest) = ap suc (as_many_crews hall accounts olds news rest)
+
+-- what the places of all workers tell, place by place
+told_flat : (cs : List Crew) → told_of (seats_of cs) ≡ places_of (map post_of cs)
+told_flat [] = refl
+told_flat (c ∷ cs) =
+    map-append (λ (s : Seat). s.told) c.seats (seats_of cs) ∙ ap (λ (l : List Telling). told_of c.seats ++ l) (told_flat cs)
+
 -- what a slice of a vector has is written back
 pub written : (A : Type 0) (n : ℕ) (xs ys : List A) → n ≡ length xs → take n (xs ++ ys) ≡ xs
 written A n xs ys same = ap (λ (m : ℕ). take m (xs ++ ys)) same ∙ take-append_seam xs ys
 
-pub at_opening : (o hall : State) (accounts : Book) (before now : List Telling) (worked : Worked) (k : Kept) → hall ≡ o
+pub at_opening : (o hall : State) (accounts : Book) (before now : List PostTelling) (worked : Worked) (k : Kept) → hall ≡ o
     → Staffed hall accounts before now worked k → Staffed o accounts before now worked k
 at_opening o hall accounts before now worked k same s = subst (λ (v : State). Staffed v accounts before now worked k) same s
 
--- The workers of the code.
+-- Lists of what is seen of the elements.
 
-module _ {W P : Type 0} (pass : W → HallPass) (post : W → P) (tell : P → Telling) (failed : W → Bool) where
-  abbrev pub seats : List W → List Seat
-  seats ws = map (λ w. seat (pass w) (tell (post w)) (failed w)) ws
+pub un_map : (A B : Type 0) (f : A → B) (P : B → Type 0) (xs : List A) → All P (map f xs) → All (λ x. P (f x)) xs
+un_map A B f P [] all = All-nil (λ x. P (f x))
+un_map A B f P (x ∷ xs) all =
+    All-cons (λ x. P (f x)) x xs (All-head P (f x) (map f xs) all) (un_map A B f P xs (All-tail P (f x) (map f xs) all))
 
-  seats_pass : (ws : List W) → passes_of (seats ws) ≡ map pass ws
-  seats_pass [] = refl
-  seats_pass (w ∷ ws) = ap (λ (l : List HallPass). pass w ∷ l) (seats_pass ws)
+-- what holds of the ones holds of the others, which are seen as they are
+pub through : (A B X : Type 0) (f : A → X) (g : B → X) (P : X → Type 0) (xs : List A) (ys : List B) → map f xs ≡ map g ys → All (λ y. P (g y)) ys
+    → All (λ x. P (f x)) xs
+through A B X f g P xs ys same all = un_map A X f P xs (subst (All P) (sym same) (All-map P g ys all))
 
-  seats_tell : (ws : List W) → told_of (seats ws) ≡ map tell (map post ws)
-  seats_tell [] = refl
-  seats_tell (w ∷ ws) = ap (λ (l : List Telling). tell (post w) ∷ l) (seats_tell ws)
+pub map_both : (A B C : Type 0) (f : A → B) (g : B → C) (xs : List A) → map g (map f xs) ≡ map (λ x. g (f x)) xs
+map_both A B C f g [] = refl
+map_both A B C f g (x ∷ xs) = ap (λ (l : List C). g (f x) ∷ l) (map_both A B C f g xs)
 
-  seats_length : (ws : List W) → length (seats ws) ≡ length ws
-  seats_length [] = refl
-  seats_length (w ∷ ws) = ap suc (seats_length ws)
+front : (A : Type 0) (P : A → Type 0) (xs ys : List A) → All P (xs ++ ys) → All P xs
+front A P [] ys all = All-nil P
+front A P (x ∷ xs) ys all = All-cons P x xs (All-head P x (xs ++ ys) all) (front A P xs ys (All-tail P x (xs ++ ys) all))
 
-  seats_failed : (ws : List W) → list_any (λ b. b) (failed_of (seats ws)) ≡ list_any failed ws
-  seats_failed [] = refl
-  seats_failed (w ∷ ws) = ap (λ (b : Bool). failed w || b) (seats_failed ws)
+back : (A : Type 0) (P : A → Type 0) (xs ys : List A) → All P (xs ++ ys) → All P ys
+back A P [] ys all = all
+back A P (x ∷ xs) ys all = back A P xs ys (All-tail P x (xs ++ ys) all)
 
-  pub all_at : (hall : Hall) (ws : List W) (passes : List HallPass) → map pass ws ≡ passes → All (CameFrom hall) passes → All (λ w. CameFrom hall (pass w)) ws
-  all_at hall [] passes same came = All-nil (λ w. CameFrom hall (pass w))
-  all_at hall (w ∷ ws) passes same came =
-      let all : All (CameFrom hall) (pass w ∷ map pass ws) = subst (All (CameFrom hall)) (sym same) came in
-      All-cons (λ w. CameFrom hall (pass w)) w ws (All-head (CameFrom hall) (pass w) (map pass ws) all)
-      (all_at hall ws (map pass ws) refl (All-tail (CameFrom hall) (pass w) (map pass ws) all))
+-- what holds of all places holds of those of each worker
+pub of_each : (A B : Type 0) (of : A → List B) (P : B → Type 0) (xs : List A) (all : List B) → all_of (map of xs) ≡ all → All P all
+    → All (λ x. All P (of x)) xs
+of_each A B of P [] all same holds = All-nil (λ x. All P (of x))
+of_each A B of P (x ∷ xs) all same holds =
+    let here : All P (of x ++ all_of (map of xs)) = subst (All P) (sym same) holds in
+    All-cons (λ x. All P (of x)) x xs (front B P (of x) (all_of (map of xs)) here)
+    (of_each A B of P xs (all_of (map of xs)) refl (back B P (of x) (all_of (map of xs)) here))
 
-  pub came_after : (hall : Hall) (accounts : Book) (olds news : List W) (left : List HallPass) → AllTended hall accounts (seats olds) (seats news)
-      → left ≡ map pass news
-      → All (CameFrom hall) left
-  came_after hall accounts olds news left tended same =
-      subst (All (CameFrom hall)) (seats_pass news ∙ sym same) (all_came hall accounts (seats olds) (seats news) tended)
+-- The workers of the code, by what is seen of them.
 
-  pub many_after : (hall : Hall) (accounts : Book) (olds news : List W) → AllTended hall accounts (seats olds) (seats news) → length news ≡ length olds
-  many_after hall accounts olds news tended = sym (seats_length news) ∙ as_many hall accounts (seats olds) (seats news) tended ∙ seats_length olds
+module _ {W X : Type 0} (crew : W → Crew) (passes : W → List HallPass) (pair : W → X) (tell : X → PostTelling)
+    (by_pass : (w : W) → passes_of (crew w).seats ≡ passes w) (by_tell : (w : W) → post_of (crew w) ≡ tell (pair w)) where
+  pub passes_flat : (ws : List W) → passes_of (seats_of (map crew ws)) ≡ all_of (map passes ws)
+  passes_flat [] = refl
+  passes_flat (w ∷ ws) =
+      map-append (λ (s : Seat). s.pass) (crew w).seats (seats_of (map crew ws))
+      ∙ ap (λ (l : List HallPass). l ++ passes_of (seats_of (map crew ws))) (by_pass w)
+      ∙ ap (λ (l : List HallPass). passes w ++ l) (passes_flat ws)
 
-  pub staffed : (hall : Hall) (accounts : Book) (olds news : List W) (passes left : List HallPass) (posts back : List P) (worked : Worked) (k : Kept)
-      → AllTended hall accounts (seats olds) (seats news) → map pass olds ≡ passes → map post olds ≡ posts → left ≡ map pass news → back ≡ map post news
-      → map number_of passes ≡ counted 0 (length posts) → length passes ≡ length posts → All Fresh passes → worked ≡ worked_by (list_any failed news)
-      → Closed hall left k → Staffed (opening_state hall) accounts (map tell posts) (map tell back) worked k
-  staffed hall accounts olds news passes left posts back worked k tended same_passes same_posts left_is back_is numbers pairs fresh worked_is
+  posts_same : (ws : List W) → map post_of (map crew ws) ≡ map tell (map pair ws)
+  posts_same [] = refl
+  posts_same (w ∷ ws) =
+      ap (λ (p : PostTelling). p ∷ map post_of (map crew ws)) (by_tell w) ∙ ap (λ (l : List PostTelling). tell (pair w) ∷ l) (posts_same ws)
+
+  crews_length : (ws : List W) → length (map crew ws) ≡ length ws
+  crews_length [] = refl
+  crews_length (w ∷ ws) = ap suc (crews_length ws)
+
+  failed_same : (ws : List W) → list_any (λ b. b) (failed_of (map crew ws)) ≡ list_any (λ w. (crew w).failed) ws
+  failed_same [] = refl
+  failed_same (w ∷ ws) = ap (λ (b : Bool). (crew w).failed || b) (failed_same ws)
+
+  pub many_after : (hall : Hall) (accounts : Book) (olds news : List W) → AllWorked hall accounts (map crew olds) (map crew news)
+      → length news ≡ length olds
+  many_after hall accounts olds news worked =
+      sym (crews_length news) ∙ as_many_crews hall accounts (map crew olds) (map crew news) worked ∙ crews_length olds
+
+  -- they have as many passes as before, all from the hall
+  pub passes_after : (hall : Hall) (accounts : Book) (olds news : List W) → AllWorked hall accounts (map crew olds) (map crew news)
+      → length (all_of (map passes news)) ≡ length (all_of (map passes olds))
+  passes_after hall accounts olds news worked =
+      let old : length (all_of (map passes olds)) ≡ length (seats_of (map crew olds))
+      = ap length (sym (passes_flat olds)) ∙ passes_length (seats_of (map crew olds)) in
+      let new : length (all_of (map passes news)) ≡ length (seats_of (map crew news))
+      = ap length (sym (passes_flat news)) ∙ passes_length (seats_of (map crew news)) in
+      new ∙ as_many hall accounts (seats_of (map crew olds)) (seats_of (map crew news)) (all_seats hall accounts (map crew olds) (map crew news) worked)
+      ∙ sym old
+
+  pub came_after : (hall : Hall) (accounts : Book) (olds news : List W) (left : List HallPass)
+      → AllWorked hall accounts (map crew olds) (map crew news) → left ≡ all_of (map passes news) → All (CameFrom hall) left
+  came_after hall accounts olds news left worked same =
+      subst (All (CameFrom hall)) (passes_flat news ∙ sym same)
+      (all_came hall accounts (seats_of (map crew olds)) (seats_of (map crew news)) (all_seats hall accounts (map crew olds) (map crew news) worked))
+
+  pub staffed : (hall : Hall) (accounts : Book) (olds news : List W) (from left : List HallPass) (posts given : List X) (worked : Worked) (k : Kept)
+      → AllWorked hall accounts (map crew olds) (map crew news) → all_of (map passes olds) ≡ from → map pair olds ≡ posts
+      → left ≡ all_of (map passes news) → given ≡ map pair news → map number_of from ≡ counted 0 (length from) → All Fresh from
+      → worked ≡ worked_by (list_any (λ w. (crew w).failed) news) → Closed hall left k
+      → Staffed (opening_state hall) accounts (map tell posts) (map tell given) worked k
+  staffed hall accounts olds news from left posts given worked k tended same_passes same_posts left_is given_is numbers fresh worked_is
       (h, stands, closes, most) =
-      let first : passes_of (seats olds) ≡ passes = seats_pass olds ∙ same_passes in
-      let last : left ≡ passes_of (seats news) = left_is ∙ sym (seats_pass news) in
-      let count : length posts ≡ length (seats olds) = sym pairs ∙ sym (ap length first) ∙ passes_length (seats olds) in
+      let before : List Seat = seats_of (map crew olds) in
+      let now : List Seat = seats_of (map crew news) in
+      let first : passes_of before ≡ from = passes_flat olds ∙ same_passes in
+      let last : left ≡ passes_of now = left_is ∙ sym (passes_flat news) in
+      let count : length from ≡ length before = sym (ap length first) ∙ passes_length before in
+      let old_posts : map post_of (map crew olds) ≡ map tell posts = posts_same olds ∙ ap (map tell) same_posts in
+      let new_posts : map post_of (map crew news) ≡ map tell given = posts_same news ∙ ap (map tell) (sym given_is) in
       record {
         history = h;
         stands = stands;
-        failed = failed_of (seats news);
-        ended = subst (λ (l : List Telling). AllEnded l (map tell back) (failed_of (seats news))) (seats_tell olds ∙ ap (map tell) same_posts)
-            (subst (λ (l : List Telling). AllEnded (told_of (seats olds)) l (failed_of (seats news))) (seats_tell news ∙ ap (map tell) (sym back_is))
-            (all_ended hall accounts (seats olds) (seats news) tended));
-        worked_is = worked_is ∙ ap worked_by (sym (seats_failed news));
+        failed = failed_of (map crew news);
+        ended = subst (λ (l : List PostTelling). AllEnded l (map tell given) (failed_of (map crew news))) old_posts
+            (subst (λ (l : List PostTelling). AllEnded (map post_of (map crew olds)) l (failed_of (map crew news))) new_posts
+            (all_ended hall accounts (map crew olds) (map crew news) tended));
+        worked_is = worked_is ∙ ap worked_by (sym (failed_same news));
         safe = ∥∥₁_map stands (λ (s : StandsFor (opening_state hall) h k). safe (opening_state hall) h s.starts s.legal);
-        each = subst (λ (l : List Telling). Attended (opening_state hall) accounts h 0 l (map tell back)) (seats_tell olds ∙ ap (map tell) same_posts)
-            (subst (λ (l : List Telling). Attended (opening_state hall) accounts h 0 (told_of (seats olds)) l) (seats_tell news ∙ ap (map tell) (sym back_is))
-            (attended hall accounts h 0 (seats olds) (seats news) tended
+        each = subst (λ (l : List Telling). Attended (opening_state hall) accounts h 0 l (places_of (map tell given)))
+            (told_flat (map crew olds) ∙ ap places_of old_posts)
+            (subst (λ (l : List Telling). Attended (opening_state hall) accounts h 0 (told_of before) l) (told_flat (map crew news) ∙ ap places_of new_posts)
+            (attended hall accounts h 0 before now (all_seats hall accounts (map crew olds) (map crew news) tended)
             (ap (map number_of) first ∙ numbers ∙ ap (counted 0) count)
             (subst (All Fresh) (sym first) fresh)
             (subst (All (λ p. StartsWith h (seen p))) last closes.history)

@@ -1,2 +1,6 @@
+mod Crews
 mod Gathering
+mod Places
+mod Sending
+mod Steps
 mod Tending

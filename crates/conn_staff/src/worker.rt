@@ -1,43 +1,74 @@
 //! One worker.
 
-ghost use Rattle.hall.specs.Halls.{CameFrom};
-ghost use Rattle.conn_staff.specs.Staffs.{telling};
-ghost use Rattle.conn_staff.specs.Workers.{Tended, seat};
+ghost use Rattle.std.specs.Prelude.{◌≡◌, ℕ};
+ghost use Rattle.outside.specs.Polls.{AreSame, seats};
+ghost use Rattle.conn_staff.specs.Workers.{HasWorked, IsFit, IsReady, crew_of};
 
 use account_book::Accounts;
-use conn_serve::{Worked, work};
+use conn_serve::Owed;
 use hall::{Hall, Pass};
-use outside::{Clock, Dice, Door, Post};
+use many_links::{ManyEnded, Place, serve_many};
+use outside::{Clock, Dice, Poller, Sources};
 use std::alloc::Global;
 use std::sync::Wait;
 
-/// A worker, with its pass and its post, and whether its door failed.
+/// A worker, with its poller and the places of its links, with room for their sources when it is done, and with what it is saying; and whether its
+/// poller failed.
 #[derive(Drop)]
-pub(crate) struct Worker<G, C, I> {
-    pub(crate) pass: Pass,
-    pub(crate) post: Post<G, C, I>,
+pub(crate) struct Worker<P, L, C, I> {
+    pub(crate) poller: P,
+    pub(crate) places: Vec<Place<Pass, L, C, I>>,
+    pub(crate) sources: Vec<Sources<C, I>>,
+    pub(crate) said: Owed,
     pub(crate) failed: bool,
 }
 
-/// Serves the links of a worker's post until there are no more.
-pub(crate) fn tend<R: Wait, G: Door, C: Clock, I: Dice>(
+/// Tells that the poller of a worker failed, where there is memory for it.
+fn tell_fault<P: Poller>(alloc: Global, number: usize, poller: &mut P)
+    ensures seats { AreSame (seats (P.taken poller.old) (P.came poller.old) (P.links poller.old))
+        (seats (P.taken poller.new) (P.came poller.new) (P.links poller.new)) }
+    ensures tapes { (k : ℕ) → P.tapes poller.new k ≡ P.tapes poller.old k }
+    ensures places { P.places poller.new ≡ P.places poller.old }
+    ensures quota { P.quota poller.new ≡ P.quota poller.old }
+    ensures faults { P.faults poller.new ≡ P.faults poller.old }
+{
+    if let Ok(text) = format!(in alloc; "xmppd: worker {number} ended: listen fault\n") {
+        poller.note(text.as_str());
+    }
+}
+
+/// Serves the links of a worker's poller until there are no more, and tells at once where the poller failed.
+pub(crate) fn tend<R: Wait, P: Poller, C: Clock, I: Dice>(
     rt: &R,
     alloc: Global,
     hall: &Hall,
     accounts: &Accounts,
-    worker: &mut Worker<G, C, I>,
+    is_quiet: bool,
+    number: usize,
+    worker: &mut Worker<P, P::Link, C, I>,
 )
-    requires { CameFrom hall.now worker.old.pass }
-    ensures { Tended hall.now accounts.now
-        (seat worker.old.pass (telling (G.tapes worker.old.post.door) (C.told worker.old.post.clock) (I.drawn worker.old.post.dice)
-        (G.links worker.old.post.door) (G.faults worker.old.post.door) (G.quota worker.old.post.door) (I.faults worker.old.post.dice)) worker.old.failed)
-        (seat worker.new.pass (telling (G.tapes worker.new.post.door) (C.told worker.new.post.clock) (I.drawn worker.new.post.dice)
-        (G.links worker.new.post.door) (G.faults worker.new.post.door) (G.quota worker.new.post.door) (I.faults worker.new.post.dice)) worker.new.failed) }
+    requires ready { IsReady P P.Link C I P.places P.taken hall.now worker.old }
+    ensures fit { IsFit P P.Link C I P.places worker.new }
+    ensures worked { HasWorked hall.now accounts.now
+        (crew_of P P.Link C I P.tapes P.came P.links P.faults P.quota C.told I.drawn I.faults worker.old)
+        (crew_of P P.Link C I P.tapes P.came P.links P.faults P.quota C.told I.drawn I.faults worker.new) }
 {
-    let post = &mut worker.post;
-    let worked = work(rt, alloc, hall, &mut worker.pass, accounts, post);
-    worker.failed = match worked {
-        Worked::Shut => false,
-        Worked::DoorFault => true,
-    };
+    let places = &mut worker.places;
+    let said = &mut worker.said;
+    match serve_many(
+        rt,
+        alloc,
+        hall,
+        places,
+        accounts,
+        &mut worker.poller,
+        said,
+        is_quiet,
+    ) {
+        ManyEnded::Shut => worker.failed = false,
+        ManyEnded::PollFault => {
+            worker.failed = true;
+            tell_fault(alloc, number, &mut worker.poller);
+        }
+    }
 }

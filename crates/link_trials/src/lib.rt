@@ -5,6 +5,5 @@
 #[cfg(test)]
 mod servers;
 #[cfg(test)]
-mod staff;
 #[cfg(test)]
 mod words;

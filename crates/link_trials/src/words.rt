@@ -8,29 +8,45 @@ use std::alloc::Global;
 use std::process::Abort;
 use std::test::Fail;
 
-const TAKEN: [(&[&[u8]], &[u8], u16, u32, u64); 6] = [
-    (&[], b"localhost", 5222, 4, 0),
-    (&[b"--port", b"15222"], b"localhost", 15222, 4, 0),
+/// Words; the domain, and the port, workers, links, connections and whether it is quiet.
+type Taken = (
+    &'static [&'static [u8]],
+    &'static [u8],
+    (u16, u32, u32, u64, bool),
+);
+
+const TAKEN: [Taken; 9] = [
+    (&[], b"localhost", (5222, 4, 256, 0, false)),
+    (
+        &[b"--port", b"15222"],
+        b"localhost",
+        (15222, 4, 256, 0, false),
+    ),
     (
         &[b"--port=15222", b"--workers=2"],
         b"localhost",
-        15222,
-        2,
-        0,
+        (15222, 2, 256, 0, false),
     ),
     (
         &[b"--connections", b"1000000", b"--domain=example.org"],
         b"example.org",
-        5222,
-        4,
-        1_000_000,
+        (5222, 4, 256, 1_000_000, false),
     ),
     (
         &[b"--workers", b"064", b"--port=0000000000000000000000001"],
         b"localhost",
-        1,
-        64,
-        0,
+        (1, 64, 16, 0, false),
+    ),
+    (&[b"--workers=5"], b"localhost", (5222, 5, 204, 0, false)),
+    (
+        &[b"--quiet", b"--links", b"1", b"--workers", b"64"],
+        b"localhost",
+        (5222, 64, 1, 0, true),
+    ),
+    (
+        &[b"--links=256", b"--quiet"],
+        b"localhost",
+        (5222, 4, 256, 0, true),
     ),
     (
         &[
@@ -43,13 +59,11 @@ const TAKEN: [(&[&[u8]], &[u8], u16, u32, u64); 6] = [
             b"65535",
         ],
         b"example.org",
-        65535,
-        1,
-        7,
+        (65535, 1, 256, 7, false),
     ),
 ];
 
-const REFUSED: [&[&[u8]]; 17] = [
+const REFUSED: [&[&[u8]]; 25] = [
     &[b"5222"],
     &[b"--"],
     &[b"--port"],
@@ -62,6 +76,14 @@ const REFUSED: [&[&[u8]]; 17] = [
     &[b"--port", b"18446744073709556838"],
     &[b"--port", b"1", b"--port=2"],
     &[b"--workers", b"65"],
+    &[b"--links", b"0"],
+    &[b"--links", b"257"],
+    &[b"--links", b"256", b"--workers", b"5"],
+    &[b"--links", b"1", b"--links", b"1"],
+    &[b"--quiet", b"--quiet"],
+    &[b"--quiet", b"yes"],
+    &[b"--quiet=yes"],
+    &[b"--port", b"--quiet"],
     &[b"--connections", b"1000001"],
     &[b"--domain", b"Example.org"],
     &[b"--domain", b"alice@example.org"],
@@ -82,13 +104,19 @@ fn takes<R: Abort>(
     alloc: Global,
     words: &[&[u8]],
     domain: &[u8],
-    numbers: (u16, u32, u64),
+    numbers: (u16, u32, u32, u64, bool),
 ) -> Result<(), Fail> {
     match read(alloc, words)? {
         Ok(serving) => {
             assert!(rt; serving.domain.domain.bytes() == domain);
             assert_eq!(rt;
-                (serving.port, serving.workers, serving.connections),
+                (
+                    serving.port,
+                    serving.workers,
+                    serving.links,
+                    serving.connections,
+                    serving.quiet
+                ),
                 numbers
             );
         }
@@ -99,8 +127,8 @@ fn takes<R: Abort>(
 
 #[test]
 fn words_are_read(rt: HostRuntime) -> Result<(), Fail> {
-    for (words, domain, port, workers, connections) in TAKEN {
-        takes(&rt, rt.alloc(), words, domain, (port, workers, connections))?;
+    for (words, domain, numbers) in TAKEN {
+        takes(&rt, rt.alloc(), words, domain, numbers)?;
     }
     for words in REFUSED {
         match read(rt.alloc(), words)? {

@@ -1,1 +1,2 @@
+mod PollLemmas
 pub mod PostLemmas

@@ -2,7 +2,9 @@
 #![tactic(auto)]
 
 mod link;
+mod poller;
 mod ports;
 
-pub use link::{MeetDoor, MeetLink};
-pub use ports::MeetPorts;
+pub use link::MeetLink;
+pub use poller::MeetPoller;
+pub use ports::{MeetPorts, MeetPost};

@@ -1,16 +1,14 @@
-//! A link whose second reading returns once that of another link has begun, and its door.
+//! A link whose second reading returns once that of another link has begun.
 
 ghost use Rattle.std.specs.Prelude.{◌≡◌, ◌≢◌, ◌<◌, ◌≤◌, None, length};
 ghost use Rattle.outside.specs.Devices.{Rose};
-ghost use Rattle.outside.specs.Doors.{Comes};
 ghost use Rattle.outside.specs.Links.{HeardFits, SentFits};
-ghost use Rattle.meeting_ports.specs.Meetings.{LinkCounts};
 
-use outside::{Came, Door, Heard, Link, Sent};
+use outside::{Heard, Link, Sent};
 use std::alloc::Global;
 use std::marker::Model;
+use std::sync::Arc;
 use std::sync::atomic::{AtomicU64, Ordering};
-use std::sync::{Arc, Wait};
 use std::thread;
 
 const HEADER: &[u8] =
@@ -147,95 +145,4 @@ impl Link for MeetLink {
         ensures faults { self.new.faults ≡ self.old.faults }
         ensures ends { self.new.ends ≡ self.old.ends }
     {}
-}
-
-/// A door with one link.
-#[derive(Drop)]
-pub struct MeetDoor {
-    link: Option<MeetLink>,
-    faults: u64,
-    links: u64,
-    quota: u64,
-}
-
-impl Model for MeetDoor {
-    ghost use Rattle.meeting_ports.specs.Meetings.{DoorCounts};
-
-    ghost Value = { DoorCounts };
-
-    ghost view = { λ d. record { faults = d.faults; links = d.links; quota = d.quota } };
-}
-
-impl MeetDoor {
-    /// A door with this link, which is to hand out so many; 0 is without end.
-    pub fn new(link: MeetLink, quota: u64) -> MeetDoor
-        ensures { result ≡ record { faults = 0; links = 0; quota = quota } }
-    {
-        MeetDoor {
-            link: Some(link),
-            faults: 0,
-            links: 0,
-            quota,
-        }
-    }
-
-    /// How often it failed.
-    pub fn faults(&self) -> u64
-        ensures { result ≡ self.now.faults }
-    {
-        self.faults
-    }
-
-    /// How many links it handed out.
-    pub fn links(&self) -> u64
-        ensures { result ≡ self.now.links }
-    {
-        self.links
-    }
-
-    /// Its link, where it isn't handed out.
-    pub fn link(&self) -> Option<&MeetLink> {
-        self.link.as_ref()
-    }
-}
-
-impl Door for MeetDoor {
-    type Link = MeetLink;
-
-    ghost tapes = { λ _. None };
-
-    ghost faults = { λ d. d.faults };
-
-    ghost links = { λ d. d.links };
-
-    ghost quota = { λ d. d.quota };
-
-    fn accept<R: Wait>(&mut self, _rt: &R) -> Came<MeetLink>
-        ensures comes { Comes LinkCounts self.old.quota self.old.links self.new.links result }
-        ensures quota { self.new.quota ≡ self.old.quota }
-        ensures kept { self.old.faults ≤ self.new.faults }
-        ensures cause { result ≡ Came.Failed → Rose self.old.faults self.new.faults }
-    {
-        if self.quota != 0 && self.links >= self.quota {
-            return Came::Shut;
-        }
-        match self.link.take() {
-            Some(link) => {
-                self.links = self.links.saturating_add(1);
-                Came::Link(link)
-            }
-            None => {
-                self.faults = self.faults.saturating_add(1);
-                Came::Failed
-            }
-        }
-    }
-
-    fn done(&mut self, link: MeetLink)
-        ensures faults { self.new.faults ≡ self.old.faults }
-        ensures links { self.new.links ≡ self.old.links }
-        ensures quota { self.new.quota ≡ self.old.quota }
-    {
-        self.link = Some(link);
-    }
 }

@@ -9,7 +9,9 @@ use stanza_tree::Text;
 use std::alloc::Global;
 use std::io::{Read, Write};
 use std::net::{IpAddr, Ipv4Addr, Net, SocketAddr, TcpStream};
+use std::sync::Wait;
 use std::test::Fail;
+use std::thread::Threads;
 use std::time::Duration;
 use std::{io, thread, time};
 
@@ -32,12 +34,14 @@ fn words_of(alloc: Global, words: &[&[u8]]) -> Result<Vec<Text>, Fail> {
 // while it reads, says no close tag to one of them.
 #[test]
 fn links_that_meet_are_served(rt: HostRuntime) -> Result<(), Fail> {
-    let words: [&[u8]; 7] = [
+    let words: [&[u8]; 9] = [
         b"serve",
         b"--domain",
         b"example.org",
         b"--workers",
         b"2",
+        b"--links",
+        b"1",
         b"--connections",
         b"1",
     ];
@@ -51,7 +55,7 @@ fn links_that_meet_are_served(rt: HostRuntime) -> Result<(), Fail> {
     assert_eq!(rt; ports.back().len(), 2);
     for post in ports.back() {
         let said = post
-            .door
+            .poller
             .link()
             .map(|link| link.said().ends_with(CLOSE_TAG));
         assert_eq!(rt; said, Some(true));
@@ -95,9 +99,13 @@ fn visit<R: Net<Stream = TcpStream> + time::Clock>(rt: &R, alloc: Global) -> io:
 }
 
 // Two clients, each of which ends its stream when both were answered.
-fn meet<R: Net<Stream = TcpStream> + time::Clock>(rt: &R, alloc: Global) -> io::Result<bool> {
-    let mut first = connect(rt, 15223)?;
-    let mut second = connect(rt, 15223)?;
+fn meet<R: Net<Stream = TcpStream> + time::Clock>(
+    rt: &R,
+    alloc: Global,
+    port: u16,
+) -> io::Result<bool> {
+    let mut first = connect(rt, port)?;
+    let mut second = connect(rt, port)?;
     first.write_all(HEADER)?;
     second.write_all(HEADER)?;
     let first_hears = hears(alloc, &mut first, FEATURES)?;
@@ -138,28 +146,50 @@ fn serves_a_client_over_tcp(rt: HostRuntime) -> Result<(), Fail> {
     Ok(())
 }
 
+// Whether two clients that meet at a server of these words are served, each to its end.
+fn serves_two<R: Threads + Wait + Sync + Net<Stream = TcpStream> + time::Clock>(
+    rt: &R,
+    alloc: Global,
+    ports: &mut NetPorts<HostRuntime>,
+    words: &[&[u8]],
+    port: u16,
+) -> Result<bool, Fail> {
+    let words = words_of(alloc, words)?;
+    let mut source = MemSource::new(Vec::new(alloc), 1, Vec::new(alloc));
+    let mut sink = MemSink::new(alloc, 100, 100, Vec::new(alloc))?;
+    let (status, met) = thread::join(
+        rt,
+        || run(rt, alloc, words.as_slice(), &mut source, &mut sink, ports),
+        || meet(rt, alloc, port),
+    );
+    Ok(met? && status == Status::Done && sink.bytes().starts_with(b"links 2 turns "))
+}
+
 #[test]
-fn serves_two_clients_at_once(rt: HostRuntime) -> Result<(), Fail> {
-    let words: [&[u8]; 4] = [
+fn two_workers_serve_two_clients_at_once(rt: HostRuntime) -> Result<(), Fail> {
+    let words: [&[u8]; 5] = [
         b"serve",
         b"--port=15223",
         b"--workers=2",
+        b"--links=1",
         b"--connections=1",
     ];
-    let words = words_of(rt.alloc(), &words)?;
-    let mut source = MemSource::new(Vec::new(rt.alloc()), 1, Vec::new(rt.alloc()));
-    let mut sink = MemSink::new(rt.alloc(), 100, 100, Vec::new(rt.alloc()))?;
     let mut ports = NetPorts::new(rt.clone()?);
-    let (status, met) = thread::join(
-        &rt,
-        || {
-            let words = words.as_slice();
-            run(&rt, rt.alloc(), words, &mut source, &mut sink, &mut ports)
-        },
-        || meet(&rt, rt.alloc()),
-    );
-    assert!(rt; met?);
-    assert_eq!(rt; status, Status::Done);
-    assert!(rt; sink.bytes().starts_with(b"links 2 turns "));
+    assert!(rt; serves_two(&rt, rt.alloc(), &mut ports, &words, 15223)?);
+    Ok(())
+}
+
+#[test]
+fn one_worker_serves_two_clients_at_once(rt: HostRuntime) -> Result<(), Fail> {
+    let words: [&[u8]; 6] = [
+        b"serve",
+        b"--port=15224",
+        b"--workers=1",
+        b"--links=2",
+        b"--connections=2",
+        b"--quiet",
+    ];
+    let mut ports = NetPorts::new(rt.clone()?);
+    assert!(rt; serves_two(&rt, rt.alloc(), &mut ports, &words, 15224)?);
     Ok(())
 }

@@ -1,10 +1,11 @@
 //! Each form as it is, over loopback.
 
 use outside::{
-    Came, Clock, Dice, Door, Filled, Got, Heard, Link, ListenFault, Ports, Put, Sent, Sink, Source,
+    Clock, Dice, Filled, Got, Heard, Link, ListenFault, Poller, Ports, Put, Ring, Sent, Sink,
+    Source,
 };
 use outside_net::{
-    NetPorts, ReaderSource, SystemClock, SystemDice, TcpDoor, TcpLink, TcpPost, WriterSink,
+    NetPorts, ReaderSource, SystemClock, SystemDice, TcpLink, TcpPoller, TcpPost, WriterSink,
 };
 use stanza_tree::Text;
 use std::io::{ErrorKind, Read, Write};
@@ -18,72 +19,96 @@ use std::{io, thread, time};
 
 type HostPost = TcpPost<HostRuntime>;
 
-type HostLink = TcpLink<HostRuntime>;
+type HostPoller = TcpPoller<HostRuntime>;
 
 // Posts at a port that the system chooses.
-fn posts_of(rt: &HostRuntime, workers: u32, quota: u64) -> Result<Vec<HostPost>, Fail> {
+fn posts_of(
+    rt: &HostRuntime,
+    workers: u32,
+    places: u32,
+    quota: u64,
+) -> Result<Vec<HostPost>, Fail> {
     let address = Text::of(rt.alloc(), b"127.0.0.1:0")?;
-    Ok(NetPorts::new(rt.clone()?).listen(rt.alloc(), &address, workers, quota)?)
+    Ok(NetPorts::new(rt.clone()?).pollers(rt.alloc(), &address, workers, places, quota)?)
 }
 
-fn address_of(posts: &[HostPost]) -> Result<SocketAddr, Fail> {
-    match posts.first() {
-        Some(post) => Ok(post.door.local_addr()?),
+// One poller with so many places.
+fn poller_of(rt: &HostRuntime, places: u32) -> Result<HostPoller, Fail> {
+    match posts_of(rt, 1, places, 0)?.pop() {
+        Some(post) => Ok(post.poller),
         None => Err(Fail::new("no post")),
     }
 }
 
-fn next_link<R: Wait>(rt: &R, posts: &mut [HostPost], at: usize) -> Result<HostLink, Fail> {
-    match posts.get_mut(at) {
-        Some(post) => match post.door.accept(rt) {
-            Came::Link(link) => Ok(link),
-            Came::Shut | Came::Failed => Err(Fail::new("no link")),
-        },
-        None => Err(Fail::new("no post")),
+fn two_pollers(rt: &HostRuntime) -> Result<(HostPoller, HostPoller), Fail> {
+    let mut posts = posts_of(rt, 2, 2, 0)?;
+    match (posts.pop(), posts.pop()) {
+        (Some(second), Some(first)) => Ok((first.poller, second.poller)),
+        _ => Err(Fail::new("two posts")),
     }
 }
 
-// A link of the post at this place, and its peer.
+// The next link that comes.
+fn next_link<R: Wait>(rt: &R, poller: &mut HostPoller) -> Result<(u32, TcpLink), Fail> {
+    for _wait in 0..100 {
+        match poller.wait(rt) {
+            Ring::New(k, link) => return Ok((k, link)),
+            Ring::Ready(_) => {}
+            Ring::Shut | Ring::Failed => return Err(Fail::new("no link")),
+        }
+    }
+    Err(Fail::new("no link comes"))
+}
+
+// A link of the poller with its place, and its peer.
 fn connect<R: Wait + Net<Stream = TcpStream>>(
     rt: &R,
-    posts: &mut [HostPost],
-    at: usize,
-) -> Result<(HostLink, TcpStream), Fail> {
-    let peer = TcpStream::connect(rt, address_of(posts)?)?;
-    Ok((next_link(rt, posts, at)?, peer))
+    poller: &mut HostPoller,
+) -> Result<(u32, TcpLink, TcpStream), Fail> {
+    let peer = TcpStream::connect(rt, poller.local_addr()?)?;
+    let (k, link) = next_link(rt, poller)?;
+    Ok((k, link, peer))
 }
 
 // What a reading answers, and the buffer then.
-fn hear_once(link: &mut HostLink) -> (Heard, [u8; 2]) {
+fn hear_once(link: &mut TcpLink) -> (Heard, [u8; 2]) {
     let mut into = [b'.'; 2];
     let heard = link.recv(&mut into);
     (heard, into)
 }
 
-// The same, where what comes may still be on its way: some seconds go by before that is quiet.
-fn hear(link: &mut HostLink) -> (Heard, [u8; 2]) {
-    for _reading in 0..500 {
+// The same, where what comes may still be on its way.
+fn hear<R: Wait>(rt: &R, poller: &mut HostPoller, link: &mut TcpLink) -> (Heard, [u8; 2]) {
+    for _reading in 0..20 {
         let (heard, into) = hear_once(link);
         if heard != Heard::Quiet {
             return (heard, into);
         }
+        let _ring = poller.wait(rt);
     }
     hear_once(link)
 }
 
 // Four readings; the peer says three bytes before them and ends its side after two.
-fn hear_to_the_end(link: &mut HostLink, peer: &mut TcpStream) -> io::Result<[(Heard, [u8; 2]); 4]> {
+fn hear_to_the_end<R: Wait>(
+    rt: &R,
+    poller: &mut HostPoller,
+    link: &mut TcpLink,
+    peer: &mut TcpStream,
+) -> io::Result<[(Heard, [u8; 2]); 4]> {
     peer.write_all(b"abc")?;
-    let (first, second) = (hear(link), hear(link));
+    let first = hear(rt, poller, link);
+    let second = hear(rt, poller, link);
     peer.shutdown(Shutdown::Write)?;
-    Ok([first, second, hear(link), hear(link)])
+    let third = hear(rt, poller, link);
+    Ok([first, second, third, hear(rt, poller, link)])
 }
 
 #[test]
 fn a_link_hears_and_ends(rt: HostRuntime) -> Result<(), Fail> {
-    let mut posts = posts_of(&rt, 1, 0)?;
-    let (mut link, mut peer) = connect(&rt, posts.as_mut_slice(), 0)?;
-    let heard = hear_to_the_end(&mut link, &mut peer)?;
+    let mut poller = poller_of(&rt, 1)?;
+    let (_, mut link, mut peer) = connect(&rt, &mut poller)?;
+    let heard = hear_to_the_end(&rt, &mut poller, &mut link, &mut peer)?;
     let expected = [
         (Heard::Bytes(2), *b"ab"),
         (Heard::Bytes(1), *b"c."),
@@ -94,106 +119,90 @@ fn a_link_hears_and_ends(rt: HostRuntime) -> Result<(), Fail> {
     Ok(())
 }
 
-// So many readings, before each of which the line is rung so often: whether all were quiet, and how long they took.
-fn rung<R: time::Clock>(
-    rt: &R,
-    link: &mut HostLink,
-    readings: u32,
-    rings: u32,
-) -> io::Result<(bool, Duration)> {
+// Readings of a link to which nothing comes, and how long they take.
+fn quiet_readings<R: time::Clock>(rt: &R, link: &mut TcpLink) -> io::Result<(bool, Duration)> {
     let start = Instant::now(rt)?;
     let mut quiet = true;
-    for _reading in 0..readings {
-        for _ring in 0..rings {
-            link.ring(0);
-        }
-        let (heard, _) = hear_once(link);
-        quiet = quiet && heard == Heard::Quiet;
+    for _reading in 0..1000 {
+        quiet = quiet && hear_once(link).0 == Heard::Quiet;
     }
     Ok((quiet, start.elapsed(rt)?))
 }
 
-// A reading is quiet after 20 milliseconds, of which the first of them may have found some gone, and at once where the line was
-// rung: 1000 of these take less than half of the time that they would wait.
 #[test]
-fn a_link_is_quiet(rt: HostRuntime) -> Result<(), Fail> {
-    let mut posts = posts_of(&rt, 1, 0)?;
-    let (mut link, _peer) = connect(&rt, posts.as_mut_slice(), 0)?;
-    let cases: [(u32, u32, u64, u64); 2] = [(6, 0, 90, 20_000), (1000, 2, 0, 10_000)];
-    for (readings, rings, least, most) in cases {
-        let (quiet, took) = rung(&rt, &mut link, readings, rings)?;
-        assert!(rt;
-            quiet && took >= Duration::from_millis(least),
-            "{rings} rings: {took:?}"
-        );
-        assert!(rt;
-            took < Duration::from_millis(most),
-            "{rings} rings: {took:?}"
-        );
-    }
+fn a_link_is_quiet_at_once(rt: HostRuntime) -> Result<(), Fail> {
+    let mut poller = poller_of(&rt, 1)?;
+    let (_, mut link, _peer) = connect(&rt, &mut poller)?;
+    let (quiet, took) = quiet_readings(&rt, &mut link)?;
+    assert!(rt; quiet && took < Duration::from_secs(5), "{took:?}");
     Ok(())
 }
 
-// Rings line 1 again and again for some seconds.
-fn ring_on<R: time::Clock>(rt: &R, ringing: &mut HostLink) {
+// Rings line 3, place 1 of worker 1, again and again for some seconds.
+fn ring_on<R: time::Clock>(rt: &R, ringing: &mut TcpLink) {
     for _ring in 0..3000 {
-        ringing.ring(1);
+        ringing.ring(3);
         thread::sleep(rt, Duration::from_millis(1));
     }
 }
 
-// So many readings of a worker whose line, 1, another thread rings: whether all were quiet, and how long they took.
-fn rung_by_another<R: Threads + time::Clock + Sync>(
+// So many waits at which a place is ready: whether each was of this place, and how long they took.
+fn ready_waits<R: Wait + time::Clock>(
     rt: &R,
-    waiting: &mut HostLink,
-    readings: u32,
-    ringing: &mut HostLink,
+    poller: &mut HostPoller,
+    place: u32,
+    waits: u32,
 ) -> io::Result<(bool, Duration)> {
-    let (waited, ()) = thread::join(
-        rt,
-        || rung(rt, waiting, readings, 0),
-        || ring_on(rt, ringing),
-    );
-    waited
+    let start = Instant::now(rt)?;
+    let mut own = true;
+    for _wait in 0..waits {
+        own = own && matches!(poller.wait(rt), Ring::Ready(k) if k == place);
+    }
+    Ok((own, start.elapsed(rt)?))
 }
 
-// Without rings they would take 8 seconds.
+// A place to which nothing comes is looked at once a second; one that another thread rings is ready at once. Without rings 200 waits would take as
+// many seconds.
 #[test]
 fn another_thread_rings(rt: HostRuntime) -> Result<(), Fail> {
-    let mut posts = posts_of(&rt, 2, 0)?;
-    let (mut ringing, _peer) = connect(&rt, posts.as_mut_slice(), 0)?;
-    let (mut waiting, _other_peer) = connect(&rt, posts.as_mut_slice(), 1)?;
-    let (quiet, took) = rung_by_another(&rt, &mut waiting, 400, &mut ringing)?;
-    assert!(rt; quiet && took < Duration::from_secs(6), "{took:?}");
+    let (mut first, mut second) = two_pollers(&rt)?;
+    let _peer = TcpStream::connect(&rt, first.local_addr()?)?;
+    let (_, mut ringing) = next_link(&rt, &mut first)?;
+    let _other_peer = TcpStream::connect(&rt, second.local_addr()?)?;
+    let (k, _waiting) = next_link(&rt, &mut second)?;
+    let _third_peer = TcpStream::connect(&rt, second.local_addr()?)?;
+    let (place, _also) = next_link(&rt, &mut second)?;
+    assert!(rt; (k, place) == (0, 1));
+    let (waited, ()) = thread::join(
+        &rt,
+        || ready_waits(&rt, &mut second, 1, 200),
+        || ring_on(&rt, &mut ringing),
+    );
+    let (_, took) = waited?;
+    assert!(rt; took < Duration::from_secs(60), "{took:?}");
     Ok(())
 }
 
-// More than the system's buffers take.
-const MANY: usize = 20_000_000;
-
-// Whether the link sends that many bytes.
-fn send_many(link: &mut HostLink) -> bool {
+// Sends until the link takes no byte: how many it took.
+fn send_until_later(link: &mut TcpLink) -> Option<usize> {
     let piece = [7u8; 4096];
     let mut sent: usize = 0;
-    for _sending in 0..MANY {
-        if sent >= MANY {
-            return true;
-        }
+    for _sending in 0..100_000 {
         match link.send(&piece) {
             Sent::Taken(count) => sent = sent.saturating_add(count),
-            Sent::Later | Sent::Failed => return false,
+            Sent::Later => return Some(sent),
+            Sent::Failed => return None,
         }
     }
-    false
+    None
 }
 
-// Whether the peer reads that many bytes, after a while.
-fn read_many<R: time::Clock>(rt: &R, peer: &mut TcpStream) -> bool {
-    thread::sleep(rt, Duration::from_millis(100));
+// Whether the peer reads so many bytes.
+fn read_many(peer: &mut TcpStream, most: usize) -> bool {
     let mut into = [0u8; 4096];
     let mut came: usize = 0;
-    for _reading in 0..MANY {
-        if came >= MANY {
+    for _reading in 0..most {
+        if came >= most {
             return true;
         }
         match peer.read(&mut into) {
@@ -204,28 +213,22 @@ fn read_many<R: time::Clock>(rt: &R, peer: &mut TcpStream) -> bool {
     false
 }
 
-fn send_and_read<R: Threads + time::Clock + Sync>(
-    rt: &R,
-    link: &mut HostLink,
-    peer: &mut TcpStream,
-) -> (bool, bool) {
-    thread::join(rt, || send_many(link), || read_many(rt, peer))
-}
-
-// The link waits until the peer makes room, and hears again afterwards.
+// A link that takes no byte is ready once its peer made room, takes bytes again, and hears.
 #[test]
-fn a_link_waits_for_room(rt: HostRuntime) -> Result<(), Fail> {
-    let mut posts = posts_of(&rt, 1, 0)?;
-    let (mut link, mut peer) = connect(&rt, posts.as_mut_slice(), 0)?;
-    let done = send_and_read(&rt, &mut link, &mut peer);
-    assert!(rt; done == (true, true));
+fn a_link_has_room_again(rt: HostRuntime) -> Result<(), Fail> {
+    let mut poller = poller_of(&rt, 1)?;
+    let (_, mut link, mut peer) = connect(&rt, &mut poller)?;
+    let sent = send_until_later(&mut link);
+    assert!(rt; sent.is_some_and(|sent| sent > 0 && read_many(&mut peer, sent)));
+    assert!(rt; matches!(poller.wait(&rt), Ring::Ready(0)));
+    assert!(rt; matches!(link.send(b"a"), Sent::Taken(1)));
     peer.write_all(b"a")?;
-    assert!(rt; hear(&mut link) == (Heard::Bytes(1), *b"a."));
+    assert!(rt; hear(&rt, &mut poller, &mut link) == (Heard::Bytes(1), *b"a."));
     Ok(())
 }
 
 // Whether a sending fails at last. The first may be taken, since the system learns by it that nobody is there.
-fn fails_to_send<R: time::Clock>(rt: &R, link: &mut HostLink) -> bool {
+fn fails_to_send<R: time::Clock>(rt: &R, link: &mut TcpLink) -> bool {
     for _sending in 0..1000 {
         if link.send(b"a") == Sent::Failed {
             return true;
@@ -235,38 +238,41 @@ fn fails_to_send<R: time::Clock>(rt: &R, link: &mut HostLink) -> bool {
     false
 }
 
-// A peer that goes away with a byte unread: whether that is a fault or an End, and no signal.
-fn is_gone<R: time::Clock>(rt: &R, link: &mut HostLink, peer: TcpStream) -> bool {
-    let first = link.send(b"a");
-    drop(peer);
-    let (heard, _) = hear(link);
-    first == Sent::Taken(1)
-        && matches!(heard, Heard::Failed | Heard::End)
-        && fails_to_send(rt, link)
-}
-
+// A peer that goes away with a byte unread: that is a fault or an End, and no signal.
 #[test]
 fn a_peer_goes_away(rt: HostRuntime) -> Result<(), Fail> {
-    let mut posts = posts_of(&rt, 1, 0)?;
-    let (mut link, peer) = connect(&rt, posts.as_mut_slice(), 0)?;
-    assert!(rt; is_gone(&rt, &mut link, peer));
+    let mut poller = poller_of(&rt, 1)?;
+    let (_, mut link, peer) = connect(&rt, &mut poller)?;
+    assert!(rt; link.send(b"a") == Sent::Taken(1));
+    drop(peer);
+    let (heard, _) = hear(&rt, &mut poller, &mut link);
+    assert!(rt; matches!(heard, Heard::Failed | Heard::End));
+    assert!(rt; fails_to_send(&rt, &mut link));
     Ok(())
 }
 
-fn greet<R: Wait>(rt: &R, door: &mut TcpDoor<HostRuntime>) {
-    if let Came::Link(mut link) = door.accept(rt) {
-        let _said = link.send(b"hello");
-        door.done(link);
+// Greets the next link with the byte of its place, and gives it back.
+fn greet<R: Wait>(rt: &R, poller: &mut HostPoller) {
+    for _wait in 0..100 {
+        match poller.wait(rt) {
+            Ring::New(k, link) => {
+                let mut link = link;
+                let _said = link.send(b"hello");
+                poller.done(k, link);
+                return;
+            }
+            Ring::Ready(_) => {}
+            Ring::Shut | Ring::Failed => return,
+        }
     }
 }
 
-// Each door serves a connection, in a thread of its own.
 fn greet_side_by_side<R: Threads + Wait + Sync>(rt: &R, posts: &mut [HostPost]) {
-    thread::for_each_mut(rt, posts, 8, &|_, post| greet(rt, &mut post.door));
+    thread::for_each_mut(rt, posts, 8, &|_, post| greet(rt, &mut post.poller));
 }
 
-fn is_shut<R: Wait>(rt: &R, door: &mut TcpDoor<HostRuntime>) -> bool {
-    matches!(door.accept(rt), Came::Shut) && door.links() == 1 && door.faults() == 0
+fn is_shut<R: Wait>(rt: &R, poller: &mut HostPoller) -> bool {
+    matches!(poller.wait(rt), Ring::Shut) && poller.links() == 1 && poller.faults() == 0
 }
 
 // Whether the peer was greeted, and then its connection was closed.
@@ -278,47 +284,54 @@ fn is_greeted(peer: &mut TcpStream) -> io::Result<bool> {
 }
 
 #[test]
-fn each_door_is_shut_at_its_quota(rt: HostRuntime) -> Result<(), Fail> {
-    let mut posts = posts_of(&rt, 2, 1)?;
-    let address = address_of(posts.as_slice())?;
+fn each_poller_is_shut_at_its_quota(rt: HostRuntime) -> Result<(), Fail> {
+    let mut posts = posts_of(&rt, 2, 3, 1)?;
+    let address = match posts.first() {
+        Some(post) => post.poller.local_addr()?,
+        None => return Err(Fail::new("no post")),
+    };
     let mut first = TcpStream::connect(&rt, address)?;
     let mut second = TcpStream::connect(&rt, address)?;
     greet_side_by_side(&rt, posts.as_mut_slice());
     let greeted = is_greeted(&mut first)? && is_greeted(&mut second)?;
     assert!(rt; greeted);
     for post in posts.as_mut_slice() {
-        assert!(rt; is_shut(&rt, &mut post.door));
+        assert!(rt; is_shut(&rt, &mut post.poller));
     }
     Ok(())
 }
 
-fn fails<R: Wait>(rt: &R, posts: &mut [HostPost]) -> bool {
-    match posts.first_mut() {
-        Some(post) => matches!(post.door.accept(rt), Came::Failed) && post.door.faults() == 1,
-        None => false,
-    }
-}
-
-fn give_back(posts: &mut [HostPost], link: HostLink) {
-    if let Some(post) = posts.first_mut() {
-        post.door.done(link);
-    }
-}
-
-// A door has one link out at a time, and the next one when that was given back.
+// What was said before a link is given back arrives, though bytes of its peer weren't read.
 #[test]
-fn a_door_wants_its_link_back(rt: HostRuntime) -> Result<(), Fail> {
-    let mut posts = posts_of(&rt, 1, 0)?;
-    let (link, _peer) = connect(&rt, posts.as_mut_slice(), 0)?;
-    assert!(rt; fails(&rt, posts.as_mut_slice()));
-    give_back(posts.as_mut_slice(), link);
-    let (_next, _other_peer) = connect(&rt, posts.as_mut_slice(), 0)?;
+fn the_last_bytes_arrive(rt: HostRuntime) -> Result<(), Fail> {
+    let mut poller = poller_of(&rt, 1)?;
+    let mut peer = TcpStream::connect(&rt, poller.local_addr()?)?;
+    peer.write_all(&[1u8; 10_000])?;
+    thread::sleep(&rt, Duration::from_millis(50));
+    greet(&rt, &mut poller);
+    assert!(rt; is_greeted(&mut peer)?);
+    Ok(())
+}
+
+// A poller hands out a link for each place, and the next when one was given back.
+#[test]
+fn a_poller_has_its_places(rt: HostRuntime) -> Result<(), Fail> {
+    let mut poller = poller_of(&rt, 2)?;
+    let (first, link, _peer) = connect(&rt, &mut poller)?;
+    let (second, _other, _other_peer) = connect(&rt, &mut poller)?;
+    assert!(rt; (first, second) == (0, 1));
+    let _third = TcpStream::connect(&rt, poller.local_addr()?)?;
+    for _wait in 0..2 {
+        assert!(rt; matches!(poller.wait(&rt), Ring::Ready(_)));
+    }
+    drop(link);
+    assert_eq!(rt; poller.links(), 2);
     Ok(())
 }
 
 fn is_refused(rt: &HostRuntime, address: &[u8]) -> Result<bool, Fail> {
     let address = Text::of(rt.alloc(), address)?;
-    let listened = NetPorts::new(rt.clone()?).listen(rt.alloc(), &address, 1, 0);
+    let listened = NetPorts::new(rt.clone()?).pollers(rt.alloc(), &address, 1, 1, 0);
     Ok(listened.err() == Some(ListenFault::Failed))
 }
 

@@ -3,6 +3,7 @@ pub mod Doors
 pub mod Draws
 pub mod Links
 pub mod Plans
+pub mod Polls
 pub mod Posts
 pub mod Scripts
 pub mod Tapes

@@ -17,6 +17,14 @@ pub enum Came<L> {
     Failed,
 }
 
+/// What a worker at a door has of the world.
+#[derive(Drop)]
+pub struct Post<D, C, I> {
+    pub door: D,
+    pub clock: C,
+    pub dice: I,
+}
+
 /// A door hands out links, as many as its quota, or without end where that is 0. It may tell the tapes of the links that
 /// were given back, in that order.
 pub trait Door {

@@ -1,23 +1,16 @@
-//! Where workers get their doors, clocks and dice. Ports count their faults, the links of their doors, and the faults of
+//! Where workers get their pollers, clocks and dice. Ports count their faults, the links of their pollers, and the faults of
 //! their dice.
-ghost use Rattle.std.specs.Prelude.{◌≡◌, ℕ, ◌≤◌, List, Option, IfOk, Err, length, map};
+ghost use Rattle.std.specs.Prelude.{◌≡◌, ℕ, ◌≤◌, List, Option, Some, All, IfOk, Err, length, map};
 ghost use Rattle.outside.specs.Devices.{Rose};
-ghost use Rattle.outside.specs.Posts.{Each, Gathers, Opened, added};
+ghost use Rattle.outside.specs.Polls.{IsOpened, placed};
+ghost use Rattle.outside.specs.Posts.{Gathers, added, all_of};
 ghost use Rattle.outside.specs.Tapes.{Mark};
 
 use crate::clock::Clock;
 use crate::dice::{Dice, Filled};
-use crate::door::Door;
+use crate::poller::{PollPost, Poller};
 use stanza_tree::Text;
 use std::alloc::{AllocError, Global};
-
-/// What a worker has of the world.
-#[derive(Drop)]
-pub struct Post<D, C, I> {
-    pub door: D,
-    pub clock: C,
-    pub dice: I,
-}
 
 /// Why there are no posts.
 #[derive(Clone, Copy, Debug, PartialEq, Eq)]
@@ -37,15 +30,15 @@ impl From<AllocError> for ListenFault {
     }
 }
 
-/// Ports hand out posts and take them back. They may tell the tapes of the doors that were given back, post by post.
+/// Ports hand out posts and take them back. They may tell the tapes of the pollers that were given back, post by post and place by place.
 pub trait Ports {
-    type Door: Door;
+    type Poller: Poller;
 
     type Clock: Clock;
 
     type Dice: Dice;
 
-    ghost tapes: { Self → Option (List (List (List Mark))) };
+    ghost tapes: { Self → Option (List (List (List (List Mark)))) };
 
     ghost faults: { Self → ℕ };
 
@@ -53,17 +46,23 @@ pub trait Ports {
 
     ghost dice_faults: { Self → ℕ };
 
-    /// As many posts as workers, whose doors stand at this address and each have this quota.
-    fn listen(
+    /// The address of the pollers that were handed out last.
+    ghost address: { Self → Option (List ℕ) };
+
+    /// As many posts as workers, whose pollers stand at this address, and each has so many places and this quota.
+    fn pollers(
         &mut self,
         alloc: Global,
-        address: &Text,
+        at: &Text,
         workers: u32,
+        places: u32,
         quota: u64,
-    ) -> Result<Vec<Post<Self::Door, Self::Clock, Self::Dice>>, ListenFault>
+    ) -> Result<Vec<PollPost<Self::Poller, Self::Clock, Self::Dice>>, ListenFault>
         ensures posts { IfOk result (λ v. length v.items ≡ workers) }
-        ensures opened { IfOk result (λ v. Each Self.Door (Opened Self.Door Self.Door.quota Self.Door.faults Self.Door.links Self.Door.tapes quota)
-            (map (λ p. p.door) v.items)) }
+        ensures sources { IfOk result (λ v. All (λ p. length p.sources.items ≡ places) v.items) }
+        ensures opened { IfOk result (λ v. All (λ p. IsOpened Self.Poller Self.Poller.places Self.Poller.quota Self.Poller.faults Self.Poller.links
+            Self.Poller.taken Self.Poller.came Self.Poller.tapes places quota p.poller) v.items) }
+        ensures address { IfOk result (λ _. address self.new ≡ Some at.now) }
         ensures kept { faults self.old ≤ faults self.new }
         ensures cause { result ≡ Err ListenFault.Failed → Rose (faults self.old) (faults self.new) }
         ensures as_before { result ≡ Err ListenFault.NoMemory → faults self.new ≡ faults self.old }
@@ -72,14 +71,17 @@ pub trait Ports {
         ensures tapes { tapes self.new ≡ tapes self.old };
 
     /// Takes posts back, with what they counted and told. Takes no memory.
-    fn gather(&mut self, posts: Vec<Post<Self::Door, Self::Clock, Self::Dice>>)
-        ensures faults { faults self.new ≡ added (faults self.old) (map (λ p. Self.Door.faults p.door) posts.items) }
-        ensures links { links self.new ≡ added (links self.old) (map (λ p. Self.Door.links p.door) posts.items) }
-        ensures dice { dice_faults self.new ≡ added (dice_faults self.old) (map (λ p. Self.Dice.faults p.dice) posts.items) }
+    fn gather_pollers(&mut self, posts: Vec<PollPost<Self::Poller, Self::Clock, Self::Dice>>)
+        ensures faults { faults self.new ≡ added (faults self.old) (map (λ p. Self.Poller.faults p.poller) posts.items) }
+        ensures links { links self.new ≡ added (links self.old) (map (λ p. Self.Poller.links p.poller) posts.items) }
+        ensures dice { dice_faults self.new ≡ added (dice_faults self.old)
+            (all_of (map (λ p. map (λ s. Self.Dice.faults s.dice) p.sources.items) posts.items)) }
         ensures faults_kept { faults self.old ≤ faults self.new }
         ensures links_kept { links self.old ≤ links self.new }
         ensures dice_kept { dice_faults self.old ≤ dice_faults self.new }
-        ensures tapes { Gathers (tapes self.old) (map (λ p. Self.Door.tapes p.door) posts.items) (tapes self.new) };
+        ensures address { address self.new ≡ address self.old }
+        ensures tapes { Gathers (tapes self.old) (map (λ p. placed (Self.Poller.places p.poller) (Self.Poller.tapes p.poller)) posts.items)
+            (tapes self.new) };
 
     /// Draws random bytes.
     fn fill(&mut self, into: &mut [u8]) -> Filled
@@ -87,5 +89,6 @@ pub trait Ports {
         ensures cause { result ≡ Filled.Failed → Rose (faults self.old) (faults self.new) }
         ensures links { links self.new ≡ links self.old }
         ensures dice { dice_faults self.new ≡ dice_faults self.old }
+        ensures address { address self.new ≡ address self.old }
         ensures tapes { tapes self.new ≡ tapes self.old };
 }

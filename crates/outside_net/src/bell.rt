@@ -1,11 +1,13 @@
-//! How a worker that waits for its connection is woken. No contract speaks of it: a worker that nobody wakes waits no
-//! longer than it would.
+//! How a worker that waits is woken for one of its places. No contract speaks of it: a place that nobody rings is looked at
+//! within ten seconds.
 
+use crate::marks::Marks;
 use mio::{Poll, Token, Waker};
 use std::io;
 use std::sync::atomic::{AtomicU64, Ordering};
 
-const BELL: Token = Token(usize::MAX);
+/// What the waker of a worker is reported under.
+pub(crate) const BELL: Token = Token(usize::MAX);
 
 // What the worker does: it doesn't wait, it waits, or it was rung since it last began to.
 const BUSY: u64 = 0;
@@ -14,10 +16,12 @@ const WAITING: u64 = 1;
 
 const RUNG: u64 = 2;
 
-/// The bell of one worker, which any thread may ring.
+/// The bell of one worker, which any thread may ring for one of its places.
 #[derive(Drop)]
 pub(crate) struct Bell {
     state: AtomicU64,
+    // A bit for each place that was rung.
+    rung: [AtomicU64; 4],
     waker: Waker,
 }
 
@@ -26,13 +30,22 @@ impl Bell {
     pub(crate) fn new(poll: &Poll) -> io::Result<Bell> {
         Ok(Bell {
             state: AtomicU64::new(BUSY),
+            rung: [
+                AtomicU64::new(0),
+                AtomicU64::new(0),
+                AtomicU64::new(0),
+                AtomicU64::new(0),
+            ],
             waker: Waker::new(poll.registry(), BELL)?,
         })
     }
 
-    /// Ends the wait that is under way, or else the next one at its beginning. Where it was rung already, it does
-    /// nothing more.
-    pub(crate) fn ring(&self) {
+    /// Rings for a place: ends the wait that is under way, or else the next one at its beginning. Where the worker was rung
+    /// already, only notes the place.
+    pub(crate) fn ring(&self, place: u32) {
+        if let Some(word) = self.rung.get((place / 64) as usize) {
+            word.fetch_or(1 << (place % 64), Ordering::SeqCst);
+        }
         if self.state.swap(RUNG, Ordering::SeqCst) == WAITING {
             // Where it fails, the wait ends by its own bound.
             let _woken = self.waker.wake();
@@ -46,8 +59,13 @@ impl Bell {
             .is_ok()
     }
 
-    /// The worker goes on, and so answers the rings until now.
-    pub(crate) fn end_wait(&self) {
+    /// The worker goes on, with the places that were rung until now.
+    pub(crate) fn end_wait(&self, marks: &mut Marks) {
         self.state.store(BUSY, Ordering::SeqCst);
+        let mut index: usize = 0;
+        for word in &self.rung {
+            marks.add_word(index, word.swap(0, Ordering::SeqCst));
+            index = index.saturating_add(1);
+        }
     }
 }

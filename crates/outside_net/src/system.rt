@@ -7,11 +7,13 @@ use std::marker::Model;
 use std::random::RandomSource;
 use std::time;
 
-/// The system's clock, kept from falling: where it was set back, or can't be read, the moment stays what it was. It tells
-/// no moments.
+/// The system's clock: the wall's time at the start, and what went by since by a clock that nobody sets. Where one of them can't be read, the
+/// moment stays what it was. It tells no moments.
 #[derive(Drop)]
 pub struct SystemClock<R: time::Clock + Drop> {
     rt: R,
+    // The wall's time at the start less that of the other clock, both in milliseconds, once both were read.
+    ahead: Option<u64>,
     last: u64,
 }
 
@@ -28,14 +30,25 @@ impl<R: time::Clock + Drop> SystemClock<R> {
     pub fn new(rt: R) -> SystemClock<R>
         ensures { result ≡ 0 }
     {
-        SystemClock { rt, last: 0 }
+        let ahead = read_ahead(&rt);
+        SystemClock { rt, ahead, last: 0 }
     }
 
     // In milliseconds since 1970-01-01T00:00:00Z.
     fn read(&self) -> Option<u64> {
-        let since = self.rt.since_1970().ok()?;
-        Some(u64::try_from(since.as_millis()).unwrap_or(u64::MAX))
+        let since_start = millis(self.rt.monotonic().ok()?);
+        Some(self.ahead?.saturating_add(since_start))
     }
+}
+
+fn read_ahead<R: time::Clock>(rt: &R) -> Option<u64> {
+    let wall = millis(rt.since_1970().ok()?);
+    let since_start = millis(rt.monotonic().ok()?);
+    Some(wall.saturating_sub(since_start))
+}
+
+fn millis(time: time::Duration) -> u64 {
+    u64::try_from(time.as_millis()).unwrap_or(u64::MAX)
 }
 
 impl<R: time::Clock + Drop> Clock for SystemClock<R> {

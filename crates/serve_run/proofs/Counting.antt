@@ -1,7 +1,8 @@
 -- How many connections came, line by line.
-use Rattle.std.proofs.Common.{◌≡◌, ℕ, zero, suc, ◌+◌, ◌-◌, ◌^◌, ◌<◌, ◌≤◌, min, List, [], ◌∷◌, length, Bool, true, false}
+use Rattle.std.proofs.Common.{◌≡◌, ℕ, zero, suc, ◌+◌, ◌-◌, ◌^◌, ◌<◌, ◌≤◌, min, List, [], ◌∷◌, ◌++◌, map, length, Bool, true, false}
 use Rattle.std.proofs.Common.{refl, sym, ap, subst, ◌∙◌, inl, inr, arith, cond, ne_eqb, eq-eqb}
-use Rattle.std.specs.Prelude.{◌==◌}
+use Rattle.std.specs.Prelude.{◌==◌, sum_by}
+use Rattle.std.proofs.lemmas.List.Sums.{sum_by-cons}
 use Rattle.std.proofs.lemmas.Bool.{cases_lt, cond-false, cond-true}
 use Rattle.hall.specs.Desks.{turns_of}
 use Rattle.hall.specs.Stories.{line}
@@ -93,6 +94,10 @@ at-most n (x ∷ h) =
     subst (λ k. k ≤ suc (length h)) (sym (pushed (line x == n) x (turns_of n h)))
     (capped (line x == n) (opened_by x.event) (opened_at n h) (length h) (one-most x.event) (at-most n h))
 
+pub openings-most : (h : List Turn) → openings h ≤ length h
+openings-most [] = omega arith
+openings-most (x ∷ h) = let here = one-most x.event in let rest = openings-most h in omega (arith, here, rest)
+
 -- counts that are added one after the other
 abbrev pub total : List ℕ → ℕ
 total [] = 0
@@ -103,3 +108,18 @@ added-total n first [] = ap (λ m. min m (2 ^ 64 - 1)) (let e : n + first ≡ n 
 added-total n first (next ∷ more) =
     let rest = added-total (plus n first) next more in
     omega (arith, rest)
+
+pub total-append : (xs ys : List ℕ) → total (xs ++ ys) ≡ total xs + total ys
+total-append [] ys = omega arith
+total-append (x ∷ xs) ys = let rest = total-append xs ys in omega (arith, rest)
+
+pub total-sum : (A : Type 0) (f : A → ℕ) (xs : List A) → total (map f xs) ≡ sum_by f xs
+total-sum A f [] = refl
+total-sum A f (x ∷ xs) =
+    let rest = total-sum A f xs in
+    let one = sum_by-cons f x xs in
+    omega (arith, rest, one)
+
+pub some-added : (ports : ℕ) (counts : List ℕ) → 0 < length counts → added ports counts ≡ plus ports (total counts)
+some-added ports [] some = absurd (omega (arith, some))
+some-added ports (n ∷ more) some = added-total ports n more

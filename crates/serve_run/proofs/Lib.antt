@@ -1,4 +1,5 @@
 mod Counting
-mod Doors
 pub mod Endings
+mod Pollers
+mod Posts
 mod Running

@@ -4,7 +4,7 @@ use Rattle.std.specs.Prelude.{length, map, Option, Some, None, Result, Ok, Err, 
 use Rattle.std.specs.Fmt.{decimal}
 use Rattle.outside.specs.Devices.{Front, Rose}
 use Rattle.outside.specs.Doors.{Untold}
-use Rattle.outside.specs.Posts.{Gathers, added, plus}
+use Rattle.outside.specs.Posts.{Each, Gathers, added, plus}
 use Rattle.outside.specs.Tapes.{Mark}
 use Rattle.jid_core.specs.Addresses.{Address}
 use Rattle.account_book.specs.Entries.{Entry, entry_of}
@@ -16,8 +16,9 @@ use Rattle.script_play.specs.declared.status.Status.{Status}
 use Rattle.script_play.specs.declared.status.Status.TheVariants as status
 use Rattle.conn_asks.specs.declared.ended.Ended.{Ended}
 use Rattle.conn_asks.specs.declared.ended.Ended.TheVariants as ended
-use Rattle.conn_serve.specs.declared.worker.Worked.TheVariants.{Shut}
-use Rattle.conn_staff.specs.Staffs.{Attended, Staffed, Telling}
+use Rattle.conn_staff.specs.declared.roster.Worked.{Worked}
+use Rattle.conn_staff.specs.declared.roster.Worked.TheVariants.{PollFault, Shut}
+use Rattle.conn_staff.specs.Staffs.{Attended, PostTelling, Staffed, Telling, places_of}
 
 -- nothing is left of it, or more was read than any list of accounts has
 abbrev pub IsEnough : Option (List ℕ) → List ℕ → Type 0
@@ -34,32 +35,40 @@ IsRefused read (status.Accounts n) = (kind : LineKind) × (read ≡ Err (n, kind
 IsRefused read status.NoMemory = ⊤
 IsRefused read s = ⊥
 
--- a post as it was handed out
-abbrev pub IsOpened : ℕ → Telling → Type 0
-IsOpened quota a = (a.quota ≡ quota) × (a.faults ≡ 0) × (a.links ≡ 0) × Untold (List Mark) a.tapes
+-- A post as it was handed out: its poller with this quota, and its counts at 0; so many places, to which no link came and which tell no tapes.
+abbrev pub IsUnused : Telling → Type 0
+IsUnused t = (t.links ≡ 0) × Untold (List Mark) t.tapes
 
-abbrev pub AllOpened : ℕ → List Telling → Type 0
-AllOpened quota [] = Unit {0}
-AllOpened quota (a ∷ more) = IsOpened quota a × AllOpened quota more
+pub record IsOpened (links quota : ℕ) (a : PostTelling) : Type 0 where
+  pub quota_is : a.poller.quota ≡ quota
+  pub faults : a.poller.faults ≡ 0
+  pub count : a.poller.links ≡ 0
+  pub places : length a.places ≡ links
+  pub unused : Each Telling IsUnused a.places
 
--- what ports tell: the tapes of the doors that were given back, post by post, and their counts of links and of faults of dice
+abbrev pub AllOpened : (links quota : ℕ) → List PostTelling → Type 0
+AllOpened links quota posts = Each PostTelling (IsOpened links quota) posts
+
+-- what ports tell: the tapes of the pollers that were given back, post by post and place by place, their counts of links and of faults of dice, and the
+-- address at which they listened last
 pub record Tally : Type 0 where
-  pub tapes : Option (List (List (List Mark)))
+  pub tapes : Option (List (List (List (List Mark))))
   pub links : ℕ
   pub dice : ℕ
+  pub address : Option (List ℕ)
 
-abbrev pub tally : Option (List (List (List Mark))) → (links dice : ℕ) → Tally
-tally tapes links dice = record { tapes = tapes; links = links; dice = dice }
+abbrev pub tally : Option (List (List (List (List Mark)))) → (links dice : ℕ) → (address : Option (List ℕ)) → Tally
+tally tapes links dice address = record { tapes = tapes; links = links; dice = dice; address = address }
 
--- posts were given back: the tapes of their doors come last, where all are told, and what they counted is added
-pub record Gathered (ports : Tally) (posts : List Telling) (now : Tally) : Type 0 where
-  pub tapes : Gathers ports.tapes (map (λ (a : Telling). a.tapes) posts) now.tapes
-  pub links : now.links ≡ added ports.links (map (λ (a : Telling). a.links) posts)
-  pub dice : now.dice ≡ added ports.dice (map (λ (a : Telling). a.dice) posts)
+-- posts were given back: the tapes of their places come last, where all are told, and what they counted is added
+pub record Gathered (ports : Tally) (posts : List PostTelling) (now : Tally) : Type 0 where
+  pub tapes : Gathers ports.tapes (map (λ (a : PostTelling). map (λ (t : Telling). t.tapes) a.places) posts) now.tapes
+  pub links : now.links ≡ added ports.links (map (λ (a : PostTelling). a.poller.links) posts)
+  pub dice : now.dice ≡ added ports.dice (map (λ (t : Telling). t.dice) (places_of posts))
 
--- as many posts as workers were
-abbrev pub GivenBack : ℕ → (ports now : Tally) → Type 0
-GivenBack workers ports now = (posts : List Telling) × (length posts ≡ workers) × Gathered ports posts now
+-- the address of a port of this machine
+abbrev pub address_at : (port : ℕ) → List ℕ
+address_at port = codes "127.0.0.1:" ++ decimal port
 
 -- what is printed at the end
 abbrev pub report : (links turns : ℕ) → List ℕ
@@ -80,47 +89,73 @@ dice_ends o accounts h n (a ∷ before) (b ∷ now) (first, rest) = dice_in firs
 dice_ends o accounts h n [] (b ∷ now) each = absurd each
 dice_ends o accounts h n (a ∷ before) [] each = absurd each
 
--- The server ran to its end over a list of accounts: as many workers as were asked for served the links of their posts until each door shut. What
--- they did stands in one legal history from the opening of the domain with the names of the accounts; the line tells how many connections came
--- in it and how many turns it has; and the posts were given back to the ports. Where fewer than 2^63 turns were taken, the ports count each of those
--- connections, which are as many as the quotas of all workers, where there is one. At least as many faults of dice are counted as links ended by one.
-pub record Served (domain : Address) (workers quota : ℕ) (list : List ℕ) (ports now_ports : Tally) (line : List ℕ) : Type 0 where
+-- The workers served over a list of accounts until each poller shut or failed: as many as were asked for, each with so many places, at the port. What they
+-- did stands in one legal history from the opening of the domain with the names of the accounts, and the posts were given back to the ports. Where fewer
+-- than 2^63 turns were taken, the ports count each connection that came in it; and where each poller shut these are as many as the quotas of all workers,
+-- where there is one. At least as many faults of dice are counted as links ended by one.
+pub record Ran (worked : Worked) (domain : Address) (port workers links quota : ℕ) (list : List ℕ) (ports now_ports : Tally) : Type 0 where
   pub accounts : Book
   pub read : entries_of list ≡ Ok (map entry_of accounts.accounts)
-  pub before : List Telling
-  pub now : List Telling
+  pub before : List PostTelling
+  pub now : List PostTelling
   pub as_many : length before ≡ workers
-  pub opened : AllOpened quota before
+  pub opened : AllOpened links quota before
   pub kept : Kept
-  pub staffed : Staffed (opening domain (names_of accounts.accounts) workers) accounts before now Shut kept
-  pub line_is : line ≡ report (openings staffed.history) (length staffed.history)
+  pub staffed : Staffed (opening domain (names_of accounts.accounts) (workers * links)) accounts before now worked kept
+  pub listened : now_ports.address ≡ Some (address_at port)
   pub gathered : Gathered ports now now_ports
   pub counted : length staffed.history < 2 ^ 63 → now_ports.links ≡ plus ports.links (openings staffed.history)
-  pub filled : length staffed.history < 2 ^ 63 → quota ≢ 0 → openings staffed.history ≡ workers * quota
-  pub dice_failed : min (ports.dice + dice_ends (opening domain (names_of accounts.accounts) workers) accounts staffed.history 0 before now staffed.each)
-      (2 ^ 64 - 1) ≤ now_ports.dice
+  pub filled : worked ≡ Shut → length staffed.history < 2 ^ 63 → quota ≢ 0 → openings staffed.history ≡ workers * quota
+  pub dice_failed : min (ports.dice + dice_ends (opening domain (names_of accounts.accounts) (workers * links)) accounts staffed.history 0
+      (places_of before) (places_of now) staffed.each) (2 ^ 64 - 1) ≤ now_ports.dice
 
--- what listened, and so was given back, by the status
-abbrev pub HasListened : Status → Type 0
-HasListened status.Done = ⊤
-HasListened (status.Accounts n) = ⊤
-HasListened status.WriteFault = ⊤
-HasListened s = ⊥
+-- The server ran to its end: each poller shut. The line tells how many connections came and how many turns the history has.
+pub record Served (domain : Address) (port workers links quota : ℕ) (list : List ℕ) (ports now_ports : Tally) (line : List ℕ) : Type 0 where
+  pub ran : Ran Shut domain port workers links quota list ports now_ports
+  pub line_is : line ≡ report (openings ran.staffed.history) (length ran.staffed.history)
+
+-- nothing listened: the ports tell what they told
+pub record NeverListened (ports now_ports : Tally) : Type 0 where
+  pub tapes : now_ports.tapes ≡ ports.tapes
+  pub links : now_ports.links ≡ ports.links
+  pub dice : now_ports.dice ≡ ports.dice
+
+-- nothing was served: as many posts as workers were given back as they had been handed out at the port
+pub record Unserved (port workers links quota : ℕ) (ports now_ports : Tally) : Type 0 where
+  pub posts : List PostTelling
+  pub as_many : length posts ≡ workers
+  pub opened : AllOpened links quota posts
+  pub listened : now_ports.address ≡ Some (address_at port)
+  pub gathered : Gathered ports posts now_ports
+
+-- What failed, where what listens did: listening itself; or the draw of the secret, and nothing was served; or a poller, and the workers served until each
+-- poller shut or failed.
+abbrev pub ListeningFailed : Address → (port workers links quota : ℕ) → List ℕ → (ports now_ports : Tally) → Type 0
+ListeningFailed domain port workers links quota list ports now_ports =
+    NeverListened ports now_ports ⊎ Unserved port workers links quota ports now_ports
+    ⊎ Ran PollFault domain port workers links quota list ports now_ports
 
 -- Parts of a run.
 
--- a door failed
-abbrev pub SomeRose : (before now : List Telling) → Type 0
+-- a poller failed
+abbrev pub SomeRose : (before now : List PostTelling) → Type 0
 SomeRose [] [] = ⊥
-SomeRose (a ∷ before) (b ∷ now) = Rose a.faults b.faults ⊎ SomeRose before now
+SomeRose (a ∷ before) (b ∷ now) = Rose a.poller.faults b.poller.faults ⊎ SomeRose before now
 SomeRose before now = ⊥
 
 -- the workers served over a list
-abbrev pub ServedBy : Address → ℕ → List ℕ → (before now : List Telling) → Kept → Type 0
-ServedBy domain workers list before now k =
+abbrev pub ServedBy : Worked → Address → (lines : ℕ) → List ℕ → (before now : List PostTelling) → Kept → Type 0
+ServedBy worked domain lines list before now k =
     (accounts : Book) × (entries_of list ≡ Ok (map entry_of accounts.accounts))
-    × Staffed (opening domain (names_of accounts.accounts) workers) accounts before now Shut k
+    × Staffed (opening domain (names_of accounts.accounts) lines) accounts before now worked k
 
--- they didn't, since the list is at fault or memory was wanting, or what listens failed
+-- they didn't, since the list is at fault or memory was wanting, or the ports failed
 abbrev pub Refused : List ℕ → Status → Type 0 → Type 0
 Refused list s failed = IsRefused (entries_of list) s ⊎ ((s ≡ status.ListenFault) × failed)
+
+-- what was left where nothing was served, by the status
+abbrev pub LeftUnserved : (port workers links quota : ℕ) → (ports now_ports : Tally) → Status → Type 0
+LeftUnserved port workers links quota ports now_ports (status.Accounts n) = Unserved port workers links quota ports now_ports
+LeftUnserved port workers links quota ports now_ports status.ListenFault =
+    NeverListened ports now_ports ⊎ Unserved port workers links quota ports now_ports
+LeftUnserved port workers links quota ports now_ports s = ⊤

@@ -1,6 +1,6 @@
 //! What follows from the contract of [`serve`].
 
-ghost use Rattle.std.specs.Prelude.{◌≡◌, ◌⊎◌, ◌<◌, ◌≤◌, List, Ok, length};
+ghost use Rattle.std.specs.Prelude.{◌≡◌, ◌⊎◌, ◌<◌, ◌≤◌, ◌*◌, List, Ok, length};
 ghost use Rattle.account_book.specs.Entries.{Entry};
 ghost use Rattle.account_book.specs.Lists.{entries_of};
 
@@ -20,7 +20,8 @@ pub fn valid_lists_are_served<R: Threads + Wait + Sync>(
     sink: &mut CleanSink,
     ports: &mut CleanPorts,
 ) -> Status
-    requires some { 0 < serving.now.workers }
+    requires some { (0 < serving.now.workers) × (0 < serving.now.links) }
+    requires few { serving.now.workers * serving.now.links ≤ 1024 }
     requires short { length source.old ≤ 8388608 }
     requires valid { (entries : List Entry) × (entries_of source.old ≡ Ok entries) }
     ensures ends { (result ≡ Status.Done) ⊎ (result ≡ Status.NoMemory) }

@@ -46,26 +46,26 @@ fn users_of(alloc: Global, accounts: &Accounts) -> Result<Vec<Part>, NoMemory>
     Ok(users)
 }
 
-/// A house for the users of accounts, before its first event.
+/// A house with so many lines for the users of accounts, before its first event.
 pub(crate) fn house_of(
     alloc: Global,
     domain: &Jid,
     accounts: &Accounts,
-    workers: u32,
+    lines: u32,
 ) -> Result<House, NoMemory>
-    ensures new { IfOk result (λ h. StandsFor (opening domain.now (names_of accounts.now.accounts) workers) [] (held h)) }
-    ensures lines { IfOk result (λ h. length h.table.lines ≡ workers) }
+    ensures new { IfOk result (λ h. StandsFor (opening domain.now (names_of accounts.now.accounts) lines) [] (held h)) }
+    ensures lines { IfOk result (λ h. length h.table.lines ≡ lines) }
 {
     let users = users_of(alloc, accounts)?;
-    House::new(alloc, domain, users.as_slice(), workers)
+    House::new(alloc, domain, users.as_slice(), lines)
 }
 
 /// Random bytes that nobody else knows.
 pub(crate) fn secret_of<P: Ports>(ports: &mut P) -> Result<[u8; 32], Status>
     ensures kept { P.faults ports.old ≤ P.faults ports.new }
     ensures cause { IfErr result (λ s. (s ≡ Status.ListenFault) × Rose (P.faults ports.old) (P.faults ports.new)) }
-    ensures same { tally (P.tapes ports.new) (P.links ports.new) (P.dice_faults ports.new) ≡ tally (P.tapes ports.old) (P.links ports.old)
-        (P.dice_faults ports.old) }
+    ensures same { tally (P.tapes ports.new) (P.links ports.new) (P.dice_faults ports.new) (P.address ports.new)
+        ≡ tally (P.tapes ports.old) (P.links ports.old) (P.dice_faults ports.old) (P.address ports.old) }
 {
     let mut secret = [0u8; 32];
     match ports.fill(&mut secret) {

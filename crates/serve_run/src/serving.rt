@@ -1,6 +1,6 @@
 //! The run of a server.
 
-ghost use Rattle.std.specs.Prelude.{◌≡◌, ◌≢◌, ◌⊎◌, ◌<◌, ◌≤◌, ◌++◌, [], ℕ, List, Err, IfErr, IfOk, Ok, OnOk, Some, length, map};
+ghost use Rattle.std.specs.Prelude.{◌≡◌, ◌≢◌, ◌⊎◌, ◌<◌, ◌≤◌, ◌*◌, ◌++◌, [], ℕ, List, All, Err, IfErr, IfOk, Ok, OnOk, Some, false, length, map};
 ghost use Rattle.account_book.specs.Entries.{entry_of};
 ghost use Rattle.account_book.specs.Lists.{entries_of, names_of};
 ghost use Rattle.account_book.specs.declared.fault.LineKind.{LineKind};
@@ -8,19 +8,18 @@ ghost use Rattle.house_core.specs.Houses.{held};
 ghost use Rattle.house_model.specs.Histories.{StandsFor};
 ghost use Rattle.house_model.specs.States.{State, opening};
 ghost use Rattle.outside.specs.Devices.{Rose};
-ghost use Rattle.conn_staff.specs.Staffs.{Staffed, Telling, telling};
+ghost use Rattle.conn_staff.specs.Staffs.{Staffed, post_told};
 ghost use Rattle.script_play.specs.Runs.{Front};
-ghost use Rattle.serve_run.specs.Services.{AllOpened, Gathered, GivenBack, HasListened, IsRefused, ReadsList, Refused, Served, ServedBy, SomeRose, tally};
+ghost use Rattle.serve_run.specs.Services.{IsRefused, LeftUnserved, ListeningFailed, Ran, ReadsList, Refused, Served, ServedBy, Unserved, address_at, tally};
 
 use crate::list::read_list;
 use crate::opening::{accounts_of, house_of, secret_of};
 use crate::report::print_report;
 use account_book::Accounts;
-use conn_serve::Worked;
-use conn_staff::serve_posts;
+use conn_staff::{Worked, serve_posts};
 use house_core::House;
 use jid_core::Jid;
-use outside::{Clock, Dice, Door, ListenFault, Ports, Post, Sink, Source};
+use outside::{Clock, Dice, ListenFault, PollPost, Poller, Ports, Sink, Source};
 use script_play::Status;
 use stanza_tree::{NoMemory, Text};
 use std::alloc::Global;
@@ -34,122 +33,131 @@ pub struct Serving {
     pub domain: Jid,
     /// The port at 127.0.0.1.
     pub port: u16,
-    /// How many workers there are, and so how many connections are served at once.
+    /// How many workers there are.
     pub workers: u32,
-    /// How many connections each worker serves; 0 is without end.
+    /// How many connections each worker serves at once.
+    pub links: u32,
+    /// How many connections each worker serves in all; 0 is without end.
     pub connections: u64,
+    /// Whether nothing is to be noted of how connections end.
+    pub quiet: bool,
 }
 
-fn address_of(alloc: Global, port: u16) -> Result<Text, NoMemory> {
+/// Where the server listens.
+fn address_of(alloc: Global, port: u16) -> Result<Text, NoMemory>
+    ensures { IfOk result (λ text. text ≡ address_at port) }
+{
     Ok(Text::of_string(format!(in alloc; "127.0.0.1:{port}")?))
 }
 
-/// The accounts of a list, and a house for their users.
+/// The accounts of a list, and a house for their users, with a line for each place.
 fn open<P: Ports>(
     alloc: Global,
     serving: &Serving,
     list: &[u8],
     ports: &mut P,
 ) -> Result<(Accounts, House), Status>
+    requires few { serving.now.workers * serving.now.links ≤ 1024 }
     ensures kept { P.faults ports.old ≤ P.faults ports.new }
-    ensures same { tally (P.tapes ports.new) (P.links ports.new) (P.dice_faults ports.new) ≡ tally (P.tapes ports.old) (P.links ports.old)
-        (P.dice_faults ports.old) }
+    ensures same { tally (P.tapes ports.new) (P.links ports.new) (P.dice_faults ports.new) (P.address ports.new)
+        ≡ tally (P.tapes ports.old) (P.links ports.old) (P.dice_faults ports.old) (P.address ports.old) }
     ensures read { IfOk result (λ r. entries_of list.now ≡ Ok (map entry_of r.0.accounts)) }
-    ensures new { IfOk result (λ r. StandsFor (opening serving.now.domain (names_of r.0.accounts) serving.now.workers) [] (held r.1)) }
-    ensures lines { IfOk result (λ r. length r.1.table.lines ≡ serving.now.workers) }
+    ensures new { IfOk result (λ r. StandsFor (opening serving.now.domain (names_of r.0.accounts) (serving.now.workers * serving.now.links)) [] (held r.1)) }
+    ensures lines { IfOk result (λ r. length r.1.table.lines ≡ serving.now.workers * serving.now.links) }
     ensures refused { IfErr result (λ s. Refused list.now s (Rose (P.faults ports.old) (P.faults ports.new))) }
 {
     let secret = secret_of(ports)?;
     let accounts = accounts_of(alloc, list, secret)?;
-    let house = house_of(alloc, &serving.domain, &accounts, serving.workers)?;
+    let lines = serving.workers * serving.links;
+    let house = house_of(alloc, &serving.domain, &accounts, lines)?;
     Ok((accounts, house))
 }
 
-/// The house, unless a door failed.
-fn unless_failed(house: House, worked: Worked) -> Result<House, Status>
-    ensures shut { IfOk result (λ left. (left ≡ house) × (worked ≡ Worked.Shut)) }
-    ensures failed { IfErr result (λ s. (s ≡ Status.ListenFault) × (worked ≡ Worked.DoorFault)) }
-{
-    match worked {
-        Worked::Shut => Ok(house),
-        Worked::DoorFault => Err(Status::ListenFault),
-    }
-}
-
-/// Workers at a house, until each door shut. Where one failed there is no house to tell of.
+/// Workers at a house, until each poller shut or failed.
 fn attend<
     R: Threads + Wait + Sync,
-    G: Door + Send + Drop,
+    P: Poller + Send + Drop,
     C: Clock + Send + Drop,
     I: Dice + Send + Drop,
 >(
     rt: &R,
     alloc: Global,
+    serving: &Serving,
     house: House,
     accounts: &Accounts,
-    posts: Vec<Post<G, C, I>>,
-    workers: u32,
-) -> (Vec<Post<G, C, I>>, Result<House, Status>)
+    posts: Vec<PollPost<P, C, I>>,
+) -> (Vec<PollPost<P, C, I>>, Result<(House, Worked), Status>)
 where
-    G::Link: Send,
-    requires some { 0 < workers }
-    requires posts { length posts.items ≡ workers }
-    requires lines { workers ≡ length house.table.lines }
+    P::Link: Send + Drop,
+    requires some { (0 < serving.now.workers) × (0 < serving.now.links) }
+    requires few { serving.now.workers * serving.now.links ≤ 1024 }
+    requires posts { length posts.items ≡ serving.now.workers }
+    requires pollers { All (λ p. P.places p.poller ≡ serving.now.links) posts.items }
+    requires sources { All (λ p. length p.sources.items ≡ serving.now.links) posts.items }
+    requires free { All (λ p. (k : ℕ) → P.taken p.poller k ≡ false) posts.items }
+    requires lines { serving.now.workers * serving.now.links ≡ length house.table.lines }
     requires new { (o : State) × StandsFor o [] (held house) }
-    ensures many { length result.0.items ≡ length posts.items }
     ensures served { IfOk result.1 (λ left. (o : State) → StandsFor o [] (held house) → Staffed o accounts.now
-        (map (λ p. telling (G.tapes p.door) (C.told p.clock) (I.drawn p.dice) (G.links p.door) (G.faults p.door) (G.quota p.door)
-        (I.faults p.dice)) posts.items)
-        (map (λ p. telling (G.tapes p.door) (C.told p.clock) (I.drawn p.dice) (G.links p.door) (G.faults p.door) (G.quota p.door)
-        (I.faults p.dice)) result.0.items)
-        Worked.Shut (held left)) }
-    ensures refused { IfErr result.1 (λ s. (s ≡ Status.NoMemory) ⊎ ((s ≡ Status.ListenFault) × SomeRose
-        (map (λ p. telling (G.tapes p.door) (C.told p.clock) (I.drawn p.dice) (G.links p.door) (G.faults p.door) (G.quota p.door)
-        (I.faults p.dice)) posts.items)
-        (map (λ p. telling (G.tapes p.door) (C.told p.clock) (I.drawn p.dice) (G.links p.door) (G.faults p.door) (G.quota p.door)
-        (I.faults p.dice)) result.0.items))) }
+        (map (post_told P C I P.tapes P.came P.links P.faults P.quota C.told I.drawn I.faults) posts.items)
+        (map (post_told P C I P.tapes P.came P.links P.faults P.quota C.told I.drawn I.faults) result.0.items) left.1 (held left.0)) }
+    ensures refused { IfErr result.1 (λ s. s ≡ Status.NoMemory) }
+    ensures back { IfErr result.1 (λ _. result.0.items ≡ posts.items) }
+    ensures wide { All (λ p. P.places p.poller ≡ length p.sources.items) result.0.items }
 {
-    let (back, left) = serve_posts(rt, alloc, house, accounts, posts, workers);
+    let (workers, links) = (serving.workers, serving.links);
+    let (back, left) = serve_posts(
+        rt,
+        alloc,
+        house,
+        accounts,
+        posts,
+        workers,
+        links,
+        serving.quiet,
+    );
     match left {
-        Ok((house, worked)) => (back, unless_failed(house, worked)),
+        Ok(left) => (back, Ok(left)),
         Err(NoMemory) => (back, Err(Status::NoMemory)),
     }
 }
 
-/// Serves at posts over a list of accounts. The posts come back, with the house that all workers left.
+/// Serves at posts over a list of accounts. The posts come back, with the house that all workers left; or as they were, where nothing was served.
 fn serve_list<R: Threads + Wait + Sync, P: Ports>(
     rt: &R,
     alloc: Global,
     serving: &Serving,
     list: &[u8],
     ports: &mut P,
-    posts: Vec<Post<P::Door, P::Clock, P::Dice>>,
-) -> (Vec<Post<P::Door, P::Clock, P::Dice>>, Result<House, Status>)
+    posts: Vec<PollPost<P::Poller, P::Clock, P::Dice>>,
+) -> (
+    Vec<PollPost<P::Poller, P::Clock, P::Dice>>,
+    Result<(House, Worked), Status>,
+)
 where
-    P::Door: Send + Drop,
-    <P::Door as Door>::Link: Send,
+    P::Poller: Send + Drop,
+    <P::Poller as Poller>::Link: Send + Drop,
     P::Clock: Send + Drop,
     P::Dice: Send + Drop,
-    requires some { 0 < serving.now.workers }
+    requires some { (0 < serving.now.workers) × (0 < serving.now.links) }
+    requires few { serving.now.workers * serving.now.links ≤ 1024 }
     requires posts { length posts.items ≡ serving.now.workers }
+    requires pollers { All (λ p. P.Poller.places p.poller ≡ serving.now.links) posts.items }
+    requires sources { All (λ p. length p.sources.items ≡ serving.now.links) posts.items }
+    requires free { All (λ p. (k : ℕ) → P.Poller.taken p.poller k ≡ false) posts.items }
     ensures kept { P.faults ports.old ≤ P.faults ports.new }
-    ensures same { tally (P.tapes ports.new) (P.links ports.new) (P.dice_faults ports.new) ≡ tally (P.tapes ports.old) (P.links ports.old)
-        (P.dice_faults ports.old) }
-    ensures many { length result.0.items ≡ length posts.items }
-    ensures served { IfOk result.1 (λ left. ServedBy serving.now.domain serving.now.workers list.now
-        (map (λ p. telling (P.Door.tapes p.door) (P.Clock.told p.clock) (P.Dice.drawn p.dice) (P.Door.links p.door) (P.Door.faults p.door) (P.Door.quota p.door)
-        (P.Dice.faults p.dice)) posts.items)
-        (map (λ p. telling (P.Door.tapes p.door) (P.Clock.told p.clock) (P.Dice.drawn p.dice) (P.Door.links p.door) (P.Door.faults p.door) (P.Door.quota p.door)
-        (P.Dice.faults p.dice)) result.0.items)
-        (held left)) }
-    ensures refused { IfErr result.1 (λ s. Refused list.now s (Rose (P.faults ports.old) (P.faults ports.new) ⊎ SomeRose
-        (map (λ p. telling (P.Door.tapes p.door) (P.Clock.told p.clock) (P.Dice.drawn p.dice) (P.Door.links p.door) (P.Door.faults p.door) (P.Door.quota p.door)
-        (P.Dice.faults p.dice)) posts.items)
-        (map (λ p. telling (P.Door.tapes p.door) (P.Clock.told p.clock) (P.Dice.drawn p.dice) (P.Door.links p.door) (P.Door.faults p.door) (P.Door.quota p.door)
-        (P.Dice.faults p.dice)) result.0.items))) }
+    ensures same { tally (P.tapes ports.new) (P.links ports.new) (P.dice_faults ports.new) (P.address ports.new)
+        ≡ tally (P.tapes ports.old) (P.links ports.old) (P.dice_faults ports.old) (P.address ports.old) }
+    ensures served { IfOk result.1 (λ left. ServedBy left.1 serving.now.domain (serving.now.workers * serving.now.links) list.now
+        (map (post_told P.Poller P.Clock P.Dice P.Poller.tapes P.Poller.came P.Poller.links P.Poller.faults P.Poller.quota P.Clock.told P.Dice.drawn P.Dice.faults)
+        posts.items)
+        (map (post_told P.Poller P.Clock P.Dice P.Poller.tapes P.Poller.came P.Poller.links P.Poller.faults P.Poller.quota P.Clock.told P.Dice.drawn P.Dice.faults)
+        result.0.items) (held left.0)) }
+    ensures refused { IfErr result.1 (λ s. Refused list.now s (Rose (P.faults ports.old) (P.faults ports.new))) }
+    ensures back { IfErr result.1 (λ _. result.0.items ≡ posts.items) }
+    ensures wide { All (λ p. P.Poller.places p.poller ≡ length p.sources.items) result.0.items }
 {
     match open(alloc, serving, list, ports) {
-        Ok((accounts, house)) => attend(rt, alloc, house, &accounts, posts, serving.workers),
+        Ok((accounts, house)) => attend(rt, alloc, serving, house, &accounts, posts),
         Err(status) => (posts, Err(status)),
     }
 }
@@ -165,35 +173,37 @@ fn status_of(fault: ListenFault) -> Status
     }
 }
 
-/// Serves at the ports over a list of accounts.
+/// Serves at the ports over a list of accounts. The house that all workers left, and whether a poller failed; or why nothing was served.
 fn serve_ports<R: Threads + Wait + Sync, P: Ports>(
     rt: &R,
     alloc: Global,
     serving: &Serving,
     list: &[u8],
     ports: &mut P,
-) -> Result<House, Status>
+) -> Result<(House, Worked), Status>
 where
-    P::Door: Send + Drop,
-    <P::Door as Door>::Link: Send,
+    P::Poller: Send + Drop,
+    <P::Poller as Poller>::Link: Send + Drop,
     P::Clock: Send + Drop,
     P::Dice: Send + Drop,
-    requires some { 0 < serving.now.workers }
+    requires some { (0 < serving.now.workers) × (0 < serving.now.links) }
+    requires few { serving.now.workers * serving.now.links ≤ 1024 }
     ensures kept { P.faults ports.old ≤ P.faults ports.new }
-    ensures served { IfOk result (λ left. (before : List Telling) × (now : List Telling) × (length before ≡ serving.now.workers)
-        × AllOpened serving.now.connections before × ServedBy serving.now.domain serving.now.workers list.now before now (held left)
-        × Gathered (tally (P.tapes ports.old) (P.links ports.old) (P.dice_faults ports.old)) now
-        (tally (P.tapes ports.new) (P.links ports.new) (P.dice_faults ports.new))) }
-    ensures given { IfErr result (λ s. HasListened s
-        → GivenBack serving.now.workers (tally (P.tapes ports.old) (P.links ports.old) (P.dice_faults ports.old))
-        (tally (P.tapes ports.new) (P.links ports.new) (P.dice_faults ports.new))) }
+    ensures served { IfOk result (λ left. (ran : Ran left.1 serving.now.domain serving.now.port serving.now.workers serving.now.links serving.now.connections list.now
+        (tally (P.tapes ports.old) (P.links ports.old) (P.dice_faults ports.old) (P.address ports.old))
+        (tally (P.tapes ports.new) (P.links ports.new) (P.dice_faults ports.new) (P.address ports.new))) × (ran.kept ≡ held left.0)) }
+    ensures failed { IfOk result (λ left. left.1 ≡ Worked.PollFault → Rose (P.faults ports.old) (P.faults ports.new)) }
     ensures refused { IfErr result (λ s. Refused list.now s (Rose (P.faults ports.old) (P.faults ports.new))) }
+    ensures unserved { IfErr result (LeftUnserved serving.now.port serving.now.workers serving.now.links serving.now.connections
+        (tally (P.tapes ports.old) (P.links ports.old) (P.dice_faults ports.old) (P.address ports.old))
+        (tally (P.tapes ports.new) (P.links ports.new) (P.dice_faults ports.new) (P.address ports.new))) }
 {
     let address = address_of(alloc, serving.port)?;
-    match ports.listen(alloc, &address, serving.workers, serving.connections) {
+    let (workers, links) = (serving.workers, serving.links);
+    match ports.pollers(alloc, &address, workers, links, serving.connections) {
         Ok(posts) => {
             let (posts, left) = serve_list(rt, alloc, serving, list, ports, posts);
-            ports.gather(posts);
+            ports.gather_pollers(posts);
             left
         }
         Err(fault) => Err(status_of(fault)),
@@ -210,43 +220,53 @@ fn run<R: Threads + Wait + Sync, S: Source, K: Sink, P: Ports>(
     ports: &mut P,
 ) -> Result<(), Status>
 where
-    P::Door: Send + Drop,
-    <P::Door as Door>::Link: Send,
+    P::Poller: Send + Drop,
+    <P::Poller as Poller>::Link: Send + Drop,
     P::Clock: Send + Drop,
     P::Dice: Send + Drop,
-    requires some { 0 < serving.now.workers }
+    requires some { (0 < serving.now.workers) × (0 < serving.now.links) }
+    requires few { serving.now.workers * serving.now.links ≤ 1024 }
     ensures kept { P.faults ports.old ≤ P.faults ports.new }
     ensures served { OnOk result ((list : List ℕ) × (line : List ℕ) × ReadsList (S.left source.old) (S.left source.new) list
-        × Served serving.now.domain serving.now.workers serving.now.connections list (tally (P.tapes ports.old) (P.links ports.old) (P.dice_faults ports.old))
-        (tally (P.tapes ports.new) (P.links ports.new) (P.dice_faults ports.new)) line
+        × Served serving.now.domain serving.now.port serving.now.workers serving.now.links serving.now.connections list
+        (tally (P.tapes ports.old) (P.links ports.old) (P.dice_faults ports.old) (P.address ports.old))
+        (tally (P.tapes ports.new) (P.links ports.new) (P.dice_faults ports.new) (P.address ports.new)) line
         × ((taken : List ℕ) → K.took sink.old ≡ Some taken → K.took sink.new ≡ Some (taken ++ line))) }
     ensures cut { IfErr result (λ s. s ≡ Status.WriteFault → (list : List ℕ) × (line : List ℕ) × ReadsList (S.left source.old) (S.left source.new) list
-        × Served serving.now.domain serving.now.workers serving.now.connections list (tally (P.tapes ports.old) (P.links ports.old) (P.dice_faults ports.old))
-        (tally (P.tapes ports.new) (P.links ports.new) (P.dice_faults ports.new)) line
+        × Served serving.now.domain serving.now.port serving.now.workers serving.now.links serving.now.connections list
+        (tally (P.tapes ports.old) (P.links ports.old) (P.dice_faults ports.old) (P.address ports.old))
+        (tally (P.tapes ports.new) (P.links ports.new) (P.dice_faults ports.new) (P.address ports.new)) line
         × ((taken : List ℕ) → K.took sink.old ≡ Some taken → Front taken line (K.took sink.new))) }
     ensures silent { IfErr result (λ s. s ≢ Status.WriteFault → sink.new ≡ sink.old) }
-    ensures given { IfErr result (λ s. HasListened s
-        → GivenBack serving.now.workers (tally (P.tapes ports.old) (P.links ports.old) (P.dice_faults ports.old))
-        (tally (P.tapes ports.new) (P.links ports.new) (P.dice_faults ports.new))) }
     ensures accounts { IfErr result (λ s. (n : ℕ) → s ≡ Status.Accounts n → (list : List ℕ) × ReadsList (S.left source.old) (S.left source.new) list
-        × IsRefused (entries_of list) s) }
+        × IsRefused (entries_of list) s × Unserved serving.now.port serving.now.workers serving.now.links serving.now.connections
+        (tally (P.tapes ports.old) (P.links ports.old) (P.dice_faults ports.old) (P.address ports.old))
+        (tally (P.tapes ports.new) (P.links ports.new) (P.dice_faults ports.new) (P.address ports.new))) }
+    ensures failed { IfErr result (λ s. s ≡ Status.ListenFault → (list : List ℕ) × ReadsList (S.left source.old) (S.left source.new) list
+        × ListeningFailed serving.now.domain serving.now.port serving.now.workers serving.now.links serving.now.connections list
+        (tally (P.tapes ports.old) (P.links ports.old) (P.dice_faults ports.old) (P.address ports.old))
+        (tally (P.tapes ports.new) (P.links ports.new) (P.dice_faults ports.new) (P.address ports.new))) }
     ensures read { IfErr result (λ s. s ≡ Status.ReadFault → Rose (S.faults source.old) (S.faults source.new)) }
     ensures written { IfErr result (λ s. s ≡ Status.WriteFault → Rose (K.faults sink.old) (K.faults sink.new)) }
     ensures listened { IfErr result (λ s. s ≡ Status.ListenFault → Rose (P.faults ports.old) (P.faults ports.new)) }
     ensures usage { IfErr result (λ s. (s ≢ Status.Usage) × (s ≢ Status.Done) × ((n : ℕ) → s ≢ Status.Script n)) }
 {
     let list = read_list(alloc, source)?;
-    let house = serve_ports(rt, alloc, serving, list.as_slice(), ports)?;
-    print_report(alloc, &house, sink)
+    let (house, worked) = serve_ports(rt, alloc, serving, list.as_slice(), ports)?;
+    match worked {
+        Worked::Shut => print_report(alloc, &house, sink),
+        Worked::PollFault => Err(Status::ListenFault),
+    }
 }
 
-/// Serves clients: reads the list of accounts from the source, to its end or past 8,388,608 bytes; opens the ports at 127.0.0.1; serves what comes,
-/// until each door handed out its connections or failed; and prints `links L turns T`: how many connections came, and how many turns the house
-/// took. Never returns if a door hands out links for ever, or a link goes on for ever.
+/// Serves clients: reads the list of accounts from the source, to its end or past 8,388,608 bytes; opens the ports at 127.0.0.1; serves what comes, at
+/// each worker as many connections at once as it has places, until each poller handed out its connections or failed; and prints `links L turns T`: how
+/// many connections came, and how many turns the house took. Unless it is to be quiet, it is noted how each connection ended. Never returns if a poller
+/// hands out links for ever, or a link goes on for ever.
 ///
 /// `Accounts` tells the first line at fault. `ReadFault`, `WriteFault` and `ListenFault` come only where the source, the sink, or the ports and their
-/// doors count a fault; what listens is given back to the ports in any case. At `WriteFault` the server ran to its end and a front of the line is
-/// printed; at any other fault nothing is.
+/// pollers count a fault; what listens is given back to the ports in any case. At `WriteFault` the server ran to its end and a front of the line is
+/// printed; at any other fault nothing is. At `ListenFault` either nothing was served, or the server served until each poller shut or failed.
 pub fn serve<R: Threads + Wait + Sync, S: Source, K: Sink, P: Ports>(
     rt: &R,
     alloc: Global,
@@ -256,25 +276,32 @@ pub fn serve<R: Threads + Wait + Sync, S: Source, K: Sink, P: Ports>(
     ports: &mut P,
 ) -> Status
 where
-    P::Door: Send + Drop,
-    <P::Door as Door>::Link: Send,
+    P::Poller: Send + Drop,
+    <P::Poller as Poller>::Link: Send + Drop,
     P::Clock: Send + Drop,
     P::Dice: Send + Drop,
-    requires some { 0 < serving.now.workers }
+    requires some { (0 < serving.now.workers) × (0 < serving.now.links) }
+    requires few { serving.now.workers * serving.now.links ≤ 1024 }
     ensures kept { P.faults ports.old ≤ P.faults ports.new }
     ensures served { result ≡ Status.Done → (list : List ℕ) × (line : List ℕ) × ReadsList (S.left source.old) (S.left source.new) list
-        × Served serving.now.domain serving.now.workers serving.now.connections list (tally (P.tapes ports.old) (P.links ports.old) (P.dice_faults ports.old))
-        (tally (P.tapes ports.new) (P.links ports.new) (P.dice_faults ports.new)) line
+        × Served serving.now.domain serving.now.port serving.now.workers serving.now.links serving.now.connections list
+        (tally (P.tapes ports.old) (P.links ports.old) (P.dice_faults ports.old) (P.address ports.old))
+        (tally (P.tapes ports.new) (P.links ports.new) (P.dice_faults ports.new) (P.address ports.new)) line
         × ((taken : List ℕ) → K.took sink.old ≡ Some taken → K.took sink.new ≡ Some (taken ++ line)) }
     ensures cut { result ≡ Status.WriteFault → (list : List ℕ) × (line : List ℕ) × ReadsList (S.left source.old) (S.left source.new) list
-        × Served serving.now.domain serving.now.workers serving.now.connections list (tally (P.tapes ports.old) (P.links ports.old) (P.dice_faults ports.old))
-        (tally (P.tapes ports.new) (P.links ports.new) (P.dice_faults ports.new)) line
+        × Served serving.now.domain serving.now.port serving.now.workers serving.now.links serving.now.connections list
+        (tally (P.tapes ports.old) (P.links ports.old) (P.dice_faults ports.old) (P.address ports.old))
+        (tally (P.tapes ports.new) (P.links ports.new) (P.dice_faults ports.new) (P.address ports.new)) line
         × ((taken : List ℕ) → K.took sink.old ≡ Some taken → Front taken line (K.took sink.new)) }
     ensures silent { result ≢ Status.Done → result ≢ Status.WriteFault → sink.new ≡ sink.old }
-    ensures given { HasListened result → GivenBack serving.now.workers (tally (P.tapes ports.old) (P.links ports.old) (P.dice_faults ports.old))
-        (tally (P.tapes ports.new) (P.links ports.new) (P.dice_faults ports.new)) }
     ensures accounts { (n : ℕ) → result ≡ Status.Accounts n → (list : List ℕ) × ReadsList (S.left source.old) (S.left source.new) list
-        × ((kind : LineKind) × (entries_of list ≡ Err (n, kind))) }
+        × ((kind : LineKind) × (entries_of list ≡ Err (n, kind))) × Unserved serving.now.port serving.now.workers serving.now.links serving.now.connections
+        (tally (P.tapes ports.old) (P.links ports.old) (P.dice_faults ports.old) (P.address ports.old))
+        (tally (P.tapes ports.new) (P.links ports.new) (P.dice_faults ports.new) (P.address ports.new)) }
+    ensures failed { result ≡ Status.ListenFault → (list : List ℕ) × ReadsList (S.left source.old) (S.left source.new) list
+        × ListeningFailed serving.now.domain serving.now.port serving.now.workers serving.now.links serving.now.connections list
+        (tally (P.tapes ports.old) (P.links ports.old) (P.dice_faults ports.old) (P.address ports.old))
+        (tally (P.tapes ports.new) (P.links ports.new) (P.dice_faults ports.new) (P.address ports.new)) }
     ensures read { result ≡ Status.ReadFault → Rose (S.faults source.old) (S.faults source.new) }
     ensures written { result ≡ Status.WriteFault → Rose (K.faults sink.old) (K.faults sink.new) }
     ensures listened { result ≡ Status.ListenFault → Rose (P.faults ports.old) (P.faults ports.new) }

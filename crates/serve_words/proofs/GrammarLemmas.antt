@@ -1,5 +1,5 @@
--- What clap makes of four options, each in one word.
-use Rattle.std.proofs.Common.{◌≡◌, ℕ, ◌++◌, List, [], ◌∷◌, true, Some, codes, refl}
+-- What clap makes of six options, each in one word.
+use Rattle.std.proofs.Common.{◌≡◌, ◌++◌, ℕ, List, [], ◌∷◌, true, Some, codes, refl}
 use Rattle.clap.specs.Words.{first_of, is_simple, matches_of, takes}
 use Rattle.clap.proofs.OnLiterals.{clap_on_literals}
 use Rattle.serve_words.specs.Grammars.{grammar}
@@ -8,25 +8,35 @@ pub is-simple : is_simple grammar ≡ true
 unfolding clap_on_literals
 is-simple = refl
 
-abbrev pub four : (d p w c : List ℕ) → List (List ℕ)
-four d p w c = (codes "--domain=" ++ d) ∷ (codes "--port=" ++ p) ∷ (codes "--workers=" ++ w) ∷ (codes "--connections=" ++ c) ∷ []
+abbrev pub six : (d p w l c q : List ℕ) → List (List ℕ)
+six d p w l c q =
+    (codes "--domain=" ++ d) ∷ (codes "--port=" ++ p) ∷ (codes "--workers=" ++ w) ∷ (codes "--links=" ++ l) ∷ (codes "--connections=" ++ c)
+    ∷ (codes "--quiet=" ++ q) ∷ []
 
-pub are-taken : (d p w c : List ℕ) → takes grammar (four d p w c) ≡ true
+pub are-taken : (d p w l c q : List ℕ) → takes grammar (six d p w l c q) ≡ true
 unfolding clap_on_literals
-are-taken d p w c = refl
+are-taken d p w l c q = refl
 
-pub domain-is : (d p w c : List ℕ) → first_of (codes "domain") (matches_of grammar (four d p w c)) ≡ Some d
+pub domain-is : (d p w l c q : List ℕ) → first_of (codes "domain") (matches_of grammar (six d p w l c q)) ≡ Some d
 unfolding clap_on_literals
-domain-is d p w c = refl
+domain-is d p w l c q = refl
 
-pub port-is : (d p w c : List ℕ) → first_of (codes "port") (matches_of grammar (four d p w c)) ≡ Some p
+pub port-is : (d p w l c q : List ℕ) → first_of (codes "port") (matches_of grammar (six d p w l c q)) ≡ Some p
 unfolding clap_on_literals
-port-is d p w c = refl
+port-is d p w l c q = refl
 
-pub workers-are : (d p w c : List ℕ) → first_of (codes "workers") (matches_of grammar (four d p w c)) ≡ Some w
+pub workers-are : (d p w l c q : List ℕ) → first_of (codes "workers") (matches_of grammar (six d p w l c q)) ≡ Some w
 unfolding clap_on_literals
-workers-are d p w c = refl
+workers-are d p w l c q = refl
 
-pub connections-are : (d p w c : List ℕ) → first_of (codes "connections") (matches_of grammar (four d p w c)) ≡ Some c
+pub links-are : (d p w l c q : List ℕ) → first_of (codes "links") (matches_of grammar (six d p w l c q)) ≡ Some l
 unfolding clap_on_literals
-connections-are d p w c = refl
+links-are d p w l c q = refl
+
+pub connections-are : (d p w l c q : List ℕ) → first_of (codes "connections") (matches_of grammar (six d p w l c q)) ≡ Some c
+unfolding clap_on_literals
+connections-are d p w l c q = refl
+
+pub quiet-is : (d p w l c q : List ℕ) → first_of (codes "quiet") (matches_of grammar (six d p w l c q)) ≡ Some q
+unfolding clap_on_literals
+quiet-is d p w l c q = refl

@@ -1,8 +1,11 @@
 -- The words of `serve`: options anywhere, each at most once.
-use Rattle.std.specs.Prelude.{◌≡◌, ℕ, ◌==◌, nat_le, nat_lt, Bool, true, false, not, ◌&&◌, List, [], ◌∷◌, length}
+use Rattle.std.specs.Prelude.{◌≡◌, ℕ, ◌*◌, ◌/◌, ◌==◌, min, nat_le, nat_lt, Bool, true, false, not, ◌&&◌, List, [], ◌∷◌, length}
 use Rattle.std.specs.Prelude.{Option, Some, None, ⊤, bytes_eq, codes, is_some, if◌then◌else◌}
+use Rattle.std.specs.Borrow.{Bor}
+use Rattle.std.specs.Fmt.{decimal}
 use Rattle.std.specs.Char.{is_ascii_digit}
 use Rattle.std.specs.List.{list_all}
+use Rattle.std.specs.Option.{option_map}
 use Rattle.std.specs.Result.{result_ok}
 use Rattle.std.specs.Str.Parse.{digits_value}
 use Rattle.jid_core.specs.Addresses.{Address, address_of}
@@ -12,7 +15,7 @@ use Rattle.script_play.specs.declared.status.Status.{Status}
 use Rattle.script_play.specs.declared.status.Status.TheVariants as status
 use Rattle.serve_run.specs.declared.serving.Serving.{Serving}
 use Rattle.serve_words.specs.declared.option.Name.{Name}
-use Rattle.serve_words.specs.declared.option.Name.TheVariants.{Domain, Port, Workers, Connections}
+use Rattle.serve_words.specs.declared.option.Name.TheVariants.{Domain, Port, Workers, Links, Connections, Quiet}
 use Rattle.serve_words.specs.declared.option.Given.{Given}
 use Rattle.serve_words.specs.declared.option.Met.{Met}
 use Rattle.serve_words.specs.declared.option.Met.TheVariants.{Whole, Waits, Neither}
@@ -23,6 +26,7 @@ named text =
     if bytes_eq text (codes "--domain") then Some Domain
     else if bytes_eq text (codes "--port") then Some Port
     else if bytes_eq text (codes "--workers") then Some Workers
+    else if bytes_eq text (codes "--links") then Some Links
     else if bytes_eq text (codes "--connections") then Some Connections
     else None
 
@@ -43,11 +47,19 @@ joined word = cut 61 word (λ text value. if bytes_eq value [] then None else on
 abbrev pub before_all : Set → Option (List Set) → Option (List Set)
 before_all one rest = on rest (λ more. Some (one ∷ more))
 
--- the options of words in their order: `--x=V`, or `--x` and then V as a word of its own, for which a name may wait
+-- `--quiet`, which has no value of its own
+abbrev pub is_quiet : List ℕ → Bool
+is_quiet word = bytes_eq word (codes "--quiet")
+
+abbrev pub quietly : Set
+quietly = record { name = Quiet; value = codes "yes" }
+
+-- the options of words in their order: `--quiet`, `--x=V`, or `--x` and then V as a word of its own, for which a name may wait
 abbrev pub options : Option Name → List (List ℕ) → Option (List Set)
 options None [] = Some []
 options (Some name) [] = None
-options None (word ∷ more) = if is_some (after 61 word) then on (joined word) (λ one. before_all one (options None more))
+options None (word ∷ more) = if is_quiet word then before_all quietly (options None more)
+    else if is_some (after 61 word) then on (joined word) (λ one. before_all one (options None more))
     else on (named word) (λ name. options (Some name) more)
 options (Some name) (word ∷ more) = if is_value word then before_all (record { name = name; value = word }) (options None more) else None
 
@@ -55,7 +67,9 @@ abbrev pub is_same : Name → Name → Bool
 is_same Domain Domain = true
 is_same Port Port = true
 is_same Workers Workers = true
+is_same Links Links = true
 is_same Connections Connections = true
+is_same Quiet Quiet = true
 is_same _ _ = false
 
 -- the values of an option
@@ -68,20 +82,30 @@ abbrev pub default : Name → List ℕ
 default Domain = codes "localhost"
 default Port = codes "5222"
 default Workers = codes "4"
+default Links = codes "256"
 default Connections = codes "0"
+default Quiet = codes "no"
 
 -- what stands before a value in one word with it
 abbrev pub spelled : Name → List ℕ
 spelled Domain = codes "--domain="
 spelled Port = codes "--port="
 spelled Workers = codes "--workers="
+spelled Links = codes "--links="
 spelled Connections = codes "--connections="
+spelled Quiet = codes "--quiet="
 
 -- the only one, or what stands where there is none
 abbrev pub only : List ℕ → List (List ℕ) → Option (List ℕ)
 only default [] = Some default
 only default (value ∷ []) = Some value
 only default _ = None
+
+-- the value that is given, if one is; none where several are
+abbrev pub sole : List (List ℕ) → Option (Option (List ℕ))
+sole [] = Some None
+sole (value ∷ []) = Some (Some value)
+sole _ = None
 
 -- the value of an option
 abbrev pub value_of : List Set → Name → Option (List ℕ)
@@ -106,24 +130,65 @@ alone text a = if not (is_some a.local) && not (is_some a.resource) && bytes_eq 
 abbrev pub domain : List ℕ → Option Address
 domain text = if nat_le (length text) 1017 then on (result_ok (address_of text)) (alone text) else None
 
+-- how many connections a worker serves at once where that isn't said: 1,024 divided by the workers, at most 256
+abbrev pub links_for : Option ℕ → List ℕ
+links_for None = default Links
+links_for (Some workers) = decimal (min 256 (1024 / workers))
+
+-- what stands for `--links` beside these workers
+abbrev pub links_by : List ℕ → List ℕ
+links_by workers = links_for (number 1 64 workers)
+
+-- what is said of each option
+pub record Said : Type 0 where
+  pub domain : List ℕ
+  pub port : List ℕ
+  pub workers : List ℕ
+  pub links : List ℕ
+  pub connections : List ℕ
+  pub quiet : List ℕ
+
+abbrev pub said_with : (domain port workers links connections quiet : Option (List ℕ)) → Option Said
+said_with d p w l c q =
+    on d (λ domain. on p (λ port. on w (λ workers. on l (λ links. on c (λ connections. on q (λ quiet.
+    Some (record { domain = domain; port = port; workers = workers; links = links; connections = connections; quiet = quiet })))))))
+
+abbrev pub links_of : List Set → Option (List ℕ)
+links_of given = on (value_of given Workers) (λ workers. only (links_by workers) (values_of Links given))
+
+abbrev pub said_in : List Set → Option Said
+said_in given =
+    said_with (value_of given Domain) (value_of given Port) (value_of given Workers) (links_of given) (value_of given Connections) (value_of given Quiet)
+
 -- what the words ask for
 pub record Wanted : Type 0 where
   pub domain : Address
   pub port : ℕ
   pub workers : ℕ
+  pub links : ℕ
   pub connections : ℕ
+  pub quiet : Bool
 
--- what the four values say
-abbrev pub wanted_by : (domain port workers connections : Option (List ℕ)) → Option Wanted
-wanted_by d p w c =
-    on (on d domain) (λ domain. on (on p (number 1 65535)) (λ port. on (on w (number 1 64)) (λ workers. on (on c (number 0 1000000)) (λ connections.
-    Some (record { domain = domain; port = port; workers = workers; connections = connections })))))
+-- all workers together serve at most 1,024 connections at once
+abbrev pub if_few : Wanted → Option Wanted
+if_few w = if nat_le (w.workers * w.links) 1024 then Some w else None
+
+-- what the values say
+abbrev pub wanted_by : Said → Option Wanted
+wanted_by s =
+    on (domain s.domain) (λ domain. on (number 1 65535 s.port) (λ port. on (number 1 64 s.workers) (λ workers. on (number 1 256 s.links) (λ links.
+    on (number 0 1000000 s.connections) (λ connections.
+    if_few (record { domain = domain; port = port; workers = workers; links = links; connections = connections; quiet = bytes_eq s.quiet (codes "yes") }))))))
 
 abbrev pub wanted_in : List Set → Option Wanted
-wanted_in given = wanted_by (value_of given Domain) (value_of given Port) (value_of given Workers) (value_of given Connections)
+wanted_in given = on (said_in given) wanted_by
 
 abbrev pub wanted : List (List ℕ) → Option Wanted
 wanted words = on (options None words) wanted_in
+
+-- a value that may have been found
+abbrev pub found_text : Option (Bor (List ℕ)) → Option (List ℕ)
+found_text found = option_map (λ (v : Bor (List ℕ)). v.now) found
 
 -- an option that was found, as it stands in the words
 abbrev pub set_of : Given → Set
@@ -153,4 +218,4 @@ IsRefusal read status.ListenFault = ⊥
 
 -- what a server is to serve, as it was asked for
 abbrev pub wanted_of : Serving → Wanted
-wanted_of s = record { domain = s.domain; port = s.port; workers = s.workers; connections = s.connections }
+wanted_of s = record { domain = s.domain; port = s.port; workers = s.workers; links = s.links; connections = s.connections; quiet = s.quiet }

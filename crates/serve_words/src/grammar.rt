@@ -3,7 +3,7 @@
 ghost use Rattle.std.specs.Prelude.{◌≡◌, IfErr, IfOk, map, string_bytes, true};
 ghost use Rattle.std.specs.Option.{option_map};
 ghost use Rattle.clap.specs.Words.{app_of, found_of, matches_of, rows_of, takes, with_rule};
-ghost use Rattle.serve_words.specs.Grammars.{grammar, option, value_in};
+ghost use Rattle.serve_words.specs.Grammars.{first_grammar, grammar, option, value_in};
 
 use clap::error::ErrorKind;
 use clap::{Arg, ArgAction, ArgMatches, Command};
@@ -21,9 +21,9 @@ fn with_option<'a>(
     command.arg(Arg::new(alloc, name).long(name).action(ArgAction::Set))
 }
 
-/// The options of `serve`, whose words come without its name; it has neither help nor a version.
-fn grammar<'a>(alloc: Global) -> Result<Command<'a>, AllocError>
-    ensures { IfOk result (λ command. app_of command ≡ grammar) }
+/// Where the server stands, and how many workers it has. The words come without a name; there is neither help nor a version.
+fn first_grammar<'a>(alloc: Global) -> Result<Command<'a>, AllocError>
+    ensures { IfOk result (λ command. app_of command ≡ first_grammar) }
 {
     let command = Command::new(alloc, "serve")
         .no_binary_name(true)
@@ -31,8 +31,17 @@ fn grammar<'a>(alloc: Global) -> Result<Command<'a>, AllocError>
         .disable_version_flag(true);
     let command = with_option(alloc, command, "domain")?;
     let command = with_option(alloc, command, "port")?;
-    let command = with_option(alloc, command, "workers")?;
-    with_option(alloc, command, "connections")
+    with_option(alloc, command, "workers")
+}
+
+/// The options of `serve`.
+fn grammar<'a>(alloc: Global) -> Result<Command<'a>, AllocError>
+    ensures { IfOk result (λ command. app_of command ≡ grammar) }
+{
+    let command = first_grammar(alloc)?;
+    let command = with_option(alloc, command, "links")?;
+    let command = with_option(alloc, command, "connections")?;
+    with_option(alloc, command, "quiet")
 }
 
 /// What clap makes of the words.

@@ -1,9 +1,9 @@
 //! The options, and what of each stands in the words.
 
-ghost use Rattle.std.specs.Prelude.{◌≡◌, None};
+ghost use Rattle.std.specs.Prelude.{◌≡◌, None, false};
 ghost use Rattle.std.specs.Option.{option_map};
 ghost use Rattle.jid_core.specs.Cuts.{after, before};
-ghost use Rattle.serve_words.specs.Options.{Finds, Meets, is_same, is_value, joined, named};
+ghost use Rattle.serve_words.specs.Options.{Finds, Meets, is_quiet, is_same, is_value, joined, named};
 
 /// An option of `serve`.
 #[derive(Clone, Copy)]
@@ -11,7 +11,9 @@ pub enum Name {
     Domain,
     Port,
     Workers,
+    Links,
     Connections,
+    Quiet,
 }
 
 /// An option with its value.
@@ -31,6 +33,8 @@ pub(crate) fn named(text: &str) -> Option<Name>
         Some(Name::Port)
     } else if text == "--workers" {
         Some(Name::Workers)
+    } else if text == "--links" {
+        Some(Name::Links)
     } else if text == "--connections" {
         Some(Name::Connections)
     } else {
@@ -101,7 +105,21 @@ pub(crate) fn meet(waits: Option<Name>, word: &str) -> Met<'_>
     }
 }
 
+/// `--quiet`, or what a word is that isn't.
 fn meet_first(word: &str) -> Met<'_>
+    ensures { Meets None word.now result }
+{
+    if word == "--quiet" {
+        return Met::Whole(Given {
+            name: Name::Quiet,
+            value: "yes",
+        });
+    }
+    meet_named(word)
+}
+
+fn meet_named(word: &str) -> Met<'_>
+    requires { is_quiet word.now ≡ false }
     ensures { Meets None word.now result }
 {
     let (_, value) = split(word);
@@ -126,7 +144,9 @@ pub(crate) fn is_same(one: Name, other: Name) -> bool
         (Name::Domain, Name::Domain) => true,
         (Name::Port, Name::Port) => true,
         (Name::Workers, Name::Workers) => true,
+        (Name::Links, Name::Links) => true,
         (Name::Connections, Name::Connections) => true,
+        (Name::Quiet, Name::Quiet) => true,
         _ => false,
     }
 }

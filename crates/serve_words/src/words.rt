@@ -1,10 +1,10 @@
 //! What the words of `serve` ask for.
 
-ghost use Rattle.std.specs.Prelude.{◌≡◌, ◌<◌, ◌≤◌, ◌++◌, None, Some, IfOk, IfErr, IfSome, codes, map, string_bytes};
+ghost use Rattle.std.specs.Prelude.{◌≡◌, ◌<◌, ◌≤◌, ◌*◌, ◌++◌, None, Some, IfOk, IfErr, map, string_bytes};
 ghost use Rattle.std.specs.Option.{option_map};
+ghost use Rattle.serve_words.specs.Grammars.{said_by, said_of};
 ghost use Rattle.account_book.specs.Fields.{on};
-ghost use Rattle.serve_words.specs.Grammars.{value_in};
-ghost use Rattle.serve_words.specs.Options.{IsRefusal, default, domain, number, only, options, set_of, spelled, value_of};
+ghost use Rattle.serve_words.specs.Options.{IsRefusal, default, domain, found_text, links_by, links_for, links_of, only, options, said_with, set_of, sole, spelled, value_of};
 ghost use Rattle.serve_words.specs.Options.{values_of, wanted, wanted_by, wanted_in, wanted_of};
 
 use crate::grammar::{parse, value};
@@ -61,13 +61,15 @@ fn default(name: Name) -> &'static str
         Name::Domain => "localhost",
         Name::Port => "5222",
         Name::Workers => "4",
+        Name::Links => "256",
         Name::Connections => "0",
+        Name::Quiet => "no",
     }
 }
 
-/// The only value of an option, or what stands where there is none.
-fn only<'a>(given: &[Given<'a>], name: Name, default: &'a str) -> Option<&'a str>
-    ensures { option_map (λ value. value.now) result ≡ only default.now (values_of name (map set_of given.now)) }
+/// The value that is given of an option, if one is; none where several are.
+fn sole<'a>(given: &[Given<'a>], name: Name) -> Option<Option<&'a str>>
+    ensures { option_map found_text result ≡ sole (values_of name (map set_of given.now)) }
 {
     let mut found = None;
     for one in given {
@@ -78,7 +80,19 @@ fn only<'a>(given: &[Given<'a>], name: Name, default: &'a str) -> Option<&'a str
             found = Some(one.value);
         }
     }
-    Some(found.unwrap_or(default))
+    Some(found)
+}
+
+/// The only value of an option, or what stands where there is none.
+#[tactic(auto, using(crate::proofs::OptionLemmas::only_some, crate::proofs::OptionLemmas::only_none, crate::proofs::OptionLemmas::only_many))]
+fn only<'a>(given: &[Given<'a>], name: Name, default: &'a str) -> Option<&'a str>
+    ensures { option_map (λ value. value.now) result ≡ only default.now (values_of name (map set_of given.now)) }
+{
+    match sole(given, name) {
+        Some(Some(value)) => Some(value),
+        Some(None) => Some(default),
+        None => None,
+    }
 }
 
 /// The value of an option.
@@ -96,7 +110,9 @@ fn spelled(name: Name) -> &'static str
         Name::Domain => "--domain=",
         Name::Port => "--port=",
         Name::Workers => "--workers=",
+        Name::Links => "--links=",
         Name::Connections => "--connections=",
+        Name::Quiet => "--quiet=",
     }
 }
 
@@ -130,87 +146,184 @@ fn domain_of(alloc: Global, text: &[u8]) -> Result<Jid, Status>
     }
 }
 
-/// The domain that was read.
-fn read_domain(alloc: Global, text: Option<&str>) -> Result<Jid, Status>
-    ensures found { IfOk result (λ jid. on (option_map (λ text. text.now) text.entry) domain ≡ Some jid) }
-    ensures refused { IfErr result (IsRefusal (on (option_map (λ text. text.now) text.entry) domain)) }
-{
-    match text {
-        Some(text) => domain_of(alloc, text.as_bytes()),
-        None => Err(Status::Usage),
-    }
-}
-
-/// The number that was read, from the least to the most.
-fn read_number(text: Option<&str>, least: u64, most: u64) -> Option<u64>
-    ensures number { result ≡ on (option_map (λ text. text.now) text.entry) (number least most) }
-    ensures least { IfSome result (λ n. least ≤ n) }
-{
-    number(text?, least, most)
-}
-
 /// The greatest port (RFC 9293, 3.1).
 const MOST_PORT: u64 = 65_535;
 
-/// How many workers there may be: each has a thread, and serves one connection at a time.
+/// How many workers there may be: each has a thread.
 const MOST_WORKERS: u64 = 64;
 
-/// How many connections a worker may be told to serve: more is for ever, which is what it does where it isn't told.
+/// How many connections a worker may serve at once.
+const MOST_LINKS: u64 = 256;
+
+/// How many connections all workers may serve at once.
+const MOST_PLACES: u64 = 1_024;
+
+/// How many connections a worker may be told to serve in all: more is for ever, which is what it does where it isn't told.
 const MOST_CONNECTIONS: u64 = 1_000_000;
 
-/// What the values that clap read ask for.
-fn read_values(alloc: Global, matches: &ArgMatches<'_>) -> Result<Serving, Status>
-    ensures found { IfOk result (λ serving. wanted_by (value_in matches.now (codes "domain")) (value_in matches.now (codes "port"))
-        (value_in matches.now (codes "workers")) (value_in matches.now (codes "connections")) ≡ Some (wanted_of serving)) }
-    ensures some { IfOk result (λ serving. 0 < serving.workers) }
-    ensures refused { IfErr result (IsRefusal (wanted_by (value_in matches.now (codes "domain")) (value_in matches.now (codes "port"))
-        (value_in matches.now (codes "workers")) (value_in matches.now (codes "connections")))) }
+/// How many connections a worker serves at once where that isn't said.
+fn links_by(alloc: Global, workers: &str) -> Result<String, AllocError>
+    ensures { IfOk result (λ text. string_bytes text ≡ links_by workers.now) }
 {
-    let domain = read_domain(alloc, value(matches, "domain"))?;
-    let Some(port) = read_number(value(matches, "port"), 1, MOST_PORT) else {
+    match number(workers, 1, MOST_WORKERS) {
+        Some(workers) => links_for(alloc, workers),
+        None => String::from_str(alloc, default(Name::Links)),
+    }
+}
+
+fn links_for(alloc: Global, workers: u64) -> Result<String, AllocError>
+    requires { 0 < workers }
+    ensures { IfOk result (λ text. string_bytes text ≡ links_for (Some workers)) }
+{
+    let links = (MOST_PLACES / workers).min(MOST_LINKS);
+    format!(in alloc; "{}", links)
+}
+
+/// What is said of each option.
+#[derive(Clone, Copy)]
+struct Texts<'a> {
+    domain: &'a str,
+    port: &'a str,
+    workers: &'a str,
+    links: &'a str,
+    connections: &'a str,
+    quiet: &'a str,
+}
+
+/// The values that clap read.
+fn said<'a>(matches: &ArgMatches<'a>) -> Option<Texts<'a>>
+    ensures { option_map said_of result ≡ said_by matches.now }
+{
+    Some(Texts {
+        domain: value(matches, "domain")?,
+        port: value(matches, "port")?,
+        workers: value(matches, "workers")?,
+        links: value(matches, "links")?,
+        connections: value(matches, "connections")?,
+        quiet: value(matches, "quiet")?,
+    })
+}
+
+/// What the values ask for.
+fn serving_of(alloc: Global, said: &Texts<'_>) -> Result<Serving, Status>
+    ensures found { IfOk result (λ serving. wanted_by (said_of said.now) ≡ Some (wanted_of serving)) }
+    ensures some { IfOk result (λ serving. 0 < serving.workers) }
+    ensures each { IfOk result (λ serving. 0 < serving.links) }
+    ensures few { IfOk result (λ serving. serving.workers * serving.links ≤ 1024) }
+    ensures refused { IfErr result (IsRefusal (wanted_by (said_of said.now))) }
+{
+    let domain = domain_of(alloc, said.domain.as_bytes())?;
+    let Some(port) = number(said.port, 1, MOST_PORT) else {
         return Err(Status::Usage);
     };
-    let Some(workers) = read_number(value(matches, "workers"), 1, MOST_WORKERS) else {
+    let Some(workers) = number(said.workers, 1, MOST_WORKERS) else {
         return Err(Status::Usage);
     };
-    let Some(connections) = read_number(value(matches, "connections"), 0, MOST_CONNECTIONS) else {
+    let Some(links) = number(said.links, 1, MOST_LINKS) else {
         return Err(Status::Usage);
     };
+    let Some(connections) = number(said.connections, 0, MOST_CONNECTIONS) else {
+        return Err(Status::Usage);
+    };
+    if workers * links > MOST_PLACES {
+        return Err(Status::Usage);
+    }
     Ok(Serving {
         domain,
         port: port as u16,
         workers: workers as u32,
+        links: links as u32,
         connections,
+        quiet: said.quiet == "yes",
     })
 }
 
+/// What clap makes of the texts, each in one word with its option.
+fn read_said(alloc: Global, given: &Texts<'_>) -> Result<Serving, Status>
+    ensures found { IfOk result (λ serving. wanted_by (said_of given.now) ≡ Some (wanted_of serving)) }
+    ensures some { IfOk result (λ serving. 0 < serving.workers) }
+    ensures each { IfOk result (λ serving. 0 < serving.links) }
+    ensures few { IfOk result (λ serving. serving.workers * serving.links ≤ 1024) }
+    ensures refused { IfErr result (IsRefusal (wanted_by (said_of given.now))) }
+{
+    let words = [
+        word_of(alloc, Name::Domain, given.domain)?,
+        word_of(alloc, Name::Port, given.port)?,
+        word_of(alloc, Name::Workers, given.workers)?,
+        word_of(alloc, Name::Links, given.links)?,
+        word_of(alloc, Name::Connections, given.connections)?,
+        word_of(alloc, Name::Quiet, given.quiet)?,
+    ];
+    match parse(alloc, words.as_slice()) {
+        Ok(matches) => read_matches(alloc, &matches),
+        Err(status) => Err(status),
+    }
+}
+
+/// What the values ask for that clap read.
+fn read_matches(alloc: Global, matches: &ArgMatches<'_>) -> Result<Serving, Status>
+    ensures found { IfOk result (λ serving. on (said_by matches.now) wanted_by ≡ Some (wanted_of serving)) }
+    ensures some { IfOk result (λ serving. 0 < serving.workers) }
+    ensures each { IfOk result (λ serving. 0 < serving.links) }
+    ensures few { IfOk result (λ serving. serving.workers * serving.links ≤ 1024) }
+    ensures refused { IfErr result (IsRefusal (on (said_by matches.now) wanted_by)) }
+{
+    match said(matches) {
+        Some(said) => serving_of(alloc, &said),
+        None => Err(Status::Usage),
+    }
+}
+
+/// The texts that stand for the options beside this one for `--links`.
+fn texts_of<'a>(given: &[Given<'a>], links: &'a str) -> Option<Texts<'a>>
+    ensures { option_map said_of result ≡ said_with (value_of (map set_of given.now) Name.Domain) (value_of (map set_of given.now) Name.Port)
+        (value_of (map set_of given.now) Name.Workers) (Some links.now) (value_of (map set_of given.now) Name.Connections)
+        (value_of (map set_of given.now) Name.Quiet) }
+{
+    Some(Texts {
+        domain: value_of(given, Name::Domain)?,
+        port: value_of(given, Name::Port)?,
+        workers: value_of(given, Name::Workers)?,
+        links,
+        connections: value_of(given, Name::Connections)?,
+        quiet: value_of(given, Name::Quiet)?,
+    })
+}
+
+/// What the options ask for, where so many links stand for `--links`.
+fn read_with(alloc: Global, given: &[Given<'_>], links: &str) -> Result<Serving, Status>
+    requires { links_of (map set_of given.now) ≡ Some links.now }
+    ensures found { IfOk result (λ serving. wanted_in (map set_of given.now) ≡ Some (wanted_of serving)) }
+    ensures some { IfOk result (λ serving. 0 < serving.workers) }
+    ensures each { IfOk result (λ serving. 0 < serving.links) }
+    ensures few { IfOk result (λ serving. serving.workers * serving.links ≤ 1024) }
+    ensures refused { IfErr result (IsRefusal (wanted_in (map set_of given.now))) }
+{
+    match texts_of(given, links) {
+        Some(texts) => read_said(alloc, &texts),
+        None => Err(Status::Usage),
+    }
+}
+
 /// What the options ask for: clap reads their values.
+#[tactic(auto, using(crate::proofs::WantedLemmas::without_workers, crate::proofs::WantedLemmas::without_links, crate::proofs::WantedLemmas::given_links, crate::proofs::WantedLemmas::most_links))]
 fn read_options(alloc: Global, given: &[Given<'_>]) -> Result<Serving, Status>
     ensures found { IfOk result (λ serving. wanted_in (map set_of given.now) ≡ Some (wanted_of serving)) }
     ensures some { IfOk result (λ serving. 0 < serving.workers) }
+    ensures each { IfOk result (λ serving. 0 < serving.links) }
+    ensures few { IfOk result (λ serving. serving.workers * serving.links ≤ 1024) }
     ensures refused { IfErr result (IsRefusal (wanted_in (map set_of given.now))) }
 {
-    let Some(domain) = value_of(given, Name::Domain) else {
-        return Err(Status::Usage);
-    };
-    let Some(port) = value_of(given, Name::Port) else {
-        return Err(Status::Usage);
-    };
     let Some(workers) = value_of(given, Name::Workers) else {
         return Err(Status::Usage);
     };
-    let Some(connections) = value_of(given, Name::Connections) else {
-        return Err(Status::Usage);
-    };
-    let words = [
-        word_of(alloc, Name::Domain, domain)?,
-        word_of(alloc, Name::Port, port)?,
-        word_of(alloc, Name::Workers, workers)?,
-        word_of(alloc, Name::Connections, connections)?,
-    ];
-    match parse(alloc, words.as_slice()) {
-        Ok(matches) => read_values(alloc, &matches),
-        Err(status) => Err(status),
+    match sole(given, Name::Links) {
+        Some(Some(links)) => read_with(alloc, given, links),
+        Some(None) => {
+            let most = links_by(alloc, workers)?;
+            read_with(alloc, given, most.as_str())
+        }
+        None => Err(Status::Usage),
     }
 }
 
@@ -218,6 +331,8 @@ fn read_options(alloc: Global, given: &[Given<'_>]) -> Result<Serving, Status>
 pub fn read_serve(alloc: Global, words: &[Text]) -> Result<Serving, Status>
     ensures found { IfOk result (λ serving. wanted words.now ≡ Some (wanted_of serving)) }
     ensures some { IfOk result (λ serving. 0 < serving.workers) }
+    ensures each { IfOk result (λ serving. 0 < serving.links) }
+    ensures few { IfOk result (λ serving. serving.workers * serving.links ≤ 1024) }
     ensures refused { IfErr result (IsRefusal (wanted words.now)) }
 {
     let given = options(alloc, words)?;

@@ -1,6 +1,7 @@
 //! Each form in memory, call by call, with a fault in the middle.
 ghost use Rattle.std.specs.Prelude.{◌≡◌, Some, [], IfOk};
-ghost use Rattle.outside.specs.Posts.{IsUnused};
+ghost use Rattle.outside.specs.Polls.{IsFresh, SeatState};
+ghost use Rattle.outside.specs.Posts.{Each, IsUnused};
 
 use outside::*;
 use stanza_tree::{Several, Text};
@@ -177,14 +178,72 @@ fn a_door_hands_out_links(rt: HostRuntime) -> Result<(), Fail> {
     Ok(())
 }
 
-fn post_of(alloc: Global) -> Result<Post<MemDoor, MemClock, MemDice>, Fail>
+// What a wait comes to, where a link that comes is said a byte to and given back.
+fn attend<R: Wait, P: Poller>(rt: &R, poller: &mut P) -> &'static str {
+    match poller.wait(rt) {
+        Ring::New(k, link) => {
+            let mut link = link;
+            link.send(b"x");
+            poller.done(k, link);
+            "new"
+        }
+        Ring::Ready(_) => "ready",
+        Ring::Shut => "shut",
+        Ring::Failed => "failed",
+    }
+}
+
+fn poller_of(alloc: Global) -> Result<MemPoller, Fail>
+    ensures faults { IfOk result (λ p. p.plan.faults ≡ 0) }
+    ensures links { IfOk result (λ p. p.links ≡ 0) }
+    ensures fresh { IfOk result (λ p. Each SeatState IsFresh p.places) }
+{
+    let script = Vec::from_array(
+        alloc,
+        [Rung::New(1), Rung::New(0), Rung::Ready(0), Rung::New(0)],
+    )?;
+    let links = Vec::from_array(alloc, [link_of(alloc, 4, 8)?, link_of(alloc, 4, 8)?])?;
+    let fails = Vec::from_array(alloc, [2u64])?;
+    Ok(MemPoller::new(alloc, 2, script, links, fails, 1, 10)?)
+}
+
+// The second wait fails by the plan, and the next ones follow the script: at a place that isn't taken nothing is ready, and once the quota came
+// the poller is shut.
+#[test]
+fn a_poller_rings_by_its_script(rt: HostRuntime) -> Result<(), Fail> {
+    let mut poller = poller_of(rt.alloc())?;
+    poller.set_quota(2);
+    for (i, came) in ["new", "failed", "new", "shut"].iter().enumerate() {
+        assert!(rt; attend(&rt, &mut poller) == *came, "case {i}");
+    }
+    assert_eq!(rt; poller.links(), 2);
+    assert_eq!(rt; poller.faults(), 1);
+    for k in 0..2 {
+        assert_eq!(rt; poller.tapes(k).len(), 1, "place {k}");
+    }
+    assert!(rt; poller.rung() == [Rung::New(1), Rung::Failed, Rung::New(0), Rung::Shut].as_slice());
+    poller.set_quota(0);
+    assert!(rt; attend(&rt, &mut poller) == "failed");
+    Ok(())
+}
+
+fn sources_of(alloc: Global) -> Result<Vec<Sources<MemClock, MemDice>>, Fail> {
+    let mut sources = Vec::new(alloc);
+    for _place in 0..2 {
+        sources.push(Sources {
+            clock: MemClock::new(alloc, Vec::new(alloc), 0)?,
+            dice: MemDice::new(alloc, Vec::new(alloc), Vec::new(alloc), 0)?,
+        })?;
+    }
+    Ok(sources)
+}
+
+fn post_of(alloc: Global) -> Result<PollPost<MemPoller, MemClock, MemDice>, Fail>
     ensures { IfOk result IsUnused }
 {
-    Ok(Post {
-        door: door_of(alloc)?,
-        clock: MemClock::new(alloc, Vec::new(alloc), 0)?,
-        dice: MemDice::new(alloc, Vec::new(alloc), Vec::new(alloc), 0)?,
-    })
+    let poller = poller_of(alloc)?;
+    let sources = sources_of(alloc)?;
+    Ok(PollPost { poller, sources })
 }
 
 fn ports_of(alloc: Global) -> Result<MemPorts, Fail> {
@@ -195,28 +254,33 @@ fn ports_of(alloc: Global) -> Result<MemPorts, Fail> {
     Ok(MemPorts::new(alloc, posts, dice, fails, 2)?)
 }
 
-// The second call, a filling, fails; so does a listening for more posts than there are.
+// The second call, a filling, fails; so does asking for more pollers than there are.
 #[test]
-fn ports_gather_what_their_doors_counted(rt: HostRuntime) -> Result<(), Fail> {
+fn ports_gather_what_their_pollers_counted(rt: HostRuntime) -> Result<(), Fail> {
     let alloc = rt.alloc();
     let address = Text::of(alloc, b"127.0.0.1:5222")?;
     let mut ports = ports_of(alloc)?;
-    let mut posts = ports.listen(alloc, &address, 2, 1)?;
+    let mut posts = ports.pollers(alloc, &address, 2, 2, 1)?;
     let mut into = [0u8; 2];
     assert_eq!(rt; ports.fill(&mut into), Filled::Failed);
     assert_eq!(rt; ports.fill(&mut into), Filled::Full);
     for post in posts.iter_mut() {
-        assert!(rt; serve(&rt, &mut post.door) == "link");
-        assert!(rt; serve(&rt, &mut post.door) == "shut");
+        assert!(rt; attend(&rt, &mut post.poller) == "new");
+        assert!(rt; attend(&rt, &mut post.poller) == "shut");
     }
-    ports.gather(posts);
+    ports.gather_pollers(posts);
     assert_eq!(rt; ports.links(), 2);
     assert_eq!(rt; ports.faults(), 1);
     assert_eq!(rt; ports.dice_faults(), 0);
-    assert_eq!(rt; ports.doors().len(), 2);
+    assert_eq!(rt; ports.pollers_back().len(), 2);
+    assert!(rt;
+        ports
+            .address()
+            .is_some_and(|at| at.bytes() == address.bytes())
+    );
     assert!(rt;
         matches!(
-            ports.listen(alloc, &address, 1, 0),
+            ports.pollers(alloc, &address, 1, 2, 0),
             Err(ListenFault::Failed)
         )
     );
@@ -240,14 +304,17 @@ fn clean_forms_never_fail(rt: HostRuntime) -> Result<(), Fail> {
     );
     assert_eq!(rt; ports.fill(&mut into), Filled::Full);
     assert!(rt; into == *b"ab\0\0");
-    let mut posts = ports.listen(alloc, &address, 2, 1)?;
+    let mut posts = ports.pollers(alloc, &address, 2, 3, 1)?;
     for post in posts.iter_mut() {
-        assert!(rt; serve(&rt, &mut post.door) == "link");
-        assert!(rt; serve(&rt, &mut post.door) == "shut");
-        assert_eq!(rt; post.clock.moment(), 0);
-        assert_eq!(rt; post.dice.fill(&mut into), Filled::Full);
+        assert!(rt; attend(&rt, &mut post.poller) == "new");
+        assert!(rt; attend(&rt, &mut post.poller) == "shut");
+        assert_eq!(rt; post.sources.len(), 3);
+        for place in post.sources.iter_mut() {
+            assert_eq!(rt; place.clock.moment(), 0);
+            assert_eq!(rt; place.dice.fill(&mut into), Filled::Full);
+        }
     }
-    ports.gather(posts);
+    ports.gather_pollers(posts);
     assert_eq!(rt; ports.links(), 2);
     Ok(())
 }

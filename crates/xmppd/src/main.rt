@@ -8,6 +8,7 @@ use outside_net::{NetPorts, ReaderSource, WriterSink};
 use script_play::Status;
 use stanza_tree::Text;
 use std::alloc::Global;
+use std::io::Eprint;
 use std::net::Net;
 use std::process::ExitCode;
 use std::random::RandomSource;
@@ -32,7 +33,7 @@ fn main(rt: HostRuntime) -> ExitCode {
 
 /// Runs the command over the network, the clock and the random bytes of this system.
 fn run_on<
-    R: Threads + Wait + Sync + Net + Clock + RandomSource + Clone + Send + Drop,
+    R: Threads + Wait + Sync + Net + Clock + RandomSource + Eprint + Clone + Send + Drop,
     S: Source,
     K: Sink,
 >(rt: &R, alloc: Global, words: &[Text], source: &mut S, sink: &mut K) -> Status {

@@ -1,35 +1,45 @@
 use Rattle.std.proofs.Common.{refl}
-use Rattle.conn_serve.proofs.Listening.{comes_late, hears_bytes, is_failed, is_hung, is_quiet, loses_bytes}
+use Rattle.conn_serve.proofs.Listening.{comes_late, hears_bytes, hears_no_more, is_failed, is_hung, is_quiet, loses_bytes}
 use Rattle.conn_serve.proofs.listen.read.Goals as goal
+
+pub returns-in_default-clause-read : goal.returns-in_default-clause-read
+returns-in_default-clause-read g c = λ o p turns drawn dice at.
+    rw c.in_default.ensures.unread (hears_no_more o p _ _ _ _ _ at c.requires.rests c.moment.ensures)
 
 pub returns-then-is_late-clause-read : goal.returns-then-is_late-clause-read
 returns-then-is_late-clause-read g c = λ o p turns drawn dice at.
-    comes_late o p _ _ _ _ _ _ _ _ turns _ _ drawn _ _ _ _ dice at c.requires.rests c.requires.none c.in-Bytes.ensures.told.0
-    c.if-is_late.ensures c.late.ensures c.clear.ensures c.in-Bytes.ensures.told.1 c.moment-moment.ensures.told c.in-Bytes.ensures.kept
-    c.in-Bytes.ensures.ends_kept
+    let told = rw c.in-Bytes.is at c.in-Ok.ensures.told in
+    comes_late o p _ _ _ _ _ _ _ _ turns _ _ drawn _ _ _ _ dice at c.requires.rests c.requires.none told.0
+    c.if-is_late.ensures c.late.ensures c.clear.ensures told.1 c.moment-moment.ensures.told c.in-Ok.ensures.kept
+    c.in-Ok.ensures.ends_kept
 
-pub returns-in-Ok-clause-read : goal.returns-in-Ok-clause-read
-returns-in-Ok-clause-read g c = λ o p turns drawn dice at.
-    hears_bytes o p _ _ _ _ _ _ _ _ turns _ _ drawn _ _ _ _ dice at c.requires.rests c.requires.none c.in-Bytes.ensures.told.0
-    c.if-is_late.ensures c.in-Ok.ensures c.in-Bytes.ensures.told.1 c.moment-moment.ensures.told c.in-Bytes.ensures.kept c.in-Bytes.ensures.ends_kept
+pub returns-in-Ok-hear-clause-read : goal.returns-in-Ok-hear-clause-read
+returns-in-Ok-hear-clause-read g c = λ o p turns drawn dice at.
+    let told = rw c.in-Bytes.is at c.in-Ok.ensures.told in
+    hears_bytes o p _ _ _ _ _ _ _ _ turns _ _ drawn _ _ _ _ dice at c.requires.rests c.requires.none told.0
+    c.if-is_late.ensures c.in-Ok-hear.ensures told.1 c.moment-moment.ensures.told c.in-Ok.ensures.kept c.in-Ok.ensures.ends_kept
 
 pub returns-in-Err-clause-read : goal.returns-in-Err-clause-read
 returns-in-Err-clause-read g c = λ o p turns drawn dice at.
-    loses_bytes o p _ _ _ _ _ _ turns _ _ drawn _ _ _ _ dice at c.requires.rests c.requires.none c.in-Bytes.ensures.told.0
-    c.if-is_late.ensures c.in-Bytes.ensures.told.1 c.moment-moment.ensures.told c.in-Bytes.ensures.kept c.in-Bytes.ensures.ends_kept
+    let told = rw c.in-Bytes.is at c.in-Ok.ensures.told in
+    loses_bytes o p _ _ _ _ _ _ turns _ _ drawn _ _ _ _ dice at c.requires.rests c.requires.none told.0
+    c.if-is_late.ensures told.1 c.moment-moment.ensures.told c.in-Ok.ensures.kept c.in-Ok.ensures.ends_kept
 
 pub returns-in-Quiet-clause-read : goal.returns-in-Quiet-clause-read
 returns-in-Quiet-clause-read g c = λ o p turns drawn dice at.
+    let told = rw c.in-Quiet.is at c.in-Ok.ensures.told in
     is_quiet o p _ _ _ _ _ _ _ turns _ _ drawn _ _ _ _ dice at c.requires.rests c.requires.none
-    c.in-Quiet.ensures.told.0 c.quiet.ensures c.in-Quiet.ensures.told.1 c.moment-moment.ensures.told c.in-Quiet.ensures.kept c.in-Quiet.ensures.ends_kept
+    told.0 c.quiet.ensures told.1 c.moment-moment.ensures.told c.in-Ok.ensures.kept c.in-Ok.ensures.ends_kept
 
 pub returns-in-End-clause-read : goal.returns-in-End-clause-read
 returns-in-End-clause-read g c = λ o p turns drawn dice at.
+    let told = rw c.in-End.is at c.in-Ok.ensures.told in
     is_hung o p _ _ _ _ _ _ _ turns _ _ drawn _ _ _ _ dice at c.requires.rests c.requires.none
-    c.in-End.ensures.told.0 c.hung.ensures c.in-End.ensures.told.1 c.moment-moment.ensures.told c.in-End.ensures.kept c.in-End.ensures.ends_kept
-    (c.in-End.ensures.ended refl)
+    told.0 c.hung.ensures told.1 c.moment-moment.ensures.told c.in-Ok.ensures.kept c.in-Ok.ensures.ends_kept
+    (rw c.in-End.is at c.in-Ok.ensures.ended refl)
 
 pub returns-in-Failed-clause-read : goal.returns-in-Failed-clause-read
 returns-in-Failed-clause-read g c = λ o p turns drawn dice at.
+    let told = rw c.in-Failed.is at c.in-Ok.ensures.told in
     is_failed o p _ _ _ _ _ turns _ _ drawn _ _ _ _ dice at c.requires.rests c.requires.none
-    c.in-Failed.ensures.told.1 c.moment-moment.ensures.told c.in-Failed.ensures.kept c.in-Failed.ensures.ends_kept (c.in-Failed.ensures.cause refl)
+    told.1 c.moment-moment.ensures.told c.in-Ok.ensures.kept c.in-Ok.ensures.ends_kept (rw c.in-Failed.is at c.in-Ok.ensures.cause refl)

@@ -3,5 +3,5 @@ use Rattle.outside_net.proofs.net_ports.make_bells.Given as goal
 
 abbrev pub invariant-loop-worker : goal.invariant-loop-worker
 invariant-loop-worker g l = record {
-  made : length l.pollers.items ≡ l._worker;
+  made : length l.polls.items ≡ l._worker;
 }

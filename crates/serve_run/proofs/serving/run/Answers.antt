@@ -1,57 +1,69 @@
 use Rattle.serve_run.specs.Services.{tally}
-use Rattle.serve_run.proofs.Running.{by_printing, given_printed, memory-accounts, memory-done, memory-listen, memory-read, memory-script, memory-usage}
-use Rattle.serve_run.proofs.Running.{printed, printed_front, printed_nothing, run_served, write-accounts, write-done, write-listen, write-read, write-script}
-use Rattle.serve_run.proofs.Running.{write-usage}
+use Rattle.serve_run.proofs.Running.{by_printing, memory-accounts, memory-done, memory-listen, memory-read, memory-script, memory-usage}
+use Rattle.serve_run.proofs.Running.{printed, printed_front, printed_nothing, run_failed, run_served, write-accounts, write-done}
+use Rattle.serve_run.proofs.Running.{write-listen, write-read, write-script, write-usage}
 use Rattle.serve_run.proofs.serving.run.Goals as goal
 
-pub returns-clause-served : goal.returns-clause-served
-returns-clause-served g c =
-    let served = rw c.as_slice.ensures.value at c.in_ok-house.ensures.served in
-    printed c.print_report.result _ _ c.args.serving.now.domain c.args.serving.now.workers c.args.serving.now.connections c.in_ok-list.list.items
-    (tally (g.P.Ports.tapes c.args.ports.now) (g.P.Ports.links c.args.ports.now) (g.P.Ports.dice_faults c.args.ports.now))
-    (tally (g.P.Ports.tapes c.serve_ports.new.ports) (g.P.Ports.links c.serve_ports.new.ports) (g.P.Ports.dice_faults c.serve_ports.new.ports)) _ _ _
-    c.in_ok-list.ensures.read
-    (run_served c.args.serving.now.domain c.args.serving.now.workers c.args.serving.now.connections c.requires.some c.in_ok-list.list.items
-    (tally (g.P.Ports.tapes c.args.ports.now) (g.P.Ports.links c.args.ports.now) (g.P.Ports.dice_faults c.args.ports.now))
-    (tally (g.P.Ports.tapes c.serve_ports.new.ports) (g.P.Ports.links c.serve_ports.new.ports) (g.P.Ports.dice_faults c.serve_ports.new.ports))
-    c.in_ok-house.house served c.print_report.ensures.numbers)
+pub returns-in-Shut-clause-served : goal.returns-in-Shut-clause-served
+returns-in-Shut-clause-served g c =
+    let asked = c.args.serving.now in
+    let ran = rw c.as_slice.ensures.value at c.in_ok-house.ensures.served in
+    printed c.print_report.result _ _ asked.domain asked.port asked.workers asked.links asked.connections c.in_ok-list.list.items
+    (tally (g.P.Ports.tapes c.args.ports.now) (g.P.Ports.links c.args.ports.now) (g.P.Ports.dice_faults c.args.ports.now) (g.P.Ports.address c.args.ports.now))
+    (tally (g.P.Ports.tapes c.serve_ports.new.ports) (g.P.Ports.links c.serve_ports.new.ports) (g.P.Ports.dice_faults c.serve_ports.new.ports)
+    (g.P.Ports.address c.serve_ports.new.ports)) _ _ _ c.in_ok-list.ensures.read
+    (run_served asked.domain asked.port asked.workers asked.links asked.connections c.in_ok-list.list.items
+    (tally (g.P.Ports.tapes c.args.ports.now) (g.P.Ports.links c.args.ports.now) (g.P.Ports.dice_faults c.args.ports.now) (g.P.Ports.address c.args.ports.now))
+    (tally (g.P.Ports.tapes c.serve_ports.new.ports) (g.P.Ports.links c.serve_ports.new.ports) (g.P.Ports.dice_faults c.serve_ports.new.ports)
+    (g.P.Ports.address c.serve_ports.new.ports)) c.in_ok-house.house c.in_ok-house.worked
+    c.in-Shut.is ran c.print_report.ensures.numbers)
     c.print_report.ensures.written
 
-pub returns-clause-cut : goal.returns-clause-cut
-returns-clause-cut g c =
-    let served = rw c.as_slice.ensures.value at c.in_ok-house.ensures.served in
-    printed_front c.print_report.result _ _ c.args.serving.now.domain c.args.serving.now.workers c.args.serving.now.connections c.in_ok-list.list.items
-    (tally (g.P.Ports.tapes c.args.ports.now) (g.P.Ports.links c.args.ports.now) (g.P.Ports.dice_faults c.args.ports.now))
-    (tally (g.P.Ports.tapes c.serve_ports.new.ports) (g.P.Ports.links c.serve_ports.new.ports) (g.P.Ports.dice_faults c.serve_ports.new.ports)) _ _ _
-    c.in_ok-list.ensures.read
-    (run_served c.args.serving.now.domain c.args.serving.now.workers c.args.serving.now.connections c.requires.some c.in_ok-list.list.items
-    (tally (g.P.Ports.tapes c.args.ports.now) (g.P.Ports.links c.args.ports.now) (g.P.Ports.dice_faults c.args.ports.now))
-    (tally (g.P.Ports.tapes c.serve_ports.new.ports) (g.P.Ports.links c.serve_ports.new.ports) (g.P.Ports.dice_faults c.serve_ports.new.ports))
-    c.in_ok-house.house served c.print_report.ensures.numbers)
+pub returns-in-Shut-clause-cut : goal.returns-in-Shut-clause-cut
+returns-in-Shut-clause-cut g c =
+    let asked = c.args.serving.now in
+    let ran = rw c.as_slice.ensures.value at c.in_ok-house.ensures.served in
+    printed_front c.print_report.result _ _ asked.domain asked.port asked.workers asked.links asked.connections c.in_ok-list.list.items
+    (tally (g.P.Ports.tapes c.args.ports.now) (g.P.Ports.links c.args.ports.now) (g.P.Ports.dice_faults c.args.ports.now) (g.P.Ports.address c.args.ports.now))
+    (tally (g.P.Ports.tapes c.serve_ports.new.ports) (g.P.Ports.links c.serve_ports.new.ports) (g.P.Ports.dice_faults c.serve_ports.new.ports)
+    (g.P.Ports.address c.serve_ports.new.ports)) _ _ _ c.in_ok-list.ensures.read
+    (run_served asked.domain asked.port asked.workers asked.links asked.connections c.in_ok-list.list.items
+    (tally (g.P.Ports.tapes c.args.ports.now) (g.P.Ports.links c.args.ports.now) (g.P.Ports.dice_faults c.args.ports.now) (g.P.Ports.address c.args.ports.now))
+    (tally (g.P.Ports.tapes c.serve_ports.new.ports) (g.P.Ports.links c.serve_ports.new.ports) (g.P.Ports.dice_faults c.serve_ports.new.ports)
+    (g.P.Ports.address c.serve_ports.new.ports)) c.in_ok-house.house c.in_ok-house.worked
+    c.in-Shut.is ran c.print_report.ensures.numbers)
     c.print_report.ensures.cut
 
-pub returns-clause-silent : goal.returns-clause-silent
-returns-clause-silent g c = printed_nothing _ _ _ c.print_report.result c.print_report.ensures.others c.print_report.ensures.silent
+pub returns-in-Shut-clause-silent : goal.returns-in-Shut-clause-silent
+returns-in-Shut-clause-silent g c = printed_nothing _ _ _ c.print_report.result c.print_report.ensures.others c.print_report.ensures.silent
 
-pub returns-clause-given : goal.returns-clause-given
-returns-clause-given g c =
-    let served = rw c.as_slice.ensures.value at c.in_ok-house.ensures.served in
-    given_printed c.print_report.result c.args.serving.now.domain c.args.serving.now.workers c.args.serving.now.connections c.in_ok-list.list.items
-    (tally (g.P.Ports.tapes c.args.ports.now) (g.P.Ports.links c.args.ports.now) (g.P.Ports.dice_faults c.args.ports.now))
-    (tally (g.P.Ports.tapes c.serve_ports.new.ports) (g.P.Ports.links c.serve_ports.new.ports) (g.P.Ports.dice_faults c.serve_ports.new.ports))
-    c.in_ok-house.house served
-
-pub returns-clause-accounts : goal.returns-clause-accounts
-returns-clause-accounts g c =
+pub returns-in-Shut-clause-accounts : goal.returns-in-Shut-clause-accounts
+returns-in-Shut-clause-accounts g c =
     by_printing c.print_report.result _ c.print_report.ensures.others (λ n e. absurd (write-accounts n e)) (λ n e. absurd (memory-accounts n e))
 
-pub returns-clause-read : goal.returns-clause-read
-returns-clause-read g c = by_printing c.print_report.result _ c.print_report.ensures.others (λ e. absurd (write-read e)) (λ e. absurd (memory-read e))
-
-pub returns-clause-listened : goal.returns-clause-listened
-returns-clause-listened g c =
+pub returns-in-Shut-clause-failed : goal.returns-in-Shut-clause-failed
+returns-in-Shut-clause-failed g c =
     by_printing c.print_report.result _ c.print_report.ensures.others (λ e. absurd (write-listen e)) (λ e. absurd (memory-listen e))
 
-pub returns-clause-usage : goal.returns-clause-usage
-returns-clause-usage g c =
+pub returns-in-Shut-clause-read : goal.returns-in-Shut-clause-read
+returns-in-Shut-clause-read g c = by_printing c.print_report.result _ c.print_report.ensures.others (λ e. absurd (write-read e)) (λ e. absurd (memory-read e))
+
+pub returns-in-Shut-clause-listened : goal.returns-in-Shut-clause-listened
+returns-in-Shut-clause-listened g c =
+    by_printing c.print_report.result _ c.print_report.ensures.others (λ e. absurd (write-listen e)) (λ e. absurd (memory-listen e))
+
+pub returns-in-Shut-clause-usage : goal.returns-in-Shut-clause-usage
+returns-in-Shut-clause-usage g c =
     by_printing c.print_report.result _ c.print_report.ensures.others (write-usage, write-done, write-script) (memory-usage, memory-done, memory-script)
+
+pub returns-clause-failed : goal.returns-clause-failed
+returns-clause-failed g c = λ is.
+    let asked = c.args.serving.now in
+    let ran = rw c.as_slice.ensures.value at c.in_ok-house.ensures.served in (
+      c.in_ok-list.list.items,
+      c.in_ok-list.ensures.read,
+      run_failed asked.domain asked.port asked.workers asked.links asked.connections c.in_ok-list.list.items
+          (tally (g.P.Ports.tapes c.args.ports.now) (g.P.Ports.links c.args.ports.now) (g.P.Ports.dice_faults c.args.ports.now) (g.P.Ports.address c.args.ports.now))
+          (tally (g.P.Ports.tapes c.serve_ports.new.ports) (g.P.Ports.links c.serve_ports.new.ports) (g.P.Ports.dice_faults c.serve_ports.new.ports)
+          (g.P.Ports.address c.serve_ports.new.ports)) c.in_ok-house.house c.in_ok-house.worked c.in-PollFault.is ran,
+    )

@@ -40,22 +40,22 @@ advance-requires-clause-stands g c =
     (g.I.Dice.faults c.args.dice.now) (owes_at stands.site stands.place _ _ _ stands.at)) c.requires.said)
 
 pub returns-in-Goes-clause-passed : goal.returns-in-Goes-clause-passed
-returns-in-Goes-clause-passed g c = λ o p line accounts at.
+returns-in-Goes-clause-passed g c = rw c.rest.ensures (λ o p line accounts at.
     let start = starts_on o _ _ p _ _ _ _ _ at
     (c.in-None.ensures.flushed o (duty o p) (turns_of (g.D.Desk.line c.args.pass.now) (g.D.Desk.seen c.args.pass.now)) (g.I.Dice.drawn c.args.dice.now)
     (g.I.Dice.faults c.args.dice.now) (owes_at o p _ _ _ at)) c.requires.said in
     passed_after o _ _ _ _ _ _ _ _ Goes start.grew
     (passed_owing o _ _ _ _ _ _ _ Goes ((c.in-Goes.ensures.passed o start.to line accounts start.at).1 ∙ sym c.new.ensures)
-    (c.in-Goes.ensures.passed o start.to line accounts start.at))
+    (c.in-Goes.ensures.passed o start.to line accounts start.at)))
 
 pub returns-in-Goes-clause-resumes : goal.returns-in-Goes-clause-resumes
-returns-in-Goes-clause-resumes g c = λ o p line accounts at.
+returns-in-Goes-clause-resumes g c = rw c.rest.ensures (λ o p line accounts at.
     let start = starts_on o _ _ p _ _ _ _ _ at
     (c.in-None.ensures.flushed o (duty o p) (turns_of (g.D.Desk.line c.args.pass.now) (g.D.Desk.seen c.args.pass.now)) (g.I.Dice.drawn c.args.dice.now)
     (g.I.Dice.faults c.args.dice.now) (owes_at o p _ _ _ at)) c.requires.said in
     resumed o _ _ _ _ _ _ _ _ _ _ Goes start c.requires.said refl refl
     (λ q here. passed_owing o _ _ _ _ _ _ _ Goes ((c.in-Goes.ensures.passed o q line accounts here).1 ∙ sym c.new.ensures)
-    (c.in-Goes.ensures.passed o q line accounts here))
+    (c.in-Goes.ensures.passed o q line accounts here)))
 
 pub returns-in-Goes-clause-counts : goal.returns-in-Goes-clause-counts
 returns-in-Goes-clause-counts g c = counts_after _ _ _ Goes c.in-None.ensures.counts c.in-Goes.ensures.counts

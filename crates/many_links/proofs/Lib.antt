@@ -1,0 +1,5 @@
+mod Placing
+mod Polling
+mod Starting
+mod Summing
+mod Visiting
