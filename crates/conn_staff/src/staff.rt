@@ -23,6 +23,9 @@ use std::sync::Wait;
 use std::thread;
 use std::thread::Threads;
 
+/// So few turns are over sooner than a thread sleeps and is woken.
+const FEW_TURNS: u32 = 2;
+
 /// Each worker serves the links of its poller, in a thread of its own.
 fn tend_all<R: Threads + Wait + Sync, P: Poller + Send, C: Clock + Send, I: Dice + Send>(
     rt: &R,
@@ -54,6 +57,16 @@ where
                 (crew_of P P.Link C I P.tapes P.came P.links P.faults P.quota C.told I.drawn I.faults worker.new) }
         { tend(rt, alloc, hall, accounts, is_quiet, number, worker) },
     );
+}
+
+/// How many turns before its own a worker looks again and again: as many as there are others, where each worker has a processor, and else few.
+fn near_turns<R: Threads>(rt: &R, workers: u32) -> u32 {
+    match thread::available_parallelism(rt) {
+        Ok(processors) if processors.get() >= workers as usize => {
+            workers.saturating_sub(1).max(FEW_TURNS)
+        }
+        _ => FEW_TURNS,
+    }
 }
 
 /// Serves the links of each post at a hall, and closes it.
@@ -144,7 +157,7 @@ where
     let Ok(room) = room_for(alloc, posts.len(), places as usize, lines as usize) else {
         return (posts, Err(NoMemory));
     };
-    match Hall::start(alloc, house, lines) {
+    match Hall::start(alloc, house, lines, near_turns(rt, workers)) {
         Ok((hall, passes)) => {
             let (back, left, worked) = serve_at(
                 rt, alloc, hall, passes, accounts, posts, room, is_quiet,

@@ -14,7 +14,7 @@ abbrev pub line : Turn → ℕ
 line x = line_of x.event
 
 abbrev pub root : Recorded → OpeningRecord
-root r = opening_of (held r.house)
+root r = opening_of (held r.house.value)
 
 -- the history is known to be legal from this state
 abbrev pub IsLegal : State → List Turn → Type 0

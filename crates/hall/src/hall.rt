@@ -46,8 +46,14 @@ pub struct Hall {
 impl Hall {
     ghost use Rattle.hall.specs.Halls.{opening_state, lines_of, CameFrom, Took, WasRefused, Closed};
 
-    /// A hall round a house to which nothing has come yet, and a pass for each line. Costs the domain and the passes.
-    pub fn start(alloc: Global, house: House, passes: u32) -> Result<(Hall, Vec<Pass>), NoMemory>
+    /// A hall round a house to which nothing has come yet, and a pass for each line. A call that waits while at most `near` others come first looks
+    /// again and again instead of sleeping: one fewer than the threads, where each has a processor. Costs the domain and the passes.
+    pub fn start(
+        alloc: Global,
+        house: House,
+        passes: u32,
+        near: u32,
+    ) -> Result<(Hall, Vec<Pass>), NoMemory>
         requires some { 0 < passes }
         requires lines { passes ≡ length house.table.lines }
         requires new { (o : State) × StandsFor o [] (held house) }
@@ -61,10 +67,10 @@ impl Hall {
         let domain = house.domain().copy(alloc)?;
         let stirring = Stirring::new(alloc)?;
         let value = Recorded {
-            house,
+            house: Box::new(alloc, house)?,
             log: GhostLog::empty(),
         };
-        let (lock, all) = Turnstile::start(alloc, value, passes)?;
+        let (lock, all) = Turnstile::start(alloc, value, passes, near)?;
         let hall = Hall {
             lock,
             domain,
@@ -111,8 +117,9 @@ impl Hall {
         let Turn { value } = self.lock.enter(rt, pass)?;
         let Recorded { mut house, log } = value;
         let line = pass.number();
-        let before = Snapshot::of(&house);
-        let answer = make_noted(call, &mut house, line, out, &self.stirring);
+        let lent = &mut *house;
+        let before = Snapshot::of(lent);
+        let answer = make_noted(call, lent, line, out, &self.stirring);
         let made = Made {
             call: Snapshot::of(call),
             line,
@@ -153,6 +160,6 @@ impl Hall {
             alloc: _,
         } = self;
         let Recorded { house, log: _ } = lock.close(passes);
-        house
+        Box::into_inner(house)
     }
 }

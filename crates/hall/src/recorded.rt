@@ -8,12 +8,12 @@ use ghost_log::GhostLog;
 use house_core::House;
 use turn_lock::Storied;
 
-/// A house with the legal history that it stands for.
+/// A house with the legal history that it stands for. It stands in a block of its own, so that a turn moves a pointer.
 #[derive(Drop)]
 pub struct Recorded {
-    pub(crate) house: House,
+    pub(crate) house: Box<House>,
     pub(crate) log: GhostLog<HouseTurn>,
-    pub ghost stands: { ∥ StandsFor (opening_from (opening_of (held house))) log.entries (held house) ∥₁ },
+    pub ghost stands: { ∥ StandsFor (opening_from (opening_of (held house.value))) log.entries (held house.value) ∥₁ },
 }
 
 impl Storied for Recorded {
@@ -25,7 +25,7 @@ impl Storied for Recorded {
     ghost use Rattle.house_core.specs.Houses.{held};
     ghost use Rattle.hall.specs.Openings.{opening_of};
 
-    ghost root = { λ r. opening_of (held r.house) };
+    ghost root = { λ r. opening_of (held r.house.value) };
 
     ghost story = { λ r. r.log.entries };
 

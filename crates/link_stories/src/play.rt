@@ -88,7 +88,7 @@ fn one_pass(alloc: Global, head: &[u8]) -> Result<(Hall, Pass), NoMemory>
     ensures pass { IfOk result (λ r. CameFrom r.0 r.1) }
     ensures lines { IfOk result (λ r. lines_of r.0 ≡ 1) }
 {
-    let (hall, mut passes) = Hall::start(alloc, house_of(alloc, head)?, 1)?;
+    let (hall, mut passes) = Hall::start(alloc, house_of(alloc, head)?, 1, 0)?;
     match passes.pop() {
         Some(pass) => Ok((hall, pass)),
         None => Err(NoMemory),

@@ -3,7 +3,8 @@
 #![tactic(auto)]
 
 #[cfg(test)]
-mod servers;
+mod places;
 #[cfg(test)]
+mod servers;
 #[cfg(test)]
 mod words;

@@ -27,10 +27,7 @@ const VALUE_SLOT: usize = 0;
 // word: the passes that looked before may still draw, and they are fewer than 2^32.
 const MOST_TURNS: u64 = 1 << 63;
 
-// A pass for which at most so many turns come first looks again at once, which costs less than to sleep and be woken.
-const FEW_TURNS: u64 = 2;
-
-// So often: a turn that is over sooner was worth the looks. Then it sleeps.
+// A pass that is near its turn looks again so often: a turn that is over sooner was worth the looks. Then it sleeps.
 const MOST_LOOKS: u32 = 1000;
 
 /// A value under a lock that gives it out for one turn at a time.
@@ -38,6 +35,7 @@ const MOST_LOOKS: u32 = 1000;
 pub struct Turnstile<T: Storied> {
     table: Table<Option<T>, View<T::Entry, T::Root>, Terms<T>, OneHistory<T>, Global>,
     passes: u32,
+    near: u32,
     lot: ParkingLot,
     ghost sized: { (table.shared.table_id.words ≡ 2) × (table.shared.table_id.slots ≡ 1) },
     ghost agreed: { table.shared.key.passes ≡ passes },
@@ -52,7 +50,7 @@ impl<T: Storied> Turnstile<T> {
     /// Waits for a turn and takes the value out. `Spent` comes exactly where this call finds that
     /// 2^63 turns were drawn, and the pass then has the mark.
     ///
-    /// A pass looks again and again while few turns come first, and else sleeps until its turn is near.
+    /// A pass that is near its turn looks again and again for a while, and else it sleeps until its turn is near, or has come.
     /// Nothing bounds the wait, and it lasts for ever where a turn before it is never left.
     pub fn enter<W: Wait>(&self, rt: &W, pass: &mut Pass<T>) -> Result<Turn<T>, Spent>
         requires idle { IsIdle T.line T.root self.now pass.old }
@@ -88,7 +86,7 @@ impl<T: Storied> Turnstile<T> {
         Ok(Turn { value })
     }
 
-    /// Puts the value back, with one entry more, and passes the turn on.
+    /// Puts the value back, with one entry more, and passes the turn on. The pass that has come near its turn is woken too.
     pub fn leave(&self, turn: Turn<T>, pass: &mut Pass<T>)
         requires turn { HasTurn T.line T.root self.now pass.old }
         requires root { T.root turn.value ≡ root_of T.root self.now }
@@ -111,7 +109,9 @@ impl<T: Storied> Turnstile<T> {
             .table
             .shared
             .fetch_add::<PassOn<T>>(&mut pass.seat, SERVED_TURN, 1);
-        self.lot.unpark(served.saturating_add(1));
+        let next = served.saturating_add(1);
+        self.lot.unpark(next);
+        self.lot.unpark(next.saturating_add(u64::from(self.near)));
     }
 
     /// Lets `into` know what `from` has seen. No turn is taken, and what `into` has then seen is the
@@ -193,9 +193,15 @@ impl<T: Storied> Turnstile<T> {
                 return;
             }
             // Each sleep follows a look that came after the pass arrived, so that no wake is missed.
+            let is_near = ticket.saturating_sub(served) <= u64::from(self.near);
             wakes = match wakes {
-                Some(wakes) => Some(self.lot.park(rt, ticket, wakes)),
-                None if looks < MOST_LOOKS && ticket.saturating_sub(served) <= FEW_TURNS => {
+                Some(wakes) => {
+                    self.lot.park(rt, ticket, wakes);
+                    self.lot.depart(ticket);
+                    looks = 0;
+                    None
+                }
+                None if is_near && looks < MOST_LOOKS => {
                     looks = looks.saturating_add(1);
                     spin_loop();
                     None
@@ -215,11 +221,13 @@ impl<T: Storied + Drop> Turnstile<T> {
     ghost use Rattle.turn_lock.specs.Passes.{root_of, passes_of};
 
     /// A lock round a value without entries, and its passes, numbered from 0. The value's root is the
-    /// lock's root.
+    /// lock's root. A pass is near its turn where at most `near` others come first: it then looks again and again, which
+    /// costs less than to sleep and be woken where so many threads and one more have a processor each.
     pub fn start(
         alloc: Global,
         value: T,
         passes: u32,
+        near: u32,
     ) -> Result<(Turnstile<T>, Vec<Pass<T>>), NoMemory>
         requires some { 0 < passes }
         requires empty { T.story value ≡ [] }
@@ -247,7 +255,13 @@ impl<T: Storied + Drop> Turnstile<T> {
             all.push(Pass { seat, number })?;
         }
         let lot = ParkingLot::new(alloc)?;
-        Ok((Turnstile { table, passes, lot }, all))
+        let lock = Turnstile {
+            table,
+            passes,
+            near,
+            lot,
+        };
+        Ok((lock, all))
     }
 
     /// Ends the lock, with all its passes, and gives the value back.
@@ -294,6 +308,7 @@ impl<T: Storied + Drop> Turnstile<T> {
         let Turnstile {
             table,
             passes: _,
+            near: _,
             lot: _,
         } = self;
         let mut closed = table.close_with(seat);

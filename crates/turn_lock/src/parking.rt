@@ -50,16 +50,12 @@ impl ParkingLot {
         }
     }
 
-    /// Sleeps unless there were more wakes since, and gives how many there were then.
-    pub fn park<W: Wait>(&self, rt: &W, ticket: u64, wakes: u64) -> u64 {
-        match self.spots.get(place_of(ticket)) {
-            Some(spot) => {
-                let longest = Duration::from_millis(LONGEST_SLEEP);
-                spot.wakes
-                    .park_timeout(rt, (wakes & 0xffff_ffff) as u32, longest);
-                spot.wakes.load(Ordering::SeqCst)
-            }
-            None => 0,
+    /// Sleeps unless there were more wakes since.
+    pub fn park<W: Wait>(&self, rt: &W, ticket: u64, wakes: u64) {
+        if let Some(spot) = self.spots.get(place_of(ticket)) {
+            let longest = Duration::from_millis(LONGEST_SLEEP);
+            spot.wakes
+                .park_timeout(rt, (wakes & 0xffff_ffff) as u32, longest);
         }
     }
 

@@ -42,7 +42,7 @@ fn hall_of(alloc: Global, lines: u32) -> Result<(Hall, Vec<Pass>), Fail>
         return Err(Fail::new("two users"));
     }
     let house = House::new(alloc, &domain, &users, lines)?;
-    Ok(Hall::start(alloc, house, lines)?)
+    Ok(Hall::start(alloc, house, lines, 3)?)
 }
 
 // A hall of two lines, and the pass of each.

@@ -100,7 +100,7 @@ fn counted_by<R: Threads + Wait + Sync>(
         base: 7,
         entries: Vec::new(alloc),
     };
-    let (lock, mut all) = Turnstile::start(alloc, tally, passes)?;
+    let (lock, mut all) = Turnstile::start(alloc, tally, passes, 3)?;
     count_side_by_side(rt, &lock, all.as_mut_slice());
     Ok(closed(lock, all))
 }
@@ -157,7 +157,7 @@ fn what_was_seen_is_handed_on(rt: HostRuntime) -> Result<(), Fail> {
         base: 3,
         entries: Vec::new(rt.alloc()),
     };
-    let (lock, mut passes) = Turnstile::start(rt.alloc(), tally, 2)?;
+    let (lock, mut passes) = Turnstile::start(rt.alloc(), tally, 2, 1)?;
     let (Some(mut second), Some(mut first)) = (passes.pop(), passes.pop()) else {
         unreachable!()
     };
@@ -174,7 +174,7 @@ fn a_number_is_a_place(rt: HostRuntime) -> Result<(), Fail> {
         base: 0,
         entries: Vec::new(rt.alloc()),
     };
-    let (_, passes) = Turnstile::start(rt.alloc(), tally, 5)?;
+    let (_, passes) = Turnstile::start(rt.alloc(), tally, 5, 2)?;
     for (place, pass) in (0u32..5).zip(&passes) {
         assert_eq!(rt; pass.number(), place);
     }
