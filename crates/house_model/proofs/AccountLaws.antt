@@ -103,7 +103,7 @@ handled_same o h s a starts legal counts =
     ∙ handled_lines a o h s cs (shares_are o h s starts legal)
 
 -- nothing was handled of a session that doesn't count
-run_counts : (x : Core Stanza) (ops : List (one.Op Stanza)) → x.counts ≡ true → (core_run x ops).counts ≡ true
+pub run_counts : (x : Core Stanza) (ops : List (one.Op Stanza)) → x.counts ≡ true → (core_run x ops).counts ≡ true
 run_counts x [] is = is
 run_counts x (op ∷ ops) is =
     run_counts (core_step x op) ops

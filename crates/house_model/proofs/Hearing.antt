@@ -39,7 +39,7 @@ kept_held st w c s o is =
     (o.tied w c s is)
 
 -- Pull
-abbrev pull_ear : Ear
+abbrev pub pull_ear : Ear
 pull_ear =
     record { pull = true; act = false; ask = false; ack = false; enable = false; begin = false; resume = false; part = false }
 

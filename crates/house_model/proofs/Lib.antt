@@ -39,6 +39,8 @@ pub mod FitRows
 pub mod FloodCases
 pub mod FoundOnce
 pub mod Founds
+pub mod FrontTurns
+pub mod Fronts
 pub mod FullLaws
 pub mod GateLemmas
 pub mod GateTurns

@@ -33,3 +33,4 @@ pub mod Stays
 pub mod Steps
 pub mod Story
 pub mod Traffic
+pub mod Uncounted

@@ -41,6 +41,7 @@ ghost use Rattle.house_model.specs.Stays.{Gapless, IsWithin, logs_of};
 ghost use Rattle.house_model.specs.Paging.{PagesTellAll};
 ghost use Rattle.house_model.specs.Queueing.{queued_for};
 ghost use Rattle.house_model.specs.Deliveries.{Deliveries};
+ghost use Rattle.house_model.specs.Uncounted.{FramesAreTheQueue};
 ghost use Rattle.house_model.specs.Story.{small_house, faulty, whole_story, her_account};
 ghost use Rattle.sm_account.specs.Prefixes.{IsPrefixOf};
 ghost use Rattle.sm_account.specs.Sessions as alone;
@@ -191,6 +192,13 @@ pub fn lines_are_the_history()
         → alone.acted (core_of (session_in o h s)) ≡ acted o h s }
     ensures account { (o : State) (h : List Turn) (s : ℕ) (a : Account Stanza) → IsOpening o → Legal o h
         → (session_in o h s).counts ≡ true → IsAccountOf a o h s → IsAccount a (ops_of s o h) }
+{}
+
+/// Of a session that doesn't count (XEP-0198 is not enabled), the frames that its connection pulled, but for answers, are those of its queue up to what
+/// was sent: each once, in order, none is missing, and nothing else comes between them. So a client that never enables acknowledgements gets what was
+/// queued for it from the first entry on. The frames are the very texts that the history has of the Pulls.
+pub fn uncounted_frames_are_the_queue()
+    ensures { (o : State) (h : List Turn) → IsOpening o → Legal o h → FramesAreTheQueue o h }
 {}
 
 /// A Resume in turn is one on a connection that logged in, where fewer than 8 answers wait. It fails with `item-not-found`
