@@ -1,5 +1,5 @@
 -- What comes after goes with what came before.
-use Rattle.std.proofs.Common.{◌≡◌, ◌≢◌, ℕ, ◌+◌, ◌≤◌, List, [], ◌∷◌, length, inl, arith, sym, ap, subst, ◌∙◌}
+use Rattle.std.proofs.Common.{◌≡◌, ◌≢◌, ℕ, ◌+◌, ◌≤◌, List, [], ◌∷◌, length, inl, inr, arith, refl, sym, ap, subst, ◌∙◌}
 use Rattle.std.specs.Prelude.{Option, Some, None, true, false, Bool, if◌then◌else◌}
 use Rattle.outside.specs.Tapes.{Tells}
 use Rattle.conn_asks.specs.declared.ended.Ended.{Ended}
@@ -15,7 +15,7 @@ use Rattle.conn_serve.specs.declared.turn.Round.{Round}
 use Rattle.conn_serve.specs.declared.turn.Round.TheVariants.{Goes, Later, More, Ends, Exhausts}
 use Rattle.conn_serve.specs.Rounds.{Asked, Counts, Flushed, Passed, ReadOnce, Resumes, Stepped, Turned, Unread}
 use Rattle.conn_serve.specs.Serving.{Came, Exhausted, Finished, Grew, IsAt, IsStanding, Moved, Tale}
-use Rattle.conn_serve.proofs.Growing.{exhausted_after, finished_after, grew_both, grew_nothing, lengths, longer}
+use Rattle.conn_serve.proofs.Growing.{exhausted_after, finished_after, grew_both, grew_nothing, lengths, longer, tells_both, tells_nothing}
 use Rattle.conn_serve.proofs.Laws as L
 use Rattle.conn_serve.proofs.Listening.{stops_owing}
 use Rattle.conn_serve.proofs.Standing.{duty_moment, duty_owes, duty_owing, owing}
@@ -121,26 +121,41 @@ stands_on line accounts flow flow' ahead ahead' owed owed' a b s came =
 -- Readings and counts.
 
 pub unread_after : (a b c : Option (List ℕ)) (round : Round) → b ≡ a → Unread b c round → Unread a c round
-unread_after a b c Goes e h = h ∙ e
-unread_after a b c More e h = h ∙ e
-unread_after a b c Later e h = h ∙ e
-unread_after a b c Exhausts e h = h ∙ e
-unread_after a b c (Ends x t) e h = tt
-
-pub read_once : (a b c d : Option (List ℕ)) (round : Round) → b ≡ a → Asked b c → Unread c d round → ReadOnce a d round
-read_once a b c d Goes e h f =
-    (h.0, subst (λ (x : Option (List ℕ)). Tells ℕ a x (h.0 ∷ [])) (sym f) (subst (λ (x : Option (List ℕ)). Tells ℕ x c (h.0 ∷ [])) e h.1))
-read_once a b c d More e h f = tt
-read_once a b c d Later e h f = tt
-read_once a b c d Exhausts e h f = tt
-read_once a b c d (Ends x t) e h f = tt
+unread_after a b c round e h = subst (λ (x : Option (List ℕ)). Unread x c round) e h
 
 pub asked_once : (a b c : Option (List ℕ)) (round : Round) → b ≡ a → ReadOnce b c round → ReadOnce a c round
-asked_once a b c Goes e h = (h.0, subst (λ (x : Option (List ℕ)). Tells ℕ x c (h.0 ∷ [])) e h.1)
-asked_once a b c More e h = tt
-asked_once a b c Later e h = tt
-asked_once a b c Exhausts e h = tt
-asked_once a b c (Ends x t) e h = tt
+asked_once a b c round e h = subst (λ (x : Option (List ℕ)). ReadOnce x c round) e h
+
+-- one reading, and then none
+read_then : (a b c : Option (List ℕ)) (h : Asked a b) → c ≡ b → Tells ℕ a c (h.0 ∷ [])
+read_then a b c h e = subst (λ (x : Option (List ℕ)). Tells ℕ a x (h.0 ∷ [])) (sym e) h.1
+
+once_then : (a b c : Option (List ℕ)) (round : Round) → Asked a b → Unread b c round → ReadOnce a c round
+once_then a b c Goes h f = (h.0 ∷ [], read_then a b c h f, refl)
+once_then a b c More h f = (h.0 ∷ [], read_then a b c h f, omega arith)
+once_then a b c Later h f = (h.0 ∷ [], read_then a b c h f, omega arith)
+once_then a b c Exhausts h f = (h.0 ∷ [], read_then a b c h f, omega arith)
+once_then a b c (Ends x t) h (inl f) = (h.0 ∷ [], read_then a b c h f, inl (omega arith))
+once_then a b c (Ends x t) h (inr f) = (h.0 ∷ f.1.0 ∷ [], tells_both ℕ a b c (h.0 ∷ []) (f.1.0 ∷ []) h.1 f.1.1, inr (f.0, refl))
+
+pub read_once : (a b c d : Option (List ℕ)) (round : Round) → b ≡ a → Asked b c → Unread c d round → ReadOnce a d round
+read_once a b c d round e h f = asked_once a b d round e (once_then b c d round h f)
+
+-- none at all
+pub none_read : (a b : Option (List ℕ)) → b ≡ a → (moments : List ℕ) × Tells ℕ a b moments × (length moments ≤ 1)
+none_read a b e = ([], subst (λ (x : Option (List ℕ)). Tells ℕ a x []) (sym e) (tells_nothing ℕ a), omega arith)
+
+pub ends_unread : (a b : Option (List ℕ)) (x : Ended) (t : ℕ) → Unread a b (Ends x t) → ReadOnce a b (Ends x t)
+ends_unread a b x t (inl e) = let none = none_read a b e in (none.0, none.1, inl none.2)
+ends_unread a b x t (inr f) = (f.1.0 ∷ [], f.1.1, inl (omega arith))
+
+-- an end after one reading
+pub ends_read : (a b : Option (List ℕ)) (x : Ended) (t : ℕ) → Asked a b → ReadOnce a b (Ends x t)
+ends_read a b x t h = (h.0 ∷ [], h.1, inl (omega arith))
+
+-- an end where the link could take no byte
+pub ends_later : (a b : Option (List ℕ)) (x : Ended) (t : ℕ) → ReadOnce a b Later → ReadOnce a b (Ends x t)
+ends_later a b x t h = (h.0, h.1, inl h.2)
 
 pub counts_after : (a b c : ℕ) (round : Round) → b ≡ a → Counts b c round → Counts a c round
 counts_after a b c round e h = subst (λ (x : ℕ). Counts x c round) e h
@@ -243,9 +258,9 @@ resumed o a b c v flow flow' ahead ahead' said owed' round came clear turns_are 
 
 -- a round that stops at once made no reading
 pub flushed_once : (o : Site) (a : Tale) (v : Duty) (b : Tale) (owed : List ℕ) (before now : Option (List ℕ)) (round : Round)
-    → Flushed o a v b owed (Some round) → ReadOnce before now round
-flushed_once o a v b owed before now Goes h = absurd h
-flushed_once o a v b owed before now More h = absurd h
-flushed_once o a v b owed before now Later h = tt
-flushed_once o a v b owed before now (Ends x t) h = tt
-flushed_once o a v b owed before now Exhausts h = absurd h
+    → Flushed o a v b owed (Some round) → Unread before now round → ReadOnce before now round
+flushed_once o a v b owed before now Goes h f = absurd h
+flushed_once o a v b owed before now More h f = absurd h
+flushed_once o a v b owed before now Later h f = none_read before now f
+flushed_once o a v b owed before now (Ends x t) h f = ends_unread before now x t f
+flushed_once o a v b owed before now Exhausts h f = absurd h

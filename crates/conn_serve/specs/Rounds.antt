@@ -2,6 +2,7 @@
 use Rattle.std.specs.Prelude.{◌≡◌, ◌≢◌, ◌⊎◌, ◌≤◌, ℕ, List, [], ◌∷◌, length, Bool, true, Option, Some, None}
 use Rattle.outside.specs.Plans.{raised}
 use Rattle.outside.specs.Tapes.{Tells}
+use Rattle.conn_asks.specs.declared.ended.Ended.TheVariants as ended
 use Rattle.conn_flow.specs.declared.phase.Phase.TheVariants.{Resting}
 use Rattle.conn_flow.specs.Duties.{Site, Duty}
 use Rattle.conn_flow.specs.Flows.{State, ToFinish, wish_of}
@@ -68,27 +69,33 @@ abbrev pub Resumes : Site → Tale → Duty → State → (ahead : List ℕ) →
 Resumes o a v flow ahead b flow' ahead' owed' round =
     Resumed o a v flow ahead b flow' ahead' owed' round ⊎ Stayed a flow ahead b flow' ahead'
 
--- Readings.
+-- Readings. The clock is asked once after each of them, and once where the link failed at a sending.
 
--- none was made, unless the connection ended
+-- a reading was made, after which the clock was asked
+abbrev pub Asked : (before now : Option (List ℕ)) → Type 0
+Asked before now = (t : ℕ) × Tells ℕ before now (t ∷ [])
+
+-- none was made; the clock was asked at most where the link failed
 abbrev pub Unread : (before now : Option (List ℕ)) → Round → Type 0
-Unread before now (Ends x t) = Unit {0}
+Unread before now (Ends x t) = (now ≡ before) ⊎ ((x ≡ ended.LinkFault) × Asked before now)
 Unread before now round = now ≡ before
 
 abbrev pub UnreadIf : (before now : Option (List ℕ)) → Option Round → Type 0
 UnreadIf before now None = now ≡ before
 UnreadIf before now (Some round) = Unread before now round
 
--- a reading was made, after which the clock was asked
-abbrev pub Asked : (before now : Option (List ℕ)) → Type 0
-Asked before now = (t : ℕ) × Tells ℕ before now (t ∷ [])
+-- How often the clock was asked in a round that answered so: at rest just one reading was made, and else one at most. A link that failed at a
+-- sending may have been read before.
+abbrev pub Reads : Round → ℕ → Type 0
+Reads Goes n = n ≡ 1
+Reads (Ends x t) n = (n ≤ 1) ⊎ ((x ≡ ended.LinkFault) × (n ≡ 2))
+Reads round n = n ≤ 1
 
--- at rest just one was made
+-- the clock told as many moments
 abbrev pub ReadOnce : (before now : Option (List ℕ)) → Round → Type 0
-ReadOnce before now Goes = Asked before now
-ReadOnce before now round = Unit {0}
+ReadOnce before now round = (moments : List ℕ) × Tells ℕ before now moments × Reads round (length moments)
 
--- so it was where the round goes on, or rests
+-- a reading was made where the round goes on
 abbrev pub AskedIf : (before now : Option (List ℕ)) → Option Round → Type 0
 AskedIf before now None = Asked before now
 AskedIf before now (Some round) = ReadOnce before now round

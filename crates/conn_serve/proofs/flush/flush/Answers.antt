@@ -38,6 +38,10 @@ returns-in-Failed-clause-flushed g c = λ o v turns drawn dice owed.
     (fails o _ c.moment.result _ _ turns _ _ drawn _ _ _ _ dice (inr (c.loop-link-test.ensures.some refl)) c.in-Failed.ensures.tape
     c.moment.ensures.told c.in-Failed.ensures.kept c.in-Failed.ensures.ends_kept (c.in-Failed.ensures.cause refl))
 
+pub returns-in-Failed-clause-unread : goal.returns-in-Failed-clause-unread
+returns-in-Failed-clause-unread g c =
+    inr (refl, (c.moment.result, rw c.loop-link.invariant.clock at c.moment.ensures.told))
+
 pub returns-clause-flushed : goal.returns-clause-flushed
 returns-clause-flushed g c = λ o v turns drawn dice owed.
     none_left o _ _ v v _ _ (c.loop-link-test.ensures.none refl) c.clear.ensures (c.loop-link.invariant.said o v turns drawn dice owed)

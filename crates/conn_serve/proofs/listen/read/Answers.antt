@@ -1,5 +1,6 @@
-use Rattle.std.proofs.Common.{refl}
+use Rattle.std.proofs.Common.{inl, refl}
 use Rattle.conn_serve.proofs.Listening.{comes_late, hears_bytes, hears_no_more, is_failed, is_hung, is_quiet, loses_bytes}
+use Rattle.conn_serve.proofs.Passing.{ends_read, ends_unread}
 use Rattle.conn_serve.proofs.listen.read.Goals as goal
 
 pub returns-in_default-clause-read : goal.returns-in_default-clause-read
@@ -43,3 +44,12 @@ returns-in-Failed-clause-read g c = λ o p turns drawn dice at.
     let told = rw c.in-Failed.is at c.in-Ok.ensures.told in
     is_failed o p _ _ _ _ _ turns _ _ drawn _ _ _ _ dice at c.requires.rests c.requires.none
     told.1 c.moment-moment.ensures.told c.in-Ok.ensures.kept c.in-Ok.ensures.ends_kept (rw c.in-Failed.is at c.in-Ok.ensures.cause refl)
+
+pub returns-in_default-clause-once : goal.returns-in_default-clause-once
+returns-in_default-clause-once g c = ends_unread _ _ _ c.moment.result (inl refl)
+
+pub returns-in-Err-clause-once : goal.returns-in-Err-clause-once
+returns-in-Err-clause-once g c = ends_read _ _ _ c.moment-moment.result (c.moment-moment.result, c.moment-moment.ensures.told)
+
+pub returns-in-Failed-clause-once : goal.returns-in-Failed-clause-once
+returns-in-Failed-clause-once g c = ends_read _ _ _ c.moment-moment.result (c.moment-moment.result, c.moment-moment.ensures.told)

@@ -1,7 +1,7 @@
 use Rattle.std.proofs.Common.{◌∙◌, sym, subst, ℕ}
 use Rattle.hall.specs.Desks.{turns_of}
 use Rattle.conn_serve.specs.Serving.{IsStanding}
-use Rattle.conn_serve.proofs.Passing.{asked_once, counts_after, passed_on, read_on, read_once, read_passed, stands_on}
+use Rattle.conn_serve.proofs.Passing.{asked_once, counts_after, ends_unread, none_read, passed_on, read_on, read_once, read_passed, stands_on}
 use Rattle.conn_serve.proofs.Turning.{starts_both}
 use Rattle.conn_serve.proofs.round.advance.Goals as goal
 
@@ -21,6 +21,18 @@ returns-in-Some-clause-passed g c = λ o p line accounts at.
     read_passed o _ _ _ _ _ _ _ _ _ c.in-Some.round rests.0 rests.1 (λ q here. c.in-Some.ensures.read o q (turns_of (g.D.Desk.line c.args.pass.now)
     (g.D.Desk.seen c.handle.new.pass)) (g.I.Dice.drawn c.handle.new.dice)
     (g.I.Dice.faults c.handle.new.dice) here)
+
+pub returns-in-Later-clause-once : goal.returns-in-Later-clause-once
+returns-in-Later-clause-once g c = none_read _ _ c.in-Later.ensures.unread
+
+pub returns-in-More-clause-once : goal.returns-in-More-clause-once
+returns-in-More-clause-once g c = none_read _ _ c.in-More.ensures.unread
+
+pub returns-in-Ends-clause-once : goal.returns-in-Ends-clause-once
+returns-in-Ends-clause-once g c = ends_unread _ _ _ c.in-Ends.moment c.in-Ends.ensures.unread
+
+pub returns-in-Exhausts-clause-once : goal.returns-in-Exhausts-clause-once
+returns-in-Exhausts-clause-once g c = none_read _ _ c.in-Exhausts.ensures.unread
 
 pub returns-in-Some-clause-once : goal.returns-in-Some-clause-once
 returns-in-Some-clause-once g c = asked_once _ _ _ c.in-Some.round c.in-Goes.ensures.unread c.in-Some.ensures.once

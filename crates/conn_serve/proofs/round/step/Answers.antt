@@ -1,4 +1,4 @@
-use Rattle.std.proofs.Common.{◌∙◌, sym}
+use Rattle.std.proofs.Common.{◌∙◌, inl, refl, sym}
 use Rattle.hall.specs.Desks.{turns_of}
 use Rattle.flow_laws.specs.Standing.{duty}
 use Rattle.conn_serve.proofs.Passing.{ends_here, flushed_round, flushed_step, owes_at, sent_on}
@@ -57,3 +57,9 @@ returns-in-Some-clause-mark g c = c.in-Rests.ensures.mark ∙ sym (c.in-Some.ens
 
 pub returns-in-Some-flush-clause-mark : goal.returns-in-Some-flush-clause-mark
 returns-in-Some-flush-clause-mark g c = c.in-Over.ensures.mark ∙ sym (c.in-Some-flush.ensures.mark _)
+
+pub returns-in-None-flush-clause-unread : goal.returns-in-None-flush-clause-unread
+returns-in-None-flush-clause-unread g c = inl c.in-None-flush.ensures.unread
+
+pub returns-in-Finishes-clause-unread : goal.returns-in-Finishes-clause-unread
+returns-in-Finishes-clause-unread g c = inl refl

@@ -5,7 +5,7 @@ use Rattle.flow_laws.specs.Standing.{duty}
 use Rattle.conn_asks.specs.declared.ended.Ended.TheVariants as ended
 use Rattle.conn_serve.specs.declared.turn.Round.TheVariants.{Goes, Later, More, Ends, Exhausts}
 use Rattle.conn_serve.proofs.Growing.{exhausted_after, finished_after}
-use Rattle.conn_serve.proofs.Passing.{counts_after, flushed_once, flushed_round, lost_rest, owes_at, passed_after, passed_owing, resumed, stands_on, starts_on}
+use Rattle.conn_serve.proofs.Passing.{asked_once, counts_after, ends_later, flushed_once, flushed_round, lost_rest, owes_at, passed_after, passed_owing, resumed, stands_on, starts_on}
 use Rattle.conn_serve.proofs.Turning.{rests_here}
 use Rattle.conn_serve.proofs.round.Conn.round.Goals as goal
 
@@ -25,7 +25,25 @@ returns-in-Some-clause-once g c =
     flushed_once stands.site _ _ _ _ _ _ c.in-Some.round
     (c.in-Some.ensures.flushed stands.site (duty stands.site stands.place) (turns_of (g.D.Desk.line c.args.pass.now)
     (g.D.Desk.seen c.args.pass.now)) (g.I.Dice.drawn c.args.dice.now)
-    (g.I.Dice.faults c.args.dice.now) (owes_at stands.site stands.place _ _ _ stands.at))
+    (g.I.Dice.faults c.args.dice.now) (owes_at stands.site stands.place _ _ _ stands.at)) c.in-Some.ensures.unread
+
+pub returns-in-Goes-clause-once : goal.returns-in-Goes-clause-once
+returns-in-Goes-clause-once g c = asked_once _ _ _ Goes c.in-None.ensures.unread c.in-Goes.ensures.once
+
+pub returns-in-More-clause-once : goal.returns-in-More-clause-once
+returns-in-More-clause-once g c = asked_once _ _ _ More c.in-None.ensures.unread c.in-More.ensures.once
+
+pub returns-in-Ok-clause-once : goal.returns-in-Ok-clause-once
+returns-in-Ok-clause-once g c = asked_once _ _ _ Later c.in-None.ensures.unread c.in-Later.ensures.once
+
+pub returns-in-Err-clause-once : goal.returns-in-Err-clause-once
+returns-in-Err-clause-once g c = ends_later _ _ _ c.moment.result (asked_once _ _ _ Later c.in-None.ensures.unread c.in-Later.ensures.once)
+
+pub returns-in-Ends-clause-once : goal.returns-in-Ends-clause-once
+returns-in-Ends-clause-once g c = asked_once _ _ _ (Ends c.in-Ends.ended c.in-Ends.moment) c.in-None.ensures.unread c.in-Ends.ensures.once
+
+pub returns-in-Exhausts-clause-once : goal.returns-in-Exhausts-clause-once
+returns-in-Exhausts-clause-once g c = asked_once _ _ _ Exhausts c.in-None.ensures.unread c.in-Exhausts.ensures.once
 
 pub returns-in-Some-clause-mark : goal.returns-in-Some-clause-mark
 returns-in-Some-clause-mark g c = sym (c.in-Some.ensures.mark _)
