@@ -31,7 +31,7 @@ fn handled_of(session: &Session, h: u32) -> Option<u32>
     ensures handled { result ≡ acknowledged h session.now.queue }
     ensures within { IfSome result (λ n. n ≤ session.now.queue.given) }
 {
-    within(session.queue.kept(), given(session), Count(h))
+    within(session.own.queue.kept(), given(&session.own), Count(h))
 }
 
 fn handled(world: &World, s: u64, h: u32) -> Option<u32>
@@ -53,8 +53,8 @@ fn too_high(world: &World, s: u64, h: u32) -> Cause
     match world.table.session(s) {
         Some(session) => Cause::TooHigh {
             h,
-            kept: session.queue.kept().0,
-            sent: session.queue.sent().0,
+            kept: session.own.queue.kept().0,
+            sent: session.own.queue.sent().0,
         },
         None => Cause::Lost,
     }

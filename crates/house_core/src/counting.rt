@@ -135,8 +135,8 @@ fn tell(world: &mut World, w: u32, s: u64)
     let Some(session) = world.table.session(s) else {
         return;
     };
-    if session.counts {
-        let h = inward(session);
+    if session.own.counts {
+        let h = inward(&session.own);
         world.say(w, Answer::Counted { h });
     }
 }
@@ -147,7 +147,7 @@ pub(crate) fn counts(world: &World, s: u64) -> bool
     ensures { result ≡ ((seen world.now).sessions s).counts }
 {
     match world.table.session(s) {
-        Some(session) => session.counts,
+        Some(session) => session.own.counts,
         None => false,
     }
 }

@@ -34,7 +34,7 @@ fn push_unsent(session: &Session, out: &mut Vec<u8>) -> bool
     ensures next { result ≡ true → session.now.queue.given < length session.now.queue.waiting }
     ensures capacity { vec_capacity out.old ≤ vec_capacity out.new }
 {
-    match session.queue.next_unsent() {
+    match session.own.queue.next_unsent() {
         Some(entry) => {
             push_frame(entry, out);
             true
@@ -49,7 +49,8 @@ fn is_unasked(session: &Session) -> bool
     requires small { session.now.given_up + session.now.queue.given < 2 ^ 64 }
     ensures { result ≡ (session.now.counts && nat_lt session.now.asked_at (session.now.given_up + session.now.queue.given)) }
 {
-    session.counts && session.asked_at < session.given_up + given(session) as u64
+    let own = &session.own;
+    own.counts && own.asked_at < own.given_up + given(own) as u64
 }
 
 // Appends the oldest answer of a line, which then waits no more. False where none waits.

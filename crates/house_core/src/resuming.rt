@@ -48,15 +48,15 @@ fn facts_of(session: &Session, user: &Part, domain: &Jid) -> Option<Facts>
     ensures facts { result ≡ facts_with user.now domain.now.domain session.now session.now.resume_id }
     ensures narrow { IsSome session.now.resume_id → IsNarrow session.now }
 {
-    let id = session.resume_id?;
+    let id = session.own.resume_id?;
     let digits = id.digits;
-    let _ = session.queue.len();
+    let _ = session.own.queue.len();
     Some(Facts {
         digits,
         yours: is_users(session.address(), user, domain),
         ended: is_over(session),
-        kept: session.queue.kept(),
-        sent: session.queue.sent(),
+        kept: session.own.queue.kept(),
+        sent: session.own.queue.sent(),
     })
 }
 

@@ -26,10 +26,10 @@ fn here_of(alloc: Global, number: u64, session: &Session) -> Result<Here, NoMemo
     Ok(Here {
         session: number,
         address: session.address().copy(alloc)?,
-        available: session.presence.is_some(),
-        priority: session.priority,
-        wants_roster: session.wants_roster,
-        pushes: session.pushes,
+        available: session.own.presence.is_some(),
+        priority: session.own.priority,
+        wants_roster: session.own.wants_roster,
+        pushes: session.own.pushes,
     })
 }
 
@@ -50,7 +50,7 @@ fn names(session: &Session, address: &Jid) -> bool
     if address.resource.is_some() {
         session.address().is_same(address)
     } else {
-        session.presence.is_some() && session.address().is_same_bare(address)
+        session.own.presence.is_some() && session.address().is_same_bare(address)
     }
 }
 
@@ -74,7 +74,7 @@ fn is_among(users: &Order, session: &Session) -> bool
 fn is_seen(users: &Order, session: &Session) -> bool
     ensures { result ≡ is_seen users.now.users session.now }
 {
-    session.presence.is_some() && is_among(users, session)
+    session.own.presence.is_some() && is_among(users, session)
 }
 
 /// Whether a session that is there goes on.
@@ -189,7 +189,7 @@ pub(crate) fn directed_by<'a>(world: &'a World, who: &Here) -> &'a [Jid]
     ensures { result.now ≡ directed_by (seen world.now) who.now }
 {
     match world.table.session(who.session) {
-        Some(session) => session.directed.slice(),
+        Some(session) => session.own.directed.slice(),
         None => &[],
     }
 }

@@ -73,7 +73,7 @@ pub(crate) fn presence_of(world: &World, alloc: Global, s: u64) -> Result<Text, 
     ensures { IfOk result (λ t. t ≡ unwrap_or ((seen world.now).sessions s).rest.manner.presence []) }
 {
     match world.table.session(s) {
-        Some(session) => match &session.presence {
+        Some(session) => match &session.own.presence {
             Some(presence) => presence.copy(alloc),
             None => Ok(Text::empty(alloc)),
         },

@@ -8,7 +8,7 @@ use Rattle.stanza_tree.specs.declared.frame.Entry.{Entry}
 use Rattle.sm_queue.specs.Queues as queues
 use Rattle.sm_queue.specs.Queues.{acknowledged}
 use Rattle.session_table.specs.declared.life.Life.TheVariants.{Live}
-use Rattle.session_table.specs.Sessions.{SessionRecord}
+use Rattle.session_table.specs.Sessions.{SessionRecord, own_of, with_own}
 use Rattle.session_table.specs.Tables.{conn_of, line_of, session_of, with_session}
 use Rattle.sm_resume.specs.declared.decision.Cause.{Cause}
 use Rattle.house_model.specs.declared.reply.Reply.TheVariants as reply
@@ -81,11 +81,11 @@ module _ (a : code.World) (s : ℕ) (x : SessionRecord) (tied : IsTied a.table) 
       (λ turns few. (let sent = few.sent s x at in let acted = few.acted s x at in (omega (arith, sent, low), omega (arith, acted)))))
 
   mark_by : (b : Bool) (more : x.queue.given < length x.queue.waiting) → x.counts ≡ b
-      → Did (On s Pull ∷ []) 1 a (record a { table = with_session s a.table (given_next b x) })
+      → Did (On s Pull ∷ []) 1 a (record a { table = with_session s a.table (with_own (given_next b (own_of x)) x) })
   mark_by true more counts =
       let next = some_at x.queue.waiting x.queue.given more in
-      held_did a s by.0 x (given_next true x) Pull at by.1 by.2 refl refl
-      (ap (λ (b : Bool). session b hold (traffic_of (given_next true x)) r) counts
+      held_did a s by.0 x (with_own (given_next true (own_of x)) x) Pull at by.1 by.2 refl refl
+      (ap (λ (b : Bool). session b hold (traffic_of (with_own (given_next true (own_of x)) x)) r) counts
       ∙ (ap (λ (o : Option Entry). session true hold (kept_give k o) r) (sym next.1)
       ∙ sym (ap (λ (b : Bool). step_if brief b hold k r Pull) counts))) 1 tied
       (record {
@@ -102,8 +102,8 @@ module _ (a : code.World) (s : ℕ) (x : SessionRecord) (tied : IsTied a.table) 
       (λ turns few. (let sent = few.sent s x at in let acted = few.acted s x at in (omega (arith, sent), omega (arith, acted))))
   mark_by false more counts =
       let next = some_at x.queue.waiting x.queue.given more in
-      held_did a s by.0 x (given_next false x) Pull at by.1 by.2 refl refl
-      (ap (λ (b : Bool). session b hold (traffic_of (given_next false x)) r) counts
+      held_did a s by.0 x (with_own (given_next false (own_of x)) x) Pull at by.1 by.2 refl refl
+      (ap (λ (b : Bool). session b hold (traffic_of (with_own (given_next false (own_of x)) x)) r) counts
       ∙ (ap (λ (o : Option Entry). session false hold (kept_give_up k o) r) (sym next.1)
       ∙ sym (ap (λ (b : Bool). step_if brief b hold k r Pull) counts))) 1 tied
       (record {
@@ -119,7 +119,7 @@ module _ (a : code.World) (s : ℕ) (x : SessionRecord) (tied : IsTied a.table) 
       })
       (λ turns few. (let sent = few.sent s x at in let acted = few.acted s x at in (omega (arith, sent), omega (arith, acted))))
 
-  pub mark_did : (y : SessionRecord) → x.queue.given < length x.queue.waiting → y ≡ given_next x.counts x
+  pub mark_did : (y : SessionRecord) → x.queue.given < length x.queue.waiting → y ≡ with_own (given_next x.counts (own_of x)) x
       → Did (On s Pull ∷ []) 1 a (record a { table = with_session s a.table y })
   mark_did y more is =
       subst (λ (z : SessionRecord). Did (On s Pull ∷ []) 1 a (record a { table = with_session s a.table z })) (sym is)

@@ -27,3 +27,4 @@ pub mod HostLemmas
 pub mod FilingLemmas
 pub mod RowLemmas
 pub mod QuietLemmas
+pub mod OwnLemmas

@@ -9,7 +9,7 @@ use Rattle.sm_resume.specs.declared.decision.Cause.{Cause}
 use Rattle.sm_queue.specs.Queues.{Queue, spare}
 use Rattle.session_table.specs.declared.life.Life.{Life}
 use Rattle.session_table.specs.declared.life.Life.TheVariants.{Live, Over}
-use Rattle.session_table.specs.Sessions.{SessionRecord}
+use Rattle.session_table.specs.Sessions.{OwnRecord, SessionRecord, own_of, with_own}
 use Rattle.session_table.specs.Tables.{TableRecord, conn_of, line_of, session_of, with_session}
 use Rattle.house_model.specs.Fitting.{IsSmall}
 use Rattle.house_model.specs.Sessions.{Held, Away, Ended, Mark, Marks, Shown, Hidden, Directs, WantsRoster, Pushed}
@@ -100,7 +100,7 @@ module _ (a : code.World) (s : ℕ) (x : SessionRecord) (tied : IsTied a.table) 
       (sym (same_Some n s is)) (mark_by x.state x.holder mark refl refl short counted)
 
   set_is : (c : Change) → named_by c ≡ Some s → IsSmall (Set c) → IsShortChange c
-      → Did (set c ∷ []) 0 a (record a { table = with_session s a.table (set_by c x) })
+      → Did (set c ∷ []) 0 a (record a { table = with_session s a.table (with_own (set_by c (own_of x)) x) })
   set_is (change.WantsRoster n) is short few = mark_did n WantsRoster is ready.shown ready.pushes
   set_is (change.Pushed n pushes) is short few = mark_did n (Pushed pushes) is ready.shown few
   set_is (change.Available n stanza priority) is short few = mark_did n (Shown stanza priority) is short ready.pushes
@@ -122,7 +122,7 @@ module _ (a : code.World) (s : ℕ) (x : SessionRecord) (tied : IsTied a.table) 
   set_is (change.RoomRow n peer text moment) is short few = absurd (cc)
 
   -- a change of a session that is there
-  pub set_did : (y : SessionRecord) (c : Change) → named_by c ≡ Some s → IsSmall (Set c) → IsShortChange c → y ≡ set_by c x
+  pub set_did : (y : SessionRecord) (c : Change) → named_by c ≡ Some s → IsSmall (Set c) → IsShortChange c → y ≡ with_own (set_by c (own_of x)) x
       → Did (set c ∷ []) 0 a (record a { table = with_session s a.table y })
   set_did y c named short few is =
       subst (λ (z : SessionRecord). Did (set c ∷ []) 0 a (record a { table = with_session s a.table z })) (sym is) (set_is c named short few)
@@ -156,25 +156,16 @@ set_gone a s (change.Subject n text stamp) tied is none = absurd (cc)
 set_gone a s (change.RoomRow n peer text moment) tied is none = absurd (cc)
 
 -- what it queues has as much room
-set_queue : (c : Change) (x : SessionRecord) → (set_by c x).queue ≡ x.queue
-set_queue (change.WantsRoster n) x = refl
-set_queue (change.Pushed n pushes) x = refl
-set_queue (change.Available n stanza priority) x = refl
-set_queue (change.Unavailable n) x = refl
-set_queue (change.Directed n addresses) x = refl
-set_queue c x = refl
+set_queue : (c : Change) (own : OwnRecord) → (set_by c own).queue ≡ own.queue
+set_queue (change.WantsRoster n) own = refl
+set_queue (change.Pushed n pushes) own = refl
+set_queue (change.Available n stanza priority) own = refl
+set_queue (change.Unavailable n) own = refl
+set_queue (change.Directed n addresses) own = refl
+set_queue c own = refl
 
-pub spare_set : (s n r : ℕ) (t : TableRecord) (x y : SessionRecord) (c : Change) → session_of s t ≡ Some x → y ≡ set_by c x
+pub spare_set : (s n r : ℕ) (t : TableRecord) (x y : SessionRecord) (c : Change) → session_of s t ≡ Some x → y ≡ with_own (set_by c (own_of x)) x
     → HasSpare n r t → HasSpare n r (with_session s t y)
 spare_set s n r t x y c at is has =
     spare_changed s n n r (λ _. y) t x at (omega arith)
-    (λ _ had. subst (λ (q : Queue). n ≤ spare q) (sym (ap (λ (z : SessionRecord). z.queue) is ∙ set_queue c x)) had) has
-
--- it goes on, or is over, as it was
-pub state_same : (c : Change) (x : SessionRecord) → (set_by c x).state ≡ x.state
-state_same (change.WantsRoster n) x = refl
-state_same (change.Pushed n pushes) x = refl
-state_same (change.Available n stanza priority) x = refl
-state_same (change.Unavailable n) x = refl
-state_same (change.Directed n addresses) x = refl
-state_same c x = refl
+    (λ _ had. subst (λ (q : Queue). n ≤ spare q) (sym (ap (λ (z : SessionRecord). z.queue) is ∙ set_queue c (own_of x))) had) has

@@ -3,7 +3,7 @@ use Rattle.std.specs.Prelude.{ℕ, pos, Bool, true, false, not, ◌||◌, Option
 use Rattle.stanza_model.specs.declared.effect.Change.{Change}
 use Rattle.stanza_model.specs.declared.effect.Change.TheVariants.{WantsRoster, Pushed, Available, Unavailable, Directed}
 use Rattle.stanza_model.specs.declared.effect.Change.TheVariants.{Contact, NoContact, Sees, Asked, RoomRow}
-use Rattle.session_table.specs.Sessions.{SessionRecord}
+use Rattle.session_table.specs.Sessions.{OwnRecord}
 
 -- the number of the session that a change is of; some are of no session, but of what is kept of users, or of rooms
 abbrev pub named_by : Change → Option ℕ
@@ -14,14 +14,14 @@ named_by (Unavailable s) = Some s
 named_by (Directed s addresses) = Some s
 named_by change = None
 
--- what a change makes of its session
-abbrev pub set_by : Change → SessionRecord → SessionRecord
-set_by (WantsRoster s) x = record x { wants_roster = true }
-set_by (Pushed s pushes) x = record x { pushes = pushes }
-set_by (Available s stanza priority) x = record x { presence = Some stanza; priority = priority }
-set_by (Unavailable s) x = record x { presence = None; priority = pos 0 }
-set_by (Directed s addresses) x = record x { directed = addresses }
-set_by change x = x
+-- what a change makes of what its session's owner has
+abbrev pub set_by : Change → OwnRecord → OwnRecord
+set_by (WantsRoster s) own = record own { wants_roster = true }
+set_by (Pushed s pushes) own = record own { pushes = pushes }
+set_by (Available s stanza priority) own = record own { presence = Some stanza; priority = priority }
+set_by (Unavailable s) own = record own { presence = None; priority = pos 0 }
+set_by (Directed s addresses) own = record own { directed = addresses }
+set_by change own = own
 
 -- whether a change is of what is kept of users
 abbrev pub is_of_users : Change → Bool

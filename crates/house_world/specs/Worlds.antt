@@ -4,7 +4,7 @@ use Rattle.sm_resume.specs.declared.decision.Cause.{Cause}
 use Rattle.sm_resume.specs.declared.decision.Cause.TheVariants.{Lost}
 use Rattle.session_table.specs.declared.life.Life.TheVariants.{Over}
 use Rattle.sm_resume.specs.declared.id.ResumeId.{ResumeId}
-use Rattle.session_table.specs.Sessions.{SessionRecord, ended, left_until}
+use Rattle.session_table.specs.Sessions.{OwnRecord, SessionRecord, ended, left_until, own_of, with_own}
 use Rattle.house_model.specs.Gate.{Verdict, left_by, patience}
 use Rattle.house_model.specs.declared.reply.Reply.{Reply}
 use Rattle.session_table.specs.declared.line.Line as stage
@@ -71,10 +71,10 @@ Handles h n s t = (x : SessionRecord) → session_of s t ≡ Some x → (acknowl
 abbrev pub HasNext : ℕ → TableRecord → Type 0
 HasNext s t = (x : SessionRecord) → session_of s t ≡ Some x → x.queue.given < length x.queue.waiting
 
--- a session whose next stanza was given
-abbrev pub given_next : Bool → SessionRecord → SessionRecord
-given_next true x = record x { queue = marked_sent x.queue }
-given_next false x = record x { queue = without_sent (marked_sent x.queue); given_up = x.given_up + (x.queue.given + 1) }
+-- the next stanza of a session was given; where it doesn't count, that stanza is done with
+abbrev pub given_next : Bool → OwnRecord → OwnRecord
+given_next true own = record own { queue = marked_sent own.queue }
+given_next false own = record own { queue = without_sent (marked_sent own.queue); given_up = own.given_up + (own.queue.given + 1) }
 
 -- the lines on which nobody has a session yet, and what waits there, are as before
 abbrev pub KeepsLogged : (old new : code.World) → Type 0
@@ -89,6 +89,14 @@ pub record Stays (old new : code.World) : Type 0 where
   pub over : (s : ℕ) → IsOver s old.table → IsOver s new.table
   pub spare : new.table.spare ≡ old.table.spare
 
--- a session of whose stanzas the client that resumes handled n: the others are given again
+-- the client that resumes handled n of the stanzas that were given: the others are given again
+abbrev pub rewound : ℕ → OwnRecord → OwnRecord
+rewound n own = record own {
+  queue = record (without n own.queue) { given = 0 };
+  given_up = own.given_up + n;
+  asked_at = own.given_up + n;
+}
+
+-- the session of whose stanzas it handled n
 abbrev pub rewound_to : ℕ → SessionRecord → SessionRecord
-rewound_to n x = record x { queue = record (without n x.queue) { given = 0 }; given_up = x.given_up + n; asked_at = x.given_up + n }
+rewound_to n x = with_own (rewound n (own_of x)) x

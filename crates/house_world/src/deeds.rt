@@ -11,7 +11,7 @@ ghost use Rattle.house_world.specs.Wholes.{HasSpare, IsFew, IsSession, IsTied};
 ghost use Rattle.house_world.specs.Worlds.{Counts, Did, Handles, HasNext, IsHeld, given_next};
 
 use crate::world::World;
-use session_table::Session;
+use session_table::Own;
 use sm_counters::{Count, ahead};
 use sm_resume::ResumeId;
 
@@ -19,81 +19,81 @@ use sm_resume::ResumeId;
 const COUNTS: u64 = 1 << 32;
 
 /// How many of the waiting stanzas were given. Costs a few steps.
-pub fn given(session: &Session) -> u32
-    requires { session.now.queue.given ≤ length session.now.queue.waiting }
-    ensures { result ≡ session.now.queue.given }
+pub fn given(own: &Own) -> u32
+    requires { own.now.queue.given ≤ length own.now.queue.waiting }
+    ensures { result ≡ own.now.queue.given }
 {
-    let _ = session.queue.len();
-    ahead(session.queue.kept(), session.queue.sent())
+    let _ = own.queue.len();
+    ahead(own.queue.kept(), own.queue.sent())
 }
 
 /// The count of the client's stanzas that were acted on. Costs a few steps.
-pub fn inward(session: &Session) -> u32
-    requires { session.now.base_in ≤ session.now.acted }
-    ensures { result ≡ count_of (session.now.acted - session.now.base_in) }
+pub fn inward(own: &Own) -> u32
+    requires { own.now.base_in ≤ own.now.acted }
+    ensures { result ≡ count_of (own.now.acted - own.now.base_in) }
 {
-    ((session.acted - session.base_in) % COUNTS) as u32
+    ((own.acted - own.base_in) % COUNTS) as u32
 }
 
-fn act(session: &mut Session)
-    requires { session.old.acted < 2 ^ 64 - 1 }
-    ensures { session.new ≡ record session.old { acted = session.old.acted + 1 } }
+fn act(own: &mut Own)
+    requires { own.old.acted < 2 ^ 64 - 1 }
+    ensures { own.new ≡ record own.old { acted = own.old.acted + 1 } }
 {
-    session.acted += 1;
+    own.acted += 1;
 }
 
-fn ask(session: &mut Session)
-    requires given { session.old.queue.given ≤ length session.old.queue.waiting }
-    requires small { session.old.given_up + session.old.queue.given < 2 ^ 64 }
-    ensures { session.new ≡ record session.old { asked_at = session.old.given_up + session.old.queue.given } }
+fn ask(own: &mut Own)
+    requires given { own.old.queue.given ≤ length own.old.queue.waiting }
+    requires small { own.old.given_up + own.old.queue.given < 2 ^ 64 }
+    ensures { own.new ≡ record own.old { asked_at = own.old.given_up + own.old.queue.given } }
 {
-    session.asked_at = session.given_up + given(session) as u64;
+    own.asked_at = own.given_up + given(own) as u64;
 }
 
 /// Both counts begin.
-fn begin(session: &mut Session, id: Option<ResumeId>)
-    requires given { session.old.queue.given ≤ length session.old.queue.waiting }
-    requires small { session.old.given_up + session.old.queue.given < 2 ^ 64 }
-    ensures { session.new ≡ record session.old {
-      given_up = session.old.given_up + session.old.queue.given;
-      queue = counted_anew session.old.queue;
-      asked_at = session.old.given_up + session.old.queue.given;
-      base_in = session.old.acted;
+fn begin(own: &mut Own, id: Option<ResumeId>)
+    requires given { own.old.queue.given ≤ length own.old.queue.waiting }
+    requires small { own.old.given_up + own.old.queue.given < 2 ^ 64 }
+    ensures { own.new ≡ record own.old {
+      given_up = own.old.given_up + own.old.queue.given;
+      queue = counted_anew own.old.queue;
+      asked_at = own.old.given_up + own.old.queue.given;
+      base_in = own.old.acted;
       counts = true;
       resume_id = id;
     } }
 {
-    session.given_up += given(session) as u64;
-    session.queue.begin_count();
-    session.asked_at = session.given_up;
-    session.base_in = session.acted;
-    session.counts = true;
-    session.resume_id = id;
+    own.given_up += given(own) as u64;
+    own.queue.begin_count();
+    own.asked_at = own.given_up;
+    own.base_in = own.acted;
+    own.counts = true;
+    own.resume_id = id;
 }
 
 // The first n stanzas that were given are done with.
-fn handle(session: &mut Session, h: u32, n: u32)
-    requires handled { acknowledged h session.old.queue ≡ Some n }
-    requires within { n ≤ session.old.queue.given }
-    requires small { session.old.given_up + session.old.queue.given < 2 ^ 64 }
-    ensures { session.new ≡ record session.old { queue = without n session.old.queue; given_up = session.old.given_up + n } }
+fn handle(own: &mut Own, h: u32, n: u32)
+    requires handled { acknowledged h own.old.queue ≡ Some n }
+    requires within { n ≤ own.old.queue.given }
+    requires small { own.old.given_up + own.old.queue.given < 2 ^ 64 }
+    ensures { own.new ≡ record own.old { queue = without n own.old.queue; given_up = own.old.given_up + n } }
 {
-    match session.queue.ack(Count(h)) {
-        Ok(()) => session.given_up += n as u64,
+    match own.queue.ack(Count(h)) {
+        Ok(()) => own.given_up += n as u64,
         Err(_) => {}
     }
 }
 
 // The next stanza was given; where the session doesn't count, it is done with.
-fn mark(session: &mut Session)
-    requires next { session.old.queue.given < length session.old.queue.waiting }
-    requires small { session.old.given_up + session.old.queue.given + 1 < 2 ^ 64 }
-    ensures { session.new ≡ given_next session.old.counts session.old }
+fn mark(own: &mut Own)
+    requires next { own.old.queue.given < length own.old.queue.waiting }
+    requires small { own.old.given_up + own.old.queue.given + 1 < 2 ^ 64 }
+    ensures { own.new ≡ given_next own.old.counts own.old }
 {
-    session.queue.mark_sent();
-    if !session.counts {
-        session.given_up += given(session) as u64;
-        session.queue.forget_sent();
+    own.queue.mark_sent();
+    if !own.counts {
+        own.given_up += given(own) as u64;
+        own.queue.forget_sent();
     }
 }
 
@@ -109,8 +109,8 @@ impl World {
         ensures archives { self.new.archives ≡ self.old.archives }
         ensures room { (n r : ℕ) → HasSpare n r self.old.table → HasSpare n r self.new.table }
     {
-        if let Some(session) = self.table.session_mut(s) {
-            act(session);
+        if let Some(own) = self.table.own_mut(s) {
+            act(own);
         }
     }
 
@@ -122,8 +122,8 @@ impl World {
         requires small { IsFew (2 ^ 64 - 2) self.old.table }
         ensures { Did (On s Request ∷ []) 0 self.old self.new }
     {
-        if let Some(session) = self.table.session_mut(s) {
-            ask(session);
+        if let Some(own) = self.table.own_mut(s) {
+            ask(own);
         }
     }
 
@@ -136,8 +136,8 @@ impl World {
         ensures did { Did (On s (Enable id) ∷ []) 0 self.old self.new }
         ensures answers { self.new.answers ≡ self.old.answers }
     {
-        if let Some(session) = self.table.session_mut(s) {
-            begin(session, id);
+        if let Some(own) = self.table.own_mut(s) {
+            begin(own, id);
         }
     }
 
@@ -150,8 +150,8 @@ impl World {
         requires handled { Handles h n s self.old.table }
         ensures { Did (On s (Ack h) ∷ []) 0 self.old self.new }
     {
-        if let Some(session) = self.table.session_mut(s) {
-            handle(session, h, n);
+        if let Some(own) = self.table.own_mut(s) {
+            handle(own, h, n);
         }
     }
 
@@ -163,8 +163,8 @@ impl World {
         requires small { IsFew (2 ^ 64 - 2) self.old.table }
         ensures { Did (On s Pull ∷ []) 1 self.old self.new }
     {
-        if let Some(session) = self.table.session_mut(s) {
-            mark(session);
+        if let Some(own) = self.table.own_mut(s) {
+            mark(own);
         }
     }
 }

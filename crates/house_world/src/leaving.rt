@@ -53,7 +53,7 @@ impl World {
         let Some(session) = self.table.session(s) else {
             return;
         };
-        if session.resume_id.is_some() {
+        if session.own.resume_id.is_some() {
             self.table.detach(s, moment + PATIENCE);
         } else {
             self.table.mark_over(s, Cause::Lost);

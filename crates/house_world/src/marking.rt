@@ -16,45 +16,45 @@ use crate::world::World;
 use archive_table::Filing;
 use contact_table::user_of;
 use jid_core::Jid;
-use session_table::Session;
+use session_table::Own;
 use stanza_model::Change;
 use stanza_tree::{Several, Text};
 
 /// Its client is available, with this presence and this priority.
-fn show(session: &mut Session, stanza: Text, priority: i16)
-    ensures { session.new ≡ record session.old { presence = Some stanza; priority = priority } }
+fn show(own: &mut Own, stanza: Text, priority: i16)
+    ensures { own.new ≡ record own.old { presence = Some stanza; priority = priority } }
 {
-    session.presence = Some(stanza);
-    session.priority = priority;
+    own.presence = Some(stanza);
+    own.priority = priority;
 }
 
 /// Its client is unavailable.
-fn hide(session: &mut Session)
-    ensures { session.new ≡ record session.old { presence = None; priority = pos 0 } }
+fn hide(own: &mut Own)
+    ensures { own.new ≡ record own.old { presence = None; priority = pos 0 } }
 {
-    session.presence = None;
-    session.priority = 0;
+    own.presence = None;
+    own.priority = 0;
 }
 
 /// Its client sent presence to these addresses alone.
-fn direct(session: &mut Session, addresses: Several<Jid>)
-    ensures { session.new ≡ record session.old { directed = addresses } }
+fn direct(own: &mut Own, addresses: Several<Jid>)
+    ensures { own.new ≡ record own.old { directed = addresses } }
 {
-    session.directed = addresses;
+    own.directed = addresses;
 }
 
 /// Its client asked for its roster.
-fn want_roster(session: &mut Session)
-    ensures { session.new ≡ record session.old { wants_roster = true } }
+fn want_roster(own: &mut Own)
+    ensures { own.new ≡ record own.old { wants_roster = true } }
 {
-    session.wants_roster = true;
+    own.wants_roster = true;
 }
 
 /// So many pushes of its roster were queued for it.
-fn count_pushes(session: &mut Session, pushes: u64)
-    ensures { session.new ≡ record session.old { pushes = pushes } }
+fn count_pushes(own: &mut Own, pushes: u64)
+    ensures { own.new ≡ record own.old { pushes = pushes } }
 {
-    session.pushes = pushes;
+    own.pushes = pushes;
 }
 
 /// The number of the session that a change is of.
@@ -99,19 +99,19 @@ pub(crate) fn is_of_rooms(change: &Change) -> bool
 }
 
 /// A change is made of its session.
-fn mark(session: &mut Session, change: Change)
-    ensures { session.new ≡ set_by change session.old }
+fn mark(own: &mut Own, change: Change)
+    ensures { own.new ≡ set_by change own.old }
 {
     match change {
-        Change::WantsRoster { .. } => want_roster(session),
-        Change::Pushed { pushes, .. } => count_pushes(session, pushes),
+        Change::WantsRoster { .. } => want_roster(own),
+        Change::Pushed { pushes, .. } => count_pushes(own, pushes),
         Change::Available {
             stanza,
             priority,
             ..
-        } => show(session, stanza, priority),
-        Change::Unavailable { .. } => hide(session),
-        Change::Directed { addresses, .. } => direct(session, addresses),
+        } => show(own, stanza, priority),
+        Change::Unavailable { .. } => hide(own),
+        Change::Directed { addresses, .. } => direct(own, addresses),
         _ => {}
     }
 }
@@ -144,8 +144,8 @@ impl World {
         ensures room { (n s : ℕ) → HasSpare n s self.old.table → HasSpare n s self.new.table }
     {
         know_change(&change);
-        match self.table.session_mut(s) {
-            Some(session) => mark(session, change),
+        match self.table.own_mut(s) {
+            Some(own) => mark(own, change),
             None => {}
         }
     }

@@ -14,41 +14,41 @@ ghost use Rattle.house_model.specs.Traffic.{kept_inward};
 ghost use Rattle.house_world.specs.Hosting.{Archived, IsCast};
 ghost use Rattle.house_world.specs.Readiness.{AreNotable, AreReady};
 ghost use Rattle.house_world.specs.Wholes.{HasSpare, IsFew, IsTied};
-ghost use Rattle.house_world.specs.Worlds.{Counts, Did, Handles, IsOver, KeepsLogged, Stays, rewound_to, seen};
+ghost use Rattle.house_world.specs.Worlds.{Counts, Did, Handles, IsOver, KeepsLogged, Stays, rewound, rewound_to, seen};
 
 use crate::casting::Cast;
 use crate::deeds::inward;
 use crate::lengths::know_short;
 use crate::world::World;
 use jid_core::Jid;
-use session_table::{Life, Session};
+use session_table::{Life, Own};
 use sm_counters::Count;
 use sm_resume::Cause;
 use stanza_tree::Entry;
 
 // The client handled the first n stanzas that were given; the others are given again.
-fn rewind(session: &mut Session, h: u32, n: u32)
-    requires handled { acknowledged h session.old.queue ≡ Some n }
-    requires within { n ≤ session.old.queue.given }
-    requires small { session.old.given_up + session.old.queue.given < 2 ^ 64 }
-    ensures { session.new ≡ rewound_to n session.old }
+fn rewind(own: &mut Own, h: u32, n: u32)
+    requires handled { acknowledged h own.old.queue ≡ Some n }
+    requires within { n ≤ own.old.queue.given }
+    requires small { own.old.given_up + own.old.queue.given < 2 ^ 64 }
+    ensures { own.new ≡ rewound n own.old }
 {
-    match session.queue.rewind(Count(h)) {
+    match own.queue.rewind(Count(h)) {
         Ok(()) => {
-            session.given_up += n as u64;
-            session.asked_at = session.given_up;
+            own.given_up += n as u64;
+            own.asked_at = own.given_up;
         }
         Err(_) => {}
     }
 }
 
 // An entry more waits.
-fn add(session: &mut Session, entry: Entry)
-    requires spare { 0 < spare session.old.queue }
-    requires room { has_room session.old.queue.waiting entry ≡ true }
-    ensures { session.new ≡ record session.old { queue = pushed entry session.old.queue } }
+fn add(own: &mut Own, entry: Entry)
+    requires spare { 0 < spare own.old.queue }
+    requires room { has_room own.old.queue.waiting entry ≡ true }
+    ensures { own.new ≡ record own.old { queue = pushed entry own.old.queue } }
 {
-    session.queue.push(entry);
+    own.queue.push(entry);
 }
 
 impl World {
@@ -134,14 +134,14 @@ impl World {
         let Life::Live = session.state() else {
             return;
         };
-        if session.queue.can_take(&entry) {
+        if session.own.queue.can_take(&entry) {
             let line = session.holder();
             self.queue(s, entry);
             self.stirred.note(line);
             return;
         }
-        let kept = session.given_up;
-        let queued = kept + session.queue.len() as u64;
+        let kept = session.own.given_up;
+        let queued = kept + session.own.queue.len() as u64;
         self.end(s, Cause::Overfull { kept, queued });
     }
 
@@ -160,8 +160,8 @@ impl World {
         ensures queues { (n r : ℕ) → HasSpare n r self.old.table
             → HasSpare (n - (if r == s then 1 else 0)) r self.new.table }
     {
-        if let Some(session) = self.table.session_mut(s) {
-            add(session, entry);
+        if let Some(own) = self.table.own_mut(s) {
+            add(own, entry);
         }
     }
 
@@ -185,7 +185,7 @@ impl World {
             return 0;
         };
         let old = session.holder();
-        let count = inward(session);
+        let count = inward(&session.own);
         self.rewind(s, h, n);
         self.table.attach(s, w);
         if let Some(v) = old {
@@ -207,8 +207,8 @@ impl World {
         ensures rooms { self.new.rooms ≡ self.old.rooms }
         ensures archives { self.new.archives ≡ self.old.archives }
     {
-        if let Some(session) = self.table.session_mut(s) {
-            rewind(session, h, n);
+        if let Some(own) = self.table.own_mut(s) {
+            rewind(own, h, n);
         }
     }
 

@@ -14,7 +14,7 @@ use crate::marking::is_of_users;
 use crate::world::World;
 use contact_table::user_of;
 use jid_core::Part;
-use session_table::Session;
+use session_table::Own;
 use stanza_model::{Change, Effect};
 use stanza_tree::NoMemory;
 use std::alloc::Global;
@@ -22,14 +22,14 @@ use std::alloc::Global;
 /// A list of so many effects is looked through for each of them, which costs less than sorting so few; of a longer one the sessions are sorted.
 const FEW: usize = 16;
 
-fn reserve(session: &mut Session, entries: usize) -> Result<(), NoMemory>
-    ensures spare { OnOk result (entries ≤ spare session.new.queue) }
-    ensures keeps { session.old.queue.room ≤ session.new.queue.room }
-    ensures same { session.new ≡ record session.old {
-      queue = record session.old.queue { room = session.new.queue.room };
+fn reserve(own: &mut Own, entries: usize) -> Result<(), NoMemory>
+    ensures spare { OnOk result (entries ≤ spare own.new.queue) }
+    ensures keeps { own.old.queue.room ≤ own.new.queue.room }
+    ensures same { own.new ≡ record own.old {
+      queue = record own.old.queue { room = own.new.queue.room };
     } }
 {
-    session.queue.reserve(entries)
+    own.queue.reserve(entries)
 }
 
 /// Whether an effect queues a stanza for a session.
@@ -122,8 +122,8 @@ impl World {
         ensures same { Did [] 0 self.old self.new }
         ensures held { (w r : ℕ) → IsHeldBy w r self.old.table → IsHeldBy w r self.new.table }
     {
-        match self.table.session_mut(s) {
-            Some(session) => reserve(session, entries),
+        match self.table.own_mut(s) {
+            Some(own) => reserve(own, entries),
             None => Ok(()),
         }
     }

@@ -1,9 +1,10 @@
 -- Sessions by number, in a list whose numbers rise.
-use Rattle.std.proofs.Common.{◌≡◌, ℕ, ◌+◌, ◌<◌, ◌≤◌, nat_eq, Bool, true, false, cond, List, [], ◌∷◌, ◌++◌, Some, None, arith, refl, sym, ap, ◌∙◌}
+use Rattle.std.proofs.Common.{◌≡◌, ℕ, ◌+◌, ◌<◌, ◌≤◌, nat_eq, Bool, true, false, cond, List, [], ◌∷◌, ◌++◌, Option, Some, None, arith, refl, sym, ap, ◌∙◌}
 use Rattle.std.proofs.lemmas.Bool.{eqb-true, ne_eqb}
 use Rattle.std.proofs.lemmas.Option.{same_Some}
 use Rattle.std.specs.Map.{lookup, remove_entry, set_value}
-use Rattle.session_table.specs.Sessions.{SessionRecord}
+use Rattle.std.specs.Option.{option_map}
+use Rattle.session_table.specs.Sessions.{OwnRecord, SessionRecord, own_of, with_own}
 use Rattle.session_table.specs.Tables.{Rises, TableRecord, changed, changed_in, session_of, with_session}
 
 -- no session of a lower number is there
@@ -31,18 +32,6 @@ changed_is_set s last made f (e ∷ more) old rises at =
         let rest = changed_past s e.0 made f more rises.1 (omega (arith, number)) in
         ap (λ x. (e.0, f x) ∷ changed_in s f more) (same_Some e.1 old at) ∙ ap (λ r. (e.0, f old) ∷ r) rest
     by false test at later = ap (λ r. e ∷ r) (later at)
-
-pub set_is_changed : (s last made : ℕ) (w : SessionRecord) (es : List (ℕ × SessionRecord)) → Rises last es made
-    → set_value (nat_eq s) es w ≡ changed_in s (λ _. w) es
-set_is_changed s last made w [] rises = refl
-set_is_changed s last made w (e ∷ more) rises = by (nat_eq s e.0) refl (set_is_changed s e.0 made w more rises.1)
-  where
-    by : (b : Bool) → nat_eq s e.0 ≡ b → set_value (nat_eq s) more w ≡ changed_in s (λ _. w) more
-        → cond b ((e.0, w) ∷ more) (e ∷ set_value (nat_eq s) more w) ≡ (e.0, cond b w e.1) ∷ changed_in s (λ _. w) more
-    by true test later =
-        let number : s ≡ e.0 = eqb-true s e.0 test in
-        ap (λ r. (e.0, w) ∷ r) (sym (changed_past s e.0 made (λ _. w) more rises.1 (omega (arith, number))))
-    by false test later = ap (λ r. e ∷ r) later
 
 pub changed_absent : (s : ℕ) (f : SessionRecord → SessionRecord) (es : List (ℕ × SessionRecord))
     → lookup (nat_eq s) es ≡ None → changed_in s f es ≡ es
@@ -92,7 +81,7 @@ number_is_new last made n (e ∷ more) rises new =
     below_made last made [] rises = rises
     below_made last made (e ∷ more) rises = omega (arith, rises.0, below_made e.0 made more rises.1)
 
--- for callers of `session_mut`: what is written is a change of the session
+-- what is written of a session is a change of it
 changed_alike : (s last made : ℕ) (f g : SessionRecord → SessionRecord) (es : List (ℕ × SessionRecord)) (x : SessionRecord)
     → Rises last es made → lookup (nat_eq s) es ≡ Some x → f x ≡ g x → changed_in s f es ≡ changed_in s g es
 changed_alike s last made f g es x rises at alike =
@@ -104,3 +93,36 @@ pub with_session_changed : (s : ℕ) (f : SessionRecord → SessionRecord) (t : 
 with_session_changed s f t x rises at =
     ap (λ (es : List (ℕ × SessionRecord)). record t { sessions = es })
     (changed_alike s 0 t.made (λ _. f x) f t.sessions x rises at refl)
+
+-- for callers of `own_mut`: the session of which its owner's part was lent, and what the table is once that comes back
+pub record Owned (s : ℕ) (t : TableRecord) (own : OwnRecord) : Type 0 where
+  pub whole : SessionRecord
+  pub there : session_of s t ≡ Some whole
+  pub lent : own ≡ own_of whole
+  pub ends : (w : OwnRecord) → with_session s t (with_own w whole) ≡ changed s (with_own w) t
+
+pub owned : (s : ℕ) (t : TableRecord) (own : OwnRecord) → Rises 0 t.sessions t.made
+    → Some own ≡ option_map own_of (session_of s t) → Owned s t own
+owned s t own rises lent = by (session_of s t) refl lent
+  where
+    by : (o : Option SessionRecord) → session_of s t ≡ o → Some own ≡ option_map own_of o → Owned s t own
+    by None none lent = cc
+    by (Some x) there lent = record {
+      whole = x;
+      there = there;
+      lent = same_Some own (own_of x) lent;
+      ends = λ w. with_session_changed s (with_own w) t x rises there;
+    }
+
+-- what was written, as it was written of the owner's part
+pub written : (x : SessionRecord) (own w : OwnRecord) (f : OwnRecord → OwnRecord) → own ≡ own_of x → w ≡ f own
+    → with_own w x ≡ with_own (f (own_of x)) x
+written x own w f lent wrote = ap (λ (o : OwnRecord). with_own o x) (wrote ∙ ap f lent)
+
+-- where nothing was lent, the session isn't there
+pub not_owned : (s : ℕ) (t : TableRecord) → None ≡ option_map own_of (session_of s t) → session_of s t ≡ None
+not_owned s t lent = by (session_of s t) refl lent
+  where
+    by : (o : Option SessionRecord) → session_of s t ≡ o → None ≡ option_map own_of o → session_of s t ≡ None
+    by None none lent = none
+    by (Some x) there lent = cc

@@ -3,7 +3,6 @@ use Rattle.std.specs.Prelude.{◌≡◌, ℕ, min, nat_eq, List, [], ◌∷◌, 
 use Rattle.std.specs.Map.{lookup}
 use Rattle.session_table.specs.declared.life.Life.{Life}
 use Rattle.session_table.specs.declared.life.Life.TheVariants.{Live, Over}
-use Rattle.session_table.specs.declared.index.Known.{Known}
 use Rattle.session_table.specs.Hashes.{address_hash}
 use Rattle.session_table.specs.Sessions.{SessionRecord}
 
@@ -12,18 +11,18 @@ abbrev pub wake_of : Life → Option ℕ → Option ℕ
 wake_of Live deadline = deadline
 wake_of (Over cause) deadline = Some 0
 
--- the hash of a session's address, and the moment from which it is due
+-- what the index goes by: the hash of a session's address, and the moment from which it is due
+pub record Known : Type 0 where
+  pub number : ℕ
+  pub hash : ℕ
+  pub wake : Option ℕ
+
 abbrev pub known_of : ℕ → SessionRecord → Known
 known_of number s = record { number = number; hash = address_hash s.address; wake = wake_of s.state s.deadline }
 
--- of a session that was lent the table knows what it was
-abbrev pub known_as : Option Known → ℕ → SessionRecord → Known
-known_as None number s = known_of number s
-known_as (Some k) number s = if nat_eq k.number number then k else known_of number s
-
-abbrev pub known : Option Known → List (ℕ × SessionRecord) → List Known
-known lent [] = []
-known lent (e ∷ more) = known_as lent e.0 e.1 ∷ known lent more
+abbrev pub known : List (ℕ × SessionRecord) → List Known
+known [] = []
+known (e ∷ more) = known_of e.0 e.1 ∷ known more
 
 -- the first session of a hash
 abbrev pub first_with : ℕ → List Known → Option ℕ

@@ -26,6 +26,55 @@ pub record SessionRecord : Type 0 where
   pub wants_roster : Bool
   pub pushes : ℕ
 
+-- what a session's owner sees to; the table sees to the rest
+pub record OwnRecord : Type 0 where
+  pub queue : Queue
+  pub given_up : ℕ
+  pub asked_at : ℕ
+  pub counts : Bool
+  pub resume_id : Option ResumeId
+  pub acted : ℕ
+  pub base_in : ℕ
+  pub presence : Option (List ℕ)
+  pub priority : ℤ
+  pub directed : List Address
+  pub wants_roster : Bool
+  pub pushes : ℕ
+
+-- what the owner of a session has of it
+abbrev pub own_of : SessionRecord → OwnRecord
+own_of s = record {
+  queue = s.queue;
+  given_up = s.given_up;
+  asked_at = s.asked_at;
+  counts = s.counts;
+  resume_id = s.resume_id;
+  acted = s.acted;
+  base_in = s.base_in;
+  presence = s.presence;
+  priority = s.priority;
+  directed = s.directed;
+  wants_roster = s.wants_roster;
+  pushes = s.pushes;
+}
+
+-- the session of which its owner has this; what the table sees to stays as it is
+abbrev pub with_own : OwnRecord → SessionRecord → SessionRecord
+with_own own s = record s {
+  queue = own.queue;
+  given_up = own.given_up;
+  asked_at = own.asked_at;
+  counts = own.counts;
+  resume_id = own.resume_id;
+  acted = own.acted;
+  base_in = own.base_in;
+  presence = own.presence;
+  priority = own.priority;
+  directed = own.directed;
+  wants_roster = own.wants_roster;
+  pushes = own.pushes;
+}
+
 -- a session that a line has just bound
 abbrev pub begun : (number : ℕ) → Address → (w : ℕ) → SessionRecord
 begun number address w = record {

@@ -14,5 +14,5 @@ mod table;
 
 pub use life::Life;
 pub use line::Line;
-pub use session::Session;
+pub use session::{Own, Session};
 pub use table::Table;

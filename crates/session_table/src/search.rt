@@ -9,7 +9,7 @@ ghost use Rattle.session_table.specs.Changes.{change_of};
 ghost use Rattle.session_table.specs.Indexes.{earlier, earliest, first_with, known};
 ghost use Rattle.session_table.specs.Tables.{Rises, changed_in, first_due, number_at};
 
-use crate::session::{Change, Session, hash_of};
+use crate::session::{Change, Session};
 use indexmap::IndexMap;
 use jid_core::Jid;
 
@@ -42,10 +42,10 @@ pub(crate) fn find_due(sessions: &Sessions, now: u64) -> Option<u64>
 
 /// The first session whose address has this hash.
 pub(crate) fn find_hash(sessions: &Sessions, hash: u64) -> Option<u64>
-    ensures { result ≡ first_with hash (known None sessions.now.entries) }
+    ensures { result ≡ first_with hash (known sessions.now.entries) }
 {
     for (number, session) in sessions.iter() {
-        if session.known(*number).hash == hash {
+        if session.hash() == hash {
             return Some(*number);
         }
     }
@@ -65,11 +65,11 @@ fn sooner(one: Option<u64>, other: Option<u64>) -> Option<u64>
 
 /// The moment from which the first of the sessions is due.
 pub(crate) fn find_alarm(sessions: &Sessions) -> Option<u64>
-    ensures { result ≡ earliest (known None sessions.now.entries) }
+    ensures { result ≡ earliest (known sessions.now.entries) }
 {
     let mut alarm = None;
-    for (number, session) in sessions.iter() {
-        alarm = sooner(alarm, session.known(*number).wake);
+    for (_number, session) in sessions.iter() {
+        alarm = sooner(alarm, session.wake());
     }
     alarm
 }
@@ -105,5 +105,5 @@ pub(crate) fn take_out(sessions: &mut Sessions, s: u64) -> Option<u64>
     ensures room { spare sessions.old ≤ spare sessions.new }
 {
     let session = sessions.shift_remove(&s)?;
-    Some(hash_of(session.address()))
+    Some(session.hash())
 }

@@ -1,11 +1,11 @@
 //! A session, as the table keeps it.
 
-ghost use Rattle.std.specs.Prelude.{◌≡◌, ◌||◌, ◌==◌, Some, is_some, unwrap_or, nat_eq, []};
+ghost use Rattle.std.specs.Prelude.{◌≡◌, ℕ, ◌||◌, ◌==◌, Some, is_some, unwrap_or, nat_eq, []};
 ghost use Rattle.std.specs.Hash.DefaultHasher as sip;
-ghost use Rattle.jid_core.specs.Addresses.{same_address};
+ghost use Rattle.std.specs.Borrow.{sem};
+ghost use Rattle.jid_core.specs.Addresses.{Address, same_address};
 ghost use Rattle.session_table.specs.Hashes.{address_hash};
 
-use crate::index::Known;
 use crate::life::Life;
 use jid_core::{Jid, Part};
 use sm_queue::SmQueue;
@@ -15,17 +15,9 @@ use std::alloc::Global;
 use std::hash::{DefaultHasher, Hasher};
 use std::marker::Model;
 
-/// A session, which a binding makes (RFC 6120, 7). The table sees to its number, address, holder, state
-/// and deadline; the rest is its owner's.
+/// What a session's owner sees to.
 #[derive(Drop)]
-pub struct Session {
-    number: u64,
-    address: Jid,
-    // The address's hash.
-    hash: u64,
-    holder: Option<u32>,
-    state: Life,
-    deadline: Option<u64>,
+pub struct Own {
     /// The stanzas that wait for its client.
     pub queue: SmQueue,
     /// The place of the queue's first stanza in the list of all stanzas of the session.
@@ -52,6 +44,66 @@ pub struct Session {
     pub pushes: u64,
 }
 
+impl Model for Own {
+    ghost use Rattle.session_table.specs.Sessions.{OwnRecord};
+
+    ghost Value = { OwnRecord };
+
+    ghost view = { λ o. record {
+      queue = o.queue;
+      given_up = o.given_up;
+      asked_at = o.asked_at;
+      counts = o.counts;
+      resume_id = o.resume_id;
+      acted = o.acted;
+      base_in = o.base_in;
+      presence = o.presence;
+      priority = o.priority;
+      directed = o.directed;
+      wants_roster = o.wants_roster;
+      pushes = o.pushes;
+    } };
+}
+
+impl Own {
+    ghost use Rattle.session_table.specs.Sessions.{begun, own_of};
+
+    // What a session's owner has when it begins.
+    fn begin(alloc: Global) -> Own
+        ensures { (number w : ℕ) (address : Address) → result ≡ own_of (begun number address w) }
+    {
+        Own {
+            queue: SmQueue::new(alloc),
+            given_up: 0,
+            asked_at: 0,
+            counts: false,
+            resume_id: None,
+            acted: 0,
+            base_in: 0,
+            presence: None,
+            priority: 0,
+            directed: Several::of(Vec::new(alloc)),
+            wants_roster: false,
+            pushes: 0,
+        }
+    }
+}
+
+/// A session, which a binding makes (RFC 6120, 7). The table sees to its number, address, holder, state
+/// and deadline; the rest is its owner's.
+#[derive(Drop)]
+pub struct Session {
+    number: u64,
+    address: Jid,
+    // The address's hash.
+    hash: u64,
+    holder: Option<u32>,
+    state: Life,
+    deadline: Option<u64>,
+    /// What its owner sees to.
+    pub own: Own,
+}
+
 impl Model for Session {
     ghost use Rattle.std.specs.Prelude.{◌≡◌};
     ghost use Rattle.session_table.specs.Hashes.{address_hash};
@@ -65,18 +117,18 @@ impl Model for Session {
       holder = s.holder;
       state = s.state;
       deadline = s.deadline;
-      queue = s.queue;
-      given_up = s.given_up;
-      asked_at = s.asked_at;
-      counts = s.counts;
-      resume_id = s.resume_id;
-      acted = s.acted;
-      base_in = s.base_in;
-      presence = s.presence;
-      priority = s.priority;
-      directed = s.directed;
-      wants_roster = s.wants_roster;
-      pushes = s.pushes;
+      queue = s.own.queue;
+      given_up = s.own.given_up;
+      asked_at = s.own.asked_at;
+      counts = s.own.counts;
+      resume_id = s.own.resume_id;
+      acted = s.own.acted;
+      base_in = s.own.base_in;
+      presence = s.own.presence;
+      priority = s.own.priority;
+      directed = s.own.directed;
+      wants_roster = s.own.wants_roster;
+      pushes = s.own.pushes;
     } };
 
     ghost invariant = { λ s. s.hash ≡ address_hash s.address };
@@ -119,8 +171,9 @@ pub(crate) fn hash_of(address: &Jid) -> u64
 
 impl Session {
     ghost use Rattle.session_table.specs.Changes.{change_of};
-    ghost use Rattle.session_table.specs.Sessions.{begun, is_due};
-    ghost use Rattle.session_table.specs.Indexes.{known_of};
+    ghost use Rattle.session_table.specs.Indexes.{wake_of};
+    ghost use Rattle.session_table.specs.Lending.{LendsItsOwn};
+    ghost use Rattle.session_table.specs.Sessions.{begun, is_due, own_of};
 
     /// The session of this number that line w has bound.
     pub(crate) fn begin(alloc: Global, number: u64, address: Jid, w: u32) -> Session
@@ -133,18 +186,7 @@ impl Session {
             holder: Some(w),
             state: Life::Live,
             deadline: None,
-            queue: SmQueue::new(alloc),
-            given_up: 0,
-            asked_at: 0,
-            counts: false,
-            resume_id: None,
-            acted: 0,
-            base_in: 0,
-            presence: None,
-            priority: 0,
-            directed: Several::of(Vec::new(alloc)),
-            wants_roster: false,
-            pushes: 0,
+            own: Own::begin(alloc),
         }
     }
 
@@ -198,19 +240,29 @@ impl Session {
         }
     }
 
-    /// What the table knows of it under this number.
-    pub(crate) fn known(&self, number: u64) -> Known
-        ensures { result ≡ known_of number self.now }
+    /// The hash of its address.
+    pub(crate) fn hash(&self) -> u64
+        ensures { result ≡ address_hash self.now.address }
     {
-        let wake = match self.state {
+        self.hash
+    }
+
+    /// The moment from which it is due.
+    pub(crate) fn wake(&self) -> Option<u64>
+        ensures { result ≡ wake_of self.now.state self.now.deadline }
+    {
+        match self.state {
             Life::Live => self.deadline,
             Life::Over(_) => Some(0),
-        };
-        Known {
-            number,
-            hash: self.hash,
-            wake,
         }
+    }
+
+    /// What its owner sees to, to be changed.
+    pub(crate) fn own_mut(&mut self) -> &mut Own
+        ensures* lends { sem 𝓛 (LendsItsOwn self.entry result) }
+        ensures there { result.now ≡ own_of self.old }
+    {
+        &mut self.own
     }
 
     pub(crate) fn change(&mut self, change: Change)

@@ -2,12 +2,12 @@
 
 ghost use Rattle.std.specs.Prelude.{◌≡◌, ◌<◌, ◌≤◌, ◌+◌, ◌-◌, ◌^◌, length, min, true, false, IfOk, IsOk, OnOk};
 ghost use Rattle.std.specs.Borrow.{sem};
-ghost use Rattle.std.specs.Option.{option_copied, option_copied_mut};
+ghost use Rattle.std.specs.Option.{option_copied, option_copied_mut, option_map};
 
 use crate::index::Index;
 use crate::line::Line;
 use crate::search::{Sessions, add, change, take_out};
-use crate::session::{Change, Session, hash_of};
+use crate::session::{Change, Own, Session, hash_of};
 use indexmap::IndexMap;
 use indexmap::map::Iter;
 use jid_core::Jid;
@@ -48,8 +48,8 @@ impl Model for Table {
 
 impl Table {
     ghost use Rattle.session_table.specs.Changes.{change_of};
-    ghost use Rattle.session_table.specs.Lending.{LendsSession};
-    ghost use Rattle.session_table.specs.Sessions.{ended, held_by, is_due, left_until};
+    ghost use Rattle.session_table.specs.Lending.{LendsOwn};
+    ghost use Rattle.session_table.specs.Sessions.{ended, held_by, is_due, left_until, own_of};
     ghost use Rattle.session_table.specs.Tables.{IsFirst, IsLive, Rises, attached, bound, changed, first_due, holds, is_empty};
     ghost use Rattle.session_table.specs.Tables.{is_fresh, is_logged, is_there, line_ended, line_of, logged_in, new_table};
     ghost use Rattle.session_table.specs.Tables.{number_at, session_of, with_conn, with_line, without};
@@ -116,7 +116,6 @@ impl Table {
         ensures table { self.new ≡ record (bound w address self.old) { spare = self.new.spare } }
         ensures keeps_room { self.old.spare ≤ self.new.spare + 1 }
     {
-        self.index.settle(&self.sessions);
         self.made += 1;
         let alloc = *self.lines.allocator();
         self.index.add(self.made, hash_of(&address));
@@ -179,7 +178,6 @@ impl Table {
         ensures table { self.new ≡ record (without s self.old) { spare = self.new.spare } }
         ensures keeps_room { self.old.spare ≤ self.new.spare }
     {
-        self.index.settle(&self.sessions);
         if let Some(hash) = take_out(&mut self.sessions, s) {
             self.index.forget(&self.sessions, hash);
         }
@@ -224,14 +222,14 @@ impl Table {
         self.sessions.get(&s)
     }
 
-    /// The session of this number, to be changed, if it is there.
-    pub fn session_mut(&mut self, s: u64) -> Option<&mut Session>
-        ensures* lends { sem 𝓛 (LendsSession self.entry s result) }
-        ensures there { option_copied_mut result ≡ session_of s self.old }
+    /// What the owner of the session of this number sees to, to be changed, if the session is there.
+    pub fn own_mut(&mut self, s: u64) -> Option<&mut Own>
+        ensures* lends { sem 𝓛 (LendsOwn self.entry s result) }
+        ensures there { option_copied_mut result ≡ option_map own_of (session_of s self.old) }
         ensures rises { Rises 0 self.old.sessions self.old.made }
     {
-        self.index.lend(&self.sessions, s);
-        self.sessions.get_mut(&s)
+        let session = self.sessions.get_mut(&s)?;
+        Some(session.own_mut())
     }
 
     /// The sessions that are there with their numbers, in the order of these.
@@ -262,7 +260,6 @@ impl Table {
     fn change(&mut self, s: u64, to: Change)
         ensures { self.new ≡ changed s (change_of to) self.old }
     {
-        self.index.settle(&self.sessions);
         change(&mut self.sessions, s, to);
         self.index.look_ahead(&self.sessions);
     }

@@ -1,7 +1,8 @@
-use Rattle.std.proofs.Common.{◌≡◌, [], ◌∷◌, length, sym, ap, subst, ◌∙◌, arith}
+use Rattle.std.proofs.Common.{◌≡◌, ◌≤◌, [], ◌∷◌, length, sym, ap, subst, ◌∙◌, arith}
 use Rattle.std.specs.Option.{option_copied}
 use Rattle.std.proofs.lemmas.List.{length-set}
 use Rattle.session_table.specs.declared.line.Line.TheVariants.{Bound}
+use Rattle.session_table.specs.Sessions.{SessionRecord}
 use Rattle.session_table.specs.Tables.{IsLive, TableRecord, attached, conn_of, line_of}
 use Rattle.house_model.specs.Effects.{On}
 use Rattle.house_model.specs.Sessions.{Resume}
@@ -11,6 +12,7 @@ use Rattle.house_world.proofs.world.World.resume.Goals as goal
 
 pub inward-count-requires : goal.inward-count-requires
 inward-count-requires c =
+    subst (λ (y : SessionRecord). y.base_in ≤ y.acted) (sym c.session-2.view_is)
     (c.requires.tied.each c.args.s c.in-Some.session.now (sym c.session.ensures.session ∙ ap option_copied c.in-Some.is)).base_in
 
 pub attach-requires-clause-live : goal.attach-requires-clause-live

@@ -10,7 +10,7 @@ returns-in_default c =
     let a = c.args.address.now in
     let at = λ (hash : ℕ). lookup (nat_eq hash) self.places.entries in
     let none = sym (ap at c.hash_of.ensures) ∙ (sym c.get.ensures.value ∙ ap option_copied c.in_default.is) in
-    sym (found_none self.places.entries self.alarm c.args.sessions.now.entries (c.is_lost.ensures c.if-is_lost.false) a none)
+    sym (found_none self.places.entries self.alarm c.args.sessions.now.entries c.requires.serves a none)
 
 pub returns-then-is_at : goal.returns-then-is_at
 returns-then-is_at c =
@@ -21,5 +21,5 @@ returns-then-is_at c =
     let first = sym (ap at c.hash_of.ensures) ∙ (sym c.get.ensures.value ∙ ap option_copied c.in-Some.is) in
     let there = sym c.get-2.ensures.value ∙ ap option_copied c.in-Some-get.is in
     let same = sym c.is_at.ensures ∙ c.if-is_at.true in
-    sym (found_first self.places.entries self.alarm c.args.sessions.now.entries (c.is_lost.ensures c.if-is_lost.false) a c.in-Some.first.now rises.0
+    sym (found_first self.places.entries self.alarm c.args.sessions.now.entries c.requires.serves a c.in-Some.first.now rises.0
     c.in-Some-get.session.now rises.1 first there same)

@@ -21,9 +21,9 @@ invariant_of-self c =
     ∙ ap (λ (hash : ℕ). record { number = number; hash = hash; wake = None }) (sym c.hash_of.ensures) in
     let entries = sym c.add-2.ensures.entries in record {
       rises = subst (λ (l : List (ℕ × SessionRecord)). Rises 0 l number) entries (rises_added 0 inside.made es s c.self.invariant.rises);
-      serves = subst (Serves c.add.new.self) entries (c.add.ensures.serves es s c.settle.ensures.serves is);
+      serves = subst (Serves c.add.new.self) entries (c.add.ensures.serves es s c.self.invariant.serves is);
     }
 
 pub returns-clause-keeps_room : goal.returns-clause-keeps_room
 returns-clause-keeps_room c =
-    omega (arith, ap (λ t. t.spare) c.self.view_is, c.settle.ensures.room, c.add.ensures.room, c.add-2.ensures.room)
+    omega (arith, ap (λ t. t.spare) c.self.view_is, c.add.ensures.room, c.add-2.ensures.room)

@@ -13,7 +13,7 @@ invariant_of-self c =
     let f = change_of c.args.to in record {
       rises = subst (λ (l : List (ℕ × SessionRecord)). Rises 0 l inside.made) (sym c.change.ensures.entries)
           (rises_changed c.args.s 0 inside.made f es c.self.invariant.rises);
-      serves = serves_changed c.settle.new.self c.look_ahead.new.self c.args.s f es c.change.new.sessions.entries
-          (address_stays c.args.to) c.settle.ensures.home c.settle.ensures.serves c.change.ensures.entries
+      serves = serves_changed c.self.inside.index c.look_ahead.new.self c.args.s f es c.change.new.sessions.entries
+          (address_stays c.args.to) c.self.invariant.serves c.change.ensures.entries
           c.look_ahead.ensures.alarm c.look_ahead.ensures.same;
     }

@@ -11,7 +11,7 @@ invariant_of-self c =
     let es = inside.sessions.entries in record {
       rises = subst (λ (l : List (ℕ × SessionRecord)). Rises 0 l inside.made) (sym c.take_out.ensures.entries)
           (rises_removed c.args.s 0 inside.made es c.self.invariant.rises);
-      serves = serves_without c.settle.new.self c.forget.new.self es c.take_out.new.sessions.entries c.args.s c.in-Some.hash
-          c.settle.ensures.serves (sym c.in-Some.is ∙ c.take_out.ensures.hash) c.take_out.ensures.entries
+      serves = serves_without c.self.inside.index c.forget.new.self es c.take_out.new.sessions.entries c.args.s c.in-Some.hash
+          c.self.invariant.serves (sym c.in-Some.is ∙ c.take_out.ensures.hash) c.take_out.ensures.entries
           c.forget.ensures.serves;
     }
