@@ -5,12 +5,15 @@ ghost use Rattle.stanza_tree.specs.Spelling.{text};
 ghost use Rattle.stanza_model.specs.Errors.{plain_attr, element_of};
 ghost use Rattle.stanza_model.specs.Replies.{one_child};
 
-use jid_core::Jid;
+use jid_core::{Jid, Part};
 use stanza_tree::{Attr, Element, Name, NoMemory, Node, Several, Text, write};
 use std::alloc::Global;
 
 /// The namespace of stanzas (RFC 6120, 4.8.2).
 pub(crate) const CLIENT_SPACE: &str = "jabber:client";
+
+/// In bytes, what nearly every element that the server itself says takes at most: room that is asked for at once, and given back where it isn't used.
+const USUAL_LENGTH: usize = 512;
 
 /// A text of these bytes.
 pub fn text_of(alloc: Global, text: &str) -> Result<Text, NoMemory>
@@ -19,11 +22,22 @@ pub fn text_of(alloc: Global, text: &str) -> Result<Text, NoMemory>
     Ok(Text::of_string(String::from_str(alloc, text)?))
 }
 
+/// How many bytes an optional part takes, with its mark.
+fn room_of(part: Option<&Part>) -> usize {
+    match part {
+        Some(part) => part.bytes().len().saturating_add(1),
+        None => 0,
+    }
+}
+
 /// The text of an address.
 pub fn written(alloc: Global, address: &Jid) -> Result<Text, NoMemory>
     ensures { IfOk result (λ t. t ≡ address_text address.now) }
 {
-    let mut bytes = Vec::new(alloc);
+    let room = room_of(address.local.as_ref())
+        .saturating_add(address.domain.bytes().len())
+        .saturating_add(room_of(address.resource.as_ref()));
+    let mut bytes = Vec::with_capacity(alloc, room)?;
     address.write(&mut bytes)?;
     Ok(Text::of_vec(bytes))
 }
@@ -32,8 +46,9 @@ pub fn written(alloc: Global, address: &Jid) -> Result<Text, NoMemory>
 pub fn spelt(alloc: Global, element: &Element) -> Result<Text, NoMemory>
     ensures { IfOk result (λ t. t ≡ text element.now) }
 {
-    let mut bytes = Vec::new(alloc);
+    let mut bytes = Vec::with_capacity(alloc, USUAL_LENGTH)?;
     write(element, &mut bytes)?;
+    bytes.shrink_to_fit();
     Ok(Text::of_vec(bytes))
 }
 

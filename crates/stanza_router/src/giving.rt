@@ -15,6 +15,9 @@ use stanza_model::{
 use stanza_tree::{Element, Entry, NoMemory, Origin, Text, frame_length, push_frame};
 use std::alloc::Global;
 
+/// How many rows a message between two users becomes: one for each.
+const MOST_ROWS: usize = 2;
+
 /// The text of a message's address, or of the sender's bare one.
 pub(crate) fn address_of(alloc: Global, who: &Here, to: Option<&Jid>) -> Result<Text, NoMemory>
     ensures { IfOk result (λ t. t ≡ address_text (addressed who.now (option_copied to.entry))) }
@@ -254,7 +257,7 @@ fn copies(
 ) -> Result<Vec<Effect>, NoMemory>
     ensures { IfOk result (λ effects. effects.items ≡ map (queued_as who.now (option_copied to.entry) rest) sessions.now) }
 {
-    let mut effects = Vec::new(alloc);
+    let mut effects = Vec::with_capacity(alloc, sessions.len().saturating_add(MOST_ROWS))?;
     let Some((last, others)) = sessions.split_last() else {
         return Ok(effects);
     };

@@ -17,6 +17,9 @@ use crate::spell::{
 use crate::text::{NoMemory, Text};
 use std::alloc::Global;
 
+/// In bytes, what nearly every stanza takes at most: room that is asked for at once, and given back where it isn't used.
+const USUAL_LENGTH: usize = 512;
+
 /// Whether an attribute is the one of that name in no namespace.
 fn is_plain(attr: &Attr, local: &[u8]) -> bool
     ensures { result ≡ is_named local.now attr.now }
@@ -120,8 +123,9 @@ pub fn sent_text(alloc: Global, element: &Element, from: &[u8]) -> Result<Text, 
     requires { IsUtf8 from.now }
     ensures { IfOk result (λ t. t ≡ text (sent_by from.now element.now)) }
 {
-    let mut bytes = Vec::new(alloc);
+    let mut bytes = Vec::with_capacity(alloc, USUAL_LENGTH)?;
     write_sent(element, from, &mut bytes)?;
+    bytes.shrink_to_fit();
     Ok(Text::of_vec(bytes))
 }
 

@@ -131,7 +131,7 @@ impl Text {
         requires { IsUtf8 bytes.items }
         ensures { result ≡ bytes.items }
     {
-        Text::of_string(String::from_utf8(bytes).unwrap())
+        Text::of_string(unsafe { String::from_utf8_unchecked(bytes) })
     }
 
     /// The string as a text. Takes no memory.
