@@ -1,3 +1,4 @@
+pub mod AvailableLemmas
 pub mod KeptLemmas
 pub mod ListedLemmas
 pub mod OnceLemmas

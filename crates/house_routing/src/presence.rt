@@ -1,7 +1,8 @@
 //! Presence (RFC 6121, 4; XEP-0045, 7): whom it reaches, and what comes of it.
 ghost use Rattle.std.specs.Prelude.{◌≡◌, ◌∷◌, ◌+◌, ◌-◌, ◌^◌, ℕ, [], IfOk, Some, min, nat_lt};
 ghost use Rattle.std.specs.Option.{option_copied};
-ghost use Rattle.house_model.specs.Presences.{length_sent, most_of_presence, named};
+ghost use Rattle.house_model.specs.Presences.{asking, length_sent, most_of_presence, named, shown, watchers};
+ghost use Rattle.presence_core.specs.Broadcasts.{available};
 ghost use Rattle.house_model.specs.Routing.{broadcast, directed_to, error_to, live_for, presence, presence_to, to_address, to_user};
 ghost use Rattle.house_world.specs.Hosting.{AreHosted};
 ghost use Rattle.house_world.specs.Wholes.{IsTied};
@@ -55,6 +56,35 @@ fn is_too_long(
     Ok(length_sent(alloc, who, to, element)? > MOST_OF_PRESENCE)
 }
 
+/// What comes of available presence without an address. A session that is available already is shown nothing, so no list of that is made.
+#[tactic(auto, using(crate::proofs::AvailableLemmas::no_newcomer))]
+fn announced(
+    world: &World,
+    alloc: Global,
+    own: &Part,
+    who: &Here,
+    stanza: &Stanza,
+) -> Result<Vec<Effect>, NoMemory>
+    requires tied { IsTied world.now.table }
+    ensures { IfOk result (λ effects. effects.items ≡ available who.now stanza.now (watchers (seen world.now) own.now who.now)
+        (shown (seen world.now) own.now who.now) (asking world.now.book.domain (seen world.now) own.now)) }
+{
+    let watchers = watchers(world, alloc, own, who)?;
+    if who.available {
+        return available(alloc, who, stanza, watchers.as_slice(), &[], &[]);
+    }
+    let shown = shown(world, alloc, own, who)?;
+    let asking = world.book.asking(alloc, own)?;
+    available(
+        alloc,
+        who,
+        stanza,
+        watchers.as_slice(),
+        shown.as_slice(),
+        asking.as_slice(),
+    )
+}
+
 /// What comes of presence without an address.
 fn broadcast(
     world: &World,
@@ -72,19 +102,7 @@ fn broadcast(
         ≡ broadcast (record { domain = domain.now; users = users.now; world = seen world.now; moment = moment }) own.now who.now stanza.now form) }
 {
     match form {
-        PresenceForm::Available => {
-            let watchers = watchers(world, alloc, own, who)?;
-            let shown = shown(world, alloc, own, who)?;
-            let asking = world.book.asking(alloc, own)?;
-            available(
-                alloc,
-                who,
-                stanza,
-                watchers.as_slice(),
-                shown.as_slice(),
-                asking.as_slice(),
-            )
-        }
+        PresenceForm::Available => announced(world, alloc, own, who, stanza),
         PresenceForm::Unavailable => {
             let watchers = watchers(world, alloc, own, who)?;
             let named = named(world, alloc, directed_by(world, who))?;
