@@ -23,8 +23,8 @@ use std::sync::Wait;
 use std::thread;
 use std::thread::Threads;
 
-/// So few turns are over sooner than a thread sleeps and is woken.
-const FEW_TURNS: u32 = 2;
+/// So few turns are over sooner than a thread sleeps and is woken, also where threads are more than processors.
+const FEW_TURNS: u32 = 1;
 
 /// Each worker serves the links of its poller, in a thread of its own.
 fn tend_all<R: Threads + Wait + Sync, P: Poller + Send, C: Clock + Send, I: Dice + Send>(
