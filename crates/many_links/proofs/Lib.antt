@@ -1,5 +1,6 @@
 mod Placing
 mod Polling
+mod Ringing
 mod Starting
 mod Summing
 mod Visiting

@@ -15,7 +15,7 @@ use Rattle.many_links.specs.Visits.{AllFree, AllHeld, AllServed, AllStand, FreeB
 use Rattle.many_links.specs.Visits.{at, is_taken, nowhere, shift_at}
 
 -- a fact of each place, where one of them is changed
-by_place : (P : ℕ → Spot → Type 0) (spots : List Spot) (n : ℕ) (s : Spot) (k : ℕ) → k < length spots
+pub by_place : (P : ℕ → Spot → Type 0) (spots : List Spot) (n : ℕ) (s : Spot) (k : ℕ) → k < length spots
     → P n s → (k ≢ n → P k (at spots k)) → P k (at (set spots n s) k)
 by_place P spots n s k less here else_where =
     elim (eqb_tells k n) [
@@ -27,7 +27,7 @@ by_place P spots n s k less here else_where =
     ]
 
 -- a place by its number, over what f tells of it
-at_place : {X : Type 0} (f : X → Spot) (items : List X) (n : ℕ) (p : X) → n < length items → p ≡ get_or items n p → at (map f items) n ≡ f p
+pub at_place : {X : Type 0} (f : X → Spot) (items : List X) (n : ℕ) (p : X) → n < length items → p ≡ get_or items n p → at (map f items) n ≡ f p
 at_place f items n p less value = get_or-map f items n p nowhere less ∙ ap f (sym value)
 
 -- the others are as they were

@@ -1,6 +1,6 @@
 //! How a connection begins and goes on, at whatever place.
 
-ghost use Rattle.std.specs.Prelude.{◌≡◌, [], ℕ, List, Bool, Option, IfOk};
+ghost use Rattle.std.specs.Prelude.{◌≡◌, [], ℕ, List, Bool, Option, IfOk, is_none};
 ghost use Rattle.account_book.specs.Lists.{Book};
 ghost use Rattle.outside.specs.Tapes.{Mark};
 ghost use Rattle.turn_lock.specs.Histories.{StartsWith};
@@ -12,6 +12,7 @@ ghost use Rattle.flow_laws.specs.Standing.{Place, duty};
 ghost use Rattle.conn_serve.specs.Connections.{site_of};
 ghost use Rattle.conn_serve.specs.Serving.{Concluded, IsAt, IsOpened, IsStanding, Tale, marked_end, tale};
 ghost use Rattle.many_links.specs.Beginning.{Began, EndsWanting, GoesOrEnds, Named, marked_round, marked_start};
+ghost use Rattle.many_links.specs.Ringing.{OneRound};
 
 use account_book::Accounts;
 use conn_asks::Ended;
@@ -114,6 +115,7 @@ pub(crate) fn go_on<W: Wait, D: Desk, L: Link, C: Clock, I: Dice>(
     ensures history { StartsWith (D.seen pass.new) (D.seen pass.old) }
     ensures said { said.new ≡ [] }
     ensures mark { D.marked pass.new ≡ marked_round result (D.marked pass.old) }
+    ensures round { OneRound (C.told clock.old) (C.told clock.new) (is_none result) }
     ensures went { (o : Site) (p : Place) → o.line ≡ D.line pass.old → o.accounts ≡ accounts.now
         → IsAt o p conn.old.flow conn.old.ears conn.old.left
         → GoesOrEnds o (tale (L.tape link.old) (turns_of (D.line pass.old) (D.seen pass.old)) (C.told clock.old) (I.drawn dice.old) (L.faults link.old)

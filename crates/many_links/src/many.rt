@@ -1,10 +1,12 @@
 //! A worker that serves the links of a poller, each at its place.
 
-ghost use Rattle.std.specs.Prelude.{◌≡◌, ◌≢◌, ◌+◌, ◌<◌, ◌≤◌, ◌^◌, ◌++◌, [], ℕ, List, All, true, false, None, length, map};
+ghost use Rattle.std.specs.Prelude.{◌≡◌, ◌≢◌, ◌+◌, ◌<◌, ◌≤◌, ◌^◌, ◌++◌, [], ℕ, List, All, true, false, None, Option, length, map};
 ghost use Rattle.outside.specs.Doors.{TakesBack, reached};
 ghost use Rattle.outside.specs.Polls.{IsBack, seats};
+ghost use Rattle.outside.specs.declared.poller.Rung.{Rung};
 ghost use Rattle.house_model.specs.Promises.{Safe};
 ghost use Rattle.conn_serve.specs.Shifts.{IsWithin};
+ghost use Rattle.many_links.specs.Ringing.{AllRang};
 ghost use Rattle.many_links.specs.Visits.{AddsUp, AllFree, AllHeld, AllServed, AllStand, AreSameButOne, Ends, EndsNow, FreeBefore, Links, Spot, Tapes, spot_of};
 
 use crate::farewell::Farewell;
@@ -72,6 +74,13 @@ fn serve_next<W: Wait, D: Desk, P: Poller, C: Clock, I: Dice>(
         → AllStand (D.opening desk.now).head.domain.domain accounts.now olds tapes links
         (map (spot_of D.Pass P.Link C I D.line D.seen D.marked P.Link.tape P.Link.faults P.Link.ends C.told I.drawn I.faults) places.new.items)
         (P.tapes poller.new) (P.came poller.new) }
+    ensures rings { (olds : List Spot) (rung : Option (List Rung)) → length olds ≡ length places.old.items
+        → AllRang olds rung
+        (map (spot_of D.Pass P.Link C I D.line D.seen D.marked P.Link.tape P.Link.faults P.Link.ends C.told I.drawn I.faults) places.old.items)
+        (P.rung poller.old)
+        → AllRang olds rung
+        (map (spot_of D.Pass P.Link C I D.line D.seen D.marked P.Link.tape P.Link.faults P.Link.ends C.told I.drawn I.faults) places.new.items)
+        (P.rung poller.new) }
     ensures said { said.new ≡ [] }
     ensures quota { P.quota poller.new ≡ P.quota poller.old }
     ensures within { IsWithin (P.quota poller.old) (P.links poller.old) → IsWithin (P.quota poller.new) (P.links poller.new) }
@@ -131,6 +140,13 @@ fn let_go_at<W: Wait, D: Desk, P: Poller, C: Clock, I: Dice>(
         → AllStand (D.opening desk.now).head.domain.domain accounts.now olds tapes links
         (map (spot_of D.Pass P.Link C I D.line D.seen D.marked P.Link.tape P.Link.faults P.Link.ends C.told I.drawn I.faults) places.new.items)
         (P.tapes poller.new) (P.came poller.new) }
+    ensures rings { (olds : List Spot) (rung : Option (List Rung)) → length olds ≡ length places.old.items
+        → AllRang olds rung
+        (map (spot_of D.Pass P.Link C I D.line D.seen D.marked P.Link.tape P.Link.faults P.Link.ends C.told I.drawn I.faults) places.old.items)
+        (P.rung poller.old)
+        → AllRang olds rung
+        (map (spot_of D.Pass P.Link C I D.line D.seen D.marked P.Link.tape P.Link.faults P.Link.ends C.told I.drawn I.faults) places.new.items)
+        (P.rung poller.new) }
     ensures free { FreeBefore k (map (spot_of D.Pass P.Link C I D.line D.seen D.marked P.Link.tape P.Link.faults P.Link.ends C.told I.drawn I.faults) places.old.items)
         → FreeBefore (k + 1) (map (spot_of D.Pass P.Link C I D.line D.seen D.marked P.Link.tape P.Link.faults P.Link.ends C.told I.drawn I.faults) places.new.items) }
     ensures quota { P.quota poller.new ≡ P.quota poller.old }
@@ -171,6 +187,13 @@ fn let_go_all<W: Wait, D: Desk, P: Poller, C: Clock, I: Dice>(
         → AllStand (D.opening desk.now).head.domain.domain accounts.now olds tapes links
         (map (spot_of D.Pass P.Link C I D.line D.seen D.marked P.Link.tape P.Link.faults P.Link.ends C.told I.drawn I.faults) places.new.items)
         (P.tapes poller.new) (P.came poller.new) }
+    ensures rings { (olds : List Spot) (rung : Option (List Rung)) → length olds ≡ length places.old.items
+        → AllRang olds rung
+        (map (spot_of D.Pass P.Link C I D.line D.seen D.marked P.Link.tape P.Link.faults P.Link.ends C.told I.drawn I.faults) places.old.items)
+        (P.rung poller.old)
+        → AllRang olds rung
+        (map (spot_of D.Pass P.Link C I D.line D.seen D.marked P.Link.tape P.Link.faults P.Link.ends C.told I.drawn I.faults) places.new.items)
+        (P.rung poller.new) }
     ensures free { AllFree (map (spot_of D.Pass P.Link C I D.line D.seen D.marked P.Link.tape P.Link.faults P.Link.ends C.told I.drawn I.faults) places.new.items) }
     ensures quota { P.quota poller.new ≡ P.quota poller.old }
     ensures came { (j : ℕ) → P.came poller.new j ≡ P.came poller.old j }
@@ -185,10 +208,11 @@ fn let_go_all<W: Wait, D: Desk, P: Poller, C: Clock, I: Dice>(
 /// Serves the links of a poller, each at its place, in rounds, until the poller shuts or fails; then each link that is under way is let go. At each
 /// place the links were served one after the other: each came without marks, went as a connection may and ended with a cause, and was given back,
 /// whatever happened at the other places. Where no turn was refused to its pass, its line gained one piece of turns for each link, and where the
-/// poller tells the tapes of the place each piece goes with its tape. What each pass has seen is legal, and all that is promised of legal histories
-/// holds of it. Where the poller's count of links was the sum of its places' counts, up to the greatest number, it still is. `said` gathers what is
-/// said, and is empty before and after. Unless it is to be quiet, the poller notes how each connection ended, where there is memory for the line.
-/// Never returns if the poller hands out links for ever, or a link goes on for ever.
+/// poller tells the tapes of the place each piece goes with its tape. Where the poller tells its rings and the clock of a place its moments, each
+/// `Ready` of the place had one round, with as many readings as the round's answer says. What each pass has seen is legal, and all that is promised
+/// of legal histories holds of it. Where the poller's count of links was the sum of its places' counts, up to the greatest number, it still is. `said`
+/// gathers what is said, and is empty before and after. Unless it is to be quiet, the poller notes how each connection ended, where there is memory
+/// for the line. Never returns if the poller hands out links for ever, or a link goes on for ever.
 pub fn serve_many<W: Wait, D: Desk, P: Poller, C: Clock, I: Dice>(
     rt: &W,
     alloc: Global,
@@ -215,6 +239,11 @@ pub fn serve_many<W: Wait, D: Desk, P: Poller, C: Clock, I: Dice>(
         (P.tapes poller.old) (P.came poller.old)
         (map (spot_of D.Pass P.Link C I D.line D.seen D.marked P.Link.tape P.Link.faults P.Link.ends C.told I.drawn I.faults) places.new.items)
         (P.tapes poller.new) (P.came poller.new) }
+    ensures rings { AllRang
+        (map (spot_of D.Pass P.Link C I D.line D.seen D.marked P.Link.tape P.Link.faults P.Link.ends C.told I.drawn I.faults) places.old.items)
+        (P.rung poller.old)
+        (map (spot_of D.Pass P.Link C I D.line D.seen D.marked P.Link.tape P.Link.faults P.Link.ends C.told I.drawn I.faults) places.new.items)
+        (P.rung poller.new) }
     ensures quota { P.quota poller.new ≡ P.quota poller.old }
     ensures within { IsWithin (P.quota poller.old) (P.links poller.old) → IsWithin (P.quota poller.new) (P.links poller.new) }
     ensures sum { AddsUp (P.places poller.old) (P.came poller.old) (P.links poller.old) → AddsUp (P.places poller.new) (P.came poller.new) (P.links poller.new) }

@@ -3,6 +3,8 @@
 ghost use Rattle.std.specs.Prelude.{◌≡◌, [], Option, None};
 ghost use Rattle.outside.specs.Doors.{Untold};
 ghost use Rattle.outside.specs.Tapes.{Mark};
+ghost use Rattle.conn_serve.specs.Rounds.{Asked};
+ghost use Rattle.many_links.specs.Ringing.{HadRound};
 ghost use Rattle.many_links.specs.Visits.{AttendedAt, IsOpenAt, TakenUpAt, spot_of};
 
 use crate::begin::{give_notice, go_on, start};
@@ -46,6 +48,7 @@ pub(crate) fn take_up<W: Wait, D: Desk, L: Link, C: Clock, I: Dice>(
     ensures pass { D.came_from desk.now place.new.pass }
     ensures open_at { IsOpenAt (D.line place.new.pass) accounts.now
         (spot_of D.Pass L C I D.line D.seen D.marked L.tape L.faults L.ends C.told I.drawn I.faults place.new).busy }
+    ensures asked { Asked (C.told place.old.clock) (C.told place.new.clock) }
     ensures taken_up { TakenUpAt (D.opening desk.now).head.domain.domain accounts.now L L.tape
         (spot_of D.Pass L C I D.line D.seen D.marked L.tape L.faults L.ends C.told I.drawn I.faults place.old)
         (spot_of D.Pass L C I D.line D.seen D.marked L.tape L.faults L.ends C.told I.drawn I.faults place.new) result }
@@ -92,6 +95,8 @@ pub(crate) fn attend<W: Wait, D: Desk, L: Link, C: Clock, I: Dice>(
     ensures open_at { IsOpenAt (D.line place.new.pass) accounts.now
         (spot_of D.Pass L C I D.line D.seen D.marked L.tape L.faults L.ends C.told I.drawn I.faults place.new).busy }
     ensures said { said.new ≡ [] }
+    ensures round { HadRound (spot_of D.Pass L C I D.line D.seen D.marked L.tape L.faults L.ends C.told I.drawn I.faults place.old)
+        (spot_of D.Pass L C I D.line D.seen D.marked L.tape L.faults L.ends C.told I.drawn I.faults place.new) }
     ensures attended { AttendedAt (D.opening desk.now).head.domain.domain accounts.now L L.tape
         (spot_of D.Pass L C I D.line D.seen D.marked L.tape L.faults L.ends C.told I.drawn I.faults place.old)
         (spot_of D.Pass L C I D.line D.seen D.marked L.tape L.faults L.ends C.told I.drawn I.faults place.new) result }
@@ -133,6 +138,7 @@ pub(crate) fn let_go<W: Wait, D: Desk, L: Link, C: Clock, I: Dice>(
     requires open_at { IsOpenAt (D.line place.old.pass) accounts.now
         (spot_of D.Pass L C I D.line D.seen D.marked L.tape L.faults L.ends C.told I.drawn I.faults place.old).busy }
     ensures pass { D.came_from desk.now place.new.pass }
+    ensures asked { C.told place.new.clock ≡ C.told place.old.clock }
     ensures free { (spot_of D.Pass L C I D.line D.seen D.marked L.tape L.faults L.ends C.told I.drawn I.faults place.new).busy ≡ None }
     ensures attended { AttendedAt (D.opening desk.now).head.domain.domain accounts.now L L.tape
         (spot_of D.Pass L C I D.line D.seen D.marked L.tape L.faults L.ends C.told I.drawn I.faults place.old)

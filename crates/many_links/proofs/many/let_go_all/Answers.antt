@@ -8,6 +8,7 @@ loop-k-init g c = record {
   count = refl;
   held = c.requires.held;
   stand = λ olds tapes links same all. all;
+  rings = λ olds rung same all. all;
   free = λ k below. absurd (omega (arith, below));
   quota = refl;
   came = λ j. refl;
@@ -23,6 +24,8 @@ loop-k-preserved g c = record {
   held = c.let_go_at.ensures.held;
   stand = λ olds tapes links same all.
       c.let_go_at.ensures.stand olds tapes links (same ∙ sym c.loop-k.invariant.count) (c.loop-k.invariant.stand olds tapes links same all);
+  rings = λ olds rung same all.
+      c.let_go_at.ensures.rings olds rung (same ∙ sym c.loop-k.invariant.count) (c.loop-k.invariant.rings olds rung same all);
   free = c.let_go_at.ensures.free c.loop-k.invariant.free;
   quota = c.let_go_at.ensures.quota ∙ c.loop-k.invariant.quota;
   came = λ j. c.let_go_at.ensures.came j ∙ c.loop-k.invariant.came j;

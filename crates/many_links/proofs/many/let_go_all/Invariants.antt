@@ -1,6 +1,8 @@
 use Rattle.std.proofs.Common.{◌≡◌, ℕ, List, length, map}
-use Rattle.std.specs.Prelude.{All}
+use Rattle.std.specs.Prelude.{All, Option}
+use Rattle.outside.specs.declared.poller.Rung.{Rung}
 use Rattle.many_links.specs.declared.place.Place.{Place}
+use Rattle.many_links.specs.Ringing.{AllRang}
 use Rattle.many_links.specs.Visits.{AllHeld, AllStand, FreeBefore, Links, Spot, Tapes, spot_of}
 use Rattle.many_links.proofs.many.let_go_all.Given as goal
 
@@ -19,6 +21,13 @@ invariant-loop-k g l = record {
       → AllStand (g.D.Desk.opening l.desk).head.domain.domain l.accounts olds tapes links
       (map (spot_of g.row.D-Pass.Denot g.row.P-Link.Denot g.row.C.Denot g.row.I.Denot g.D.Desk.line g.D.Desk.seen g.D.Desk.marked g.P.Link.Link.tape
       g.P.Link.Link.faults g.P.Link.Link.ends g.C.Clock.told g.I.Dice.drawn g.I.Dice.faults) l.places.items) (g.P.Poller.tapes l.poller) (g.P.Poller.came l.poller);
+  rings : (olds : List Spot) (rung : Option (List Rung)) → length olds ≡ length l.fn.places.items
+      → AllRang olds rung
+      (map (spot_of g.row.D-Pass.Denot g.row.P-Link.Denot g.row.C.Denot g.row.I.Denot g.D.Desk.line g.D.Desk.seen g.D.Desk.marked g.P.Link.Link.tape
+      g.P.Link.Link.faults g.P.Link.Link.ends g.C.Clock.told g.I.Dice.drawn g.I.Dice.faults) l.fn.places.items) (g.P.Poller.rung l.fn.poller)
+      → AllRang olds rung
+      (map (spot_of g.row.D-Pass.Denot g.row.P-Link.Denot g.row.C.Denot g.row.I.Denot g.D.Desk.line g.D.Desk.seen g.D.Desk.marked g.P.Link.Link.tape
+      g.P.Link.Link.faults g.P.Link.Link.ends g.C.Clock.told g.I.Dice.drawn g.I.Dice.faults) l.places.items) (g.P.Poller.rung l.poller);
   free : FreeBefore l.k (map (spot_of g.row.D-Pass.Denot g.row.P-Link.Denot g.row.C.Denot g.row.I.Denot g.D.Desk.line g.D.Desk.seen g.D.Desk.marked
       g.P.Link.Link.tape g.P.Link.Link.faults g.P.Link.Link.ends g.C.Clock.told g.I.Dice.drawn g.I.Dice.faults) l.places.items);
   quota : g.P.Poller.quota l.poller ≡ g.P.Poller.quota l.fn.poller;

@@ -6,6 +6,7 @@ use Rattle.many_links.specs.Visits.{is_taken, spot_of}
 use Rattle.many_links.proofs.Placing.{free_before, free_held, held_at}
 use Rattle.many_links.proofs.Placing.{place_held, stands_back, stands_on}
 use Rattle.many_links.proofs.Polling.{all_at}
+use Rattle.many_links.proofs.Ringing.{rang_on}
 use Rattle.many_links.proofs.many.let_go_at.Goals as goal
 
 pub let_go-requires-clause-pass : goal.let_go-requires-clause-pass
@@ -43,6 +44,9 @@ returns-in-Some g c =
           (g.P.Link.Link.tape c.in-Some.link) c.requires.place c.index_mut-place.ensures.value same c.in-Some.ensures.attended.0 c.give_back.ensures.tape
           c.give_back.ensures.tapes
           (c.give_back.ensures.back.came c.args.k) (λ j apart. c.give_back.ensures.back.came j) all;
+      rings = λ olds rung same all.
+          rang_on f olds c.args.places.now.items c.args.k c.index_mut-place.result.now c.let_go.new.place rung _ _ c.requires.place
+          c.index_mut-place.ensures.value same c.give_back.ensures.rung c.let_go.ensures.asked c.let_go.ensures.free all;
       free = free_before f c.args.places.now.items c.args.k c.let_go.new.place c.requires.place c.let_go.ensures.free;
       quota = c.give_back.ensures.quota;
       came = c.give_back.ensures.back.came;
@@ -68,6 +72,9 @@ returns-in-None g c =
           stands_on (λ (n : ℕ). n) (g.D.Desk.opening c.args.desk.now).head.domain.domain c.args.accounts.now f olds c.args.places.now.items tapes links _ _ _ _
           c.args.k c.index_mut-place.result.now c.let_go.new.place
           c.requires.place c.index_mut-place.ensures.value same c.in-None.ensures.attended.0 (λ j. refl) refl (λ j apart. refl) all;
+      rings = λ olds rung same all.
+          rang_on f olds c.args.places.now.items c.args.k c.index_mut-place.result.now c.let_go.new.place rung _ _ c.requires.place
+          c.index_mut-place.ensures.value same refl c.let_go.ensures.asked c.let_go.ensures.free all;
       free = free_before f c.args.places.now.items c.args.k c.let_go.new.place c.requires.place c.let_go.ensures.free;
       quota = refl;
       came = λ j. refl;

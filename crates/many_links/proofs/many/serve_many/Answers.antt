@@ -8,6 +8,7 @@ use Rattle.many_links.specs.declared.place.Place.{Place}
 use Rattle.many_links.specs.Visits.{AllFree, open_of, spot_of}
 use Rattle.many_links.proofs.Placing.{all_free_held, all_served, free_places, none_served}
 use Rattle.many_links.proofs.Polling.{ends_on, kept_same, least, most, within_same}
+use Rattle.many_links.proofs.Ringing.{none_rang}
 use Rattle.many_links.proofs.Summing.{adds_none}
 use Rattle.many_links.proofs.many.serve_many.Goals as goal
 
@@ -28,6 +29,7 @@ loop-init g c =
       count = refl;
       held = all_free_held c.args.accounts.now _ _ free c.requires.none;
       stand = none_served (g.D.Desk.opening c.args.desk.now).head.domain.domain c.args.accounts.now _ _ _ free;
+      rings = none_rang _ _ free;
       quota = refl;
       within = λ w. w;
       sum = λ s. s;
@@ -44,6 +46,7 @@ loop-preserved g c = record {
   count = c.in-None-serve_next.ensures.count ∙ c.loop.invariant.count;
   held = c.in-None-serve_next.ensures.held;
   stand = c.in-None-serve_next.ensures.stand _ _ _ (length-map _ _ ∙ sym c.loop.invariant.count) c.loop.invariant.stand;
+  rings = c.in-None-serve_next.ensures.rings _ _ (length-map _ _ ∙ sym c.loop.invariant.count) c.loop.invariant.rings;
   quota = c.in-None-serve_next.ensures.quota ∙ c.loop.invariant.quota;
   within = λ w. c.in-None-serve_next.ensures.within (c.loop.invariant.within w);
   sum = λ s. c.in-None-serve_next.ensures.sum (c.loop.invariant.sum s);
@@ -60,6 +63,12 @@ returns-in-Some-serve_next-clause-served g c =
     (length-map _ _ ∙ (sym (c.let_go_all.ensures.count ∙ same) ∙ sym (length-map _ _))) c.let_go_all.ensures.free
     (c.let_go_all.ensures.stand _ _ _ (length-map _ _ ∙ sym same)
     (c.in-Some-serve_next.ensures.stand _ _ _ (length-map _ _ ∙ sym c.loop.invariant.count) c.loop.invariant.stand))
+
+pub returns-in-Some-serve_next-clause-rings : goal.returns-in-Some-serve_next-clause-rings
+returns-in-Some-serve_next-clause-rings g c =
+    let same = c.in-Some-serve_next.ensures.count ∙ c.loop.invariant.count in
+    c.let_go_all.ensures.rings _ _ (length-map _ _ ∙ sym same)
+    (c.in-Some-serve_next.ensures.rings _ _ (length-map _ _ ∙ sym c.loop.invariant.count) c.loop.invariant.rings)
 
 pub returns-in-Some-serve_next-clause-quota : goal.returns-in-Some-serve_next-clause-quota
 returns-in-Some-serve_next-clause-quota g c = c.let_go_all.ensures.quota ∙ (c.in-Some-serve_next.ensures.quota ∙ c.loop.invariant.quota)

@@ -2,6 +2,7 @@ use Rattle.std.proofs.Common.{◌≡◌, ◌≤◌, [], length, map}
 use Rattle.std.specs.Prelude.{All}
 use Rattle.conn_serve.specs.Shifts.{IsWithin}
 use Rattle.many_links.specs.declared.place.Place.{Place}
+use Rattle.many_links.specs.Ringing.{AllRang}
 use Rattle.many_links.specs.Visits.{AddsUp, AllHeld, AllStand, spot_of}
 use Rattle.many_links.proofs.many.serve_many.Given as goal
 
@@ -21,6 +22,11 @@ invariant-loop g l = record {
       (g.P.Poller.came l.fn.poller)
       (map (spot_of g.row.D-Pass.Denot g.row.P-Link.Denot g.row.C.Denot g.row.I.Denot g.D.Desk.line g.D.Desk.seen g.D.Desk.marked g.P.Link.Link.tape
       g.P.Link.Link.faults g.P.Link.Link.ends g.C.Clock.told g.I.Dice.drawn g.I.Dice.faults) l.places.items) (g.P.Poller.tapes l.poller) (g.P.Poller.came l.poller);
+  rings : AllRang
+      (map (spot_of g.row.D-Pass.Denot g.row.P-Link.Denot g.row.C.Denot g.row.I.Denot g.D.Desk.line g.D.Desk.seen g.D.Desk.marked g.P.Link.Link.tape
+      g.P.Link.Link.faults g.P.Link.Link.ends g.C.Clock.told g.I.Dice.drawn g.I.Dice.faults) l.fn.places.items) (g.P.Poller.rung l.fn.poller)
+      (map (spot_of g.row.D-Pass.Denot g.row.P-Link.Denot g.row.C.Denot g.row.I.Denot g.D.Desk.line g.D.Desk.seen g.D.Desk.marked g.P.Link.Link.tape
+      g.P.Link.Link.faults g.P.Link.Link.ends g.C.Clock.told g.I.Dice.drawn g.I.Dice.faults) l.places.items) (g.P.Poller.rung l.poller);
   quota : g.P.Poller.quota l.poller ≡ g.P.Poller.quota l.fn.poller;
   within : IsWithin (g.P.Poller.quota l.fn.poller) (g.P.Poller.links l.fn.poller) → IsWithin (g.P.Poller.quota l.poller) (g.P.Poller.links l.poller);
   sum : AddsUp (g.P.Poller.places l.fn.poller) (g.P.Poller.came l.fn.poller) (g.P.Poller.links l.fn.poller)

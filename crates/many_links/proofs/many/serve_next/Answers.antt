@@ -2,6 +2,7 @@ use Rattle.std.proofs.Common.{◌<◌, ℕ, List, refl, subst, sym, ◌∙◌, m
 use Rattle.std.specs.Prelude.{Option}
 use Rattle.std.proofs.lemmas.List.{length-set}
 use Rattle.std.proofs.lemmas.List.Elements.{All-set}
+use Rattle.outside.specs.declared.poller.Rung.TheVariants.{New, Ready, Shut, Failed}
 use Rattle.outside.specs.Doors.{TakesBack}
 use Rattle.outside.specs.Plans.{raised}
 use Rattle.outside.specs.Tapes.{Mark}
@@ -11,6 +12,7 @@ use Rattle.many_links.specs.Visits.{spot_of}
 use Rattle.many_links.proofs.Placing.{free_held, held_at}
 use Rattle.many_links.proofs.Placing.{others_same, place_held, places_held, places_stand, stands_back, stands_on}
 use Rattle.many_links.proofs.Polling.{all_at, kept_same, no_line, reached_same, within_same}
+use Rattle.many_links.proofs.Ringing.{comes_new, comes_ready, new_apart, rang_at, rang_nowhere, ready_apart}
 use Rattle.many_links.proofs.Summing.{adds_none, adds_one}
 use Rattle.many_links.proofs.many.serve_next.Goals as goal
 
@@ -72,6 +74,10 @@ returns-in-Some g c =
           c.give_back.ensures.tape)
           (λ j apart. c.give_back.ensures.tapes j apart ∙ c.wait.ensures.tapes j) (c.give_back.ensures.back.came c.in-New.k ∙ rings.counted)
           (λ j apart. c.give_back.ensures.back.came j ∙ rings.others_came j apart) all;
+      rings = λ olds rung same all.
+          rang_at f olds c.args.places.now.items c.in-New.k c.index_mut-place.result.now c.take_up.new.place (New c.in-New.k) rung _ _ _ less
+          c.index_mut-place.ensures.value same c.in-New.ensures.rung c.give_back.ensures.rung (new_apart c.in-New.k)
+          (comes_new c.in-New.k (f c.index_mut-place.result.now) (f c.take_up.new.place) c.take_up.ensures.asked) all;
       said = c.requires.said;
       quota = c.give_back.ensures.quota ∙ c.wait.ensures.quota;
       within = λ w. within_more _ _ _ _ (c.give_back.ensures.quota ∙ c.wait.ensures.quota) (c.give_back.ensures.back.links ∙ rings.links) rings.more;
@@ -101,6 +107,10 @@ returns-in-None g c =
           stands_on raised (g.D.Desk.opening c.args.desk.now).head.domain.domain c.args.accounts.now f olds c.args.places.now.items tapes links _ _ _ _ c.in-New.k
           c.index_mut-place.result.now c.take_up.new.place less c.index_mut-place.ensures.value same
           c.in-None.ensures.taken_up.0 c.wait.ensures.tapes rings.counted rings.others_came all;
+      rings = λ olds rung same all.
+          rang_at f olds c.args.places.now.items c.in-New.k c.index_mut-place.result.now c.take_up.new.place (New c.in-New.k) rung _ _ _ less
+          c.index_mut-place.ensures.value same c.in-New.ensures.rung refl (new_apart c.in-New.k)
+          (comes_new c.in-New.k (f c.index_mut-place.result.now) (f c.take_up.new.place) c.take_up.ensures.asked) all;
       said = c.requires.said;
       quota = c.wait.ensures.quota;
       within = λ w. within_more _ _ _ _ c.wait.ensures.quota rings.links rings.more;
@@ -137,6 +147,10 @@ returns-in-Some-attend g c =
           (λ j apart. c.give_back-in-Some-attend.ensures.tapes j apart ∙ c.wait.ensures.tapes j)
           (c.give_back-in-Some-attend.ensures.back.came c.in-Ready.k ∙ rings.2.came c.in-Ready.k)
           (λ j apart. c.give_back-in-Some-attend.ensures.back.came j ∙ rings.2.came j) all;
+      rings = λ olds rung same all.
+          rang_at f olds c.args.places.now.items c.in-Ready.k c.index_mut-place-in-Ready.result.now c.attend.new.place (Ready c.in-Ready.k) rung _ _ _ less
+          c.index_mut-place-in-Ready.ensures.value same c.in-Ready.ensures.rung c.give_back-in-Some-attend.ensures.rung (ready_apart c.in-Ready.k)
+          (comes_ready c.in-Ready.k (f c.index_mut-place-in-Ready.result.now) (f c.attend.new.place) (sym held.known ∙ rings.1) c.attend.ensures.round) all;
       said = c.attend.ensures.said;
       quota = c.give_back-in-Some-attend.ensures.quota ∙ c.wait.ensures.quota;
       within = λ w. within_same _ _ _ _ (c.give_back-in-Some-attend.ensures.quota ∙ c.wait.ensures.quota)
@@ -169,6 +183,10 @@ returns-in-None-attend g c =
           stands_on (λ (n : ℕ). n) (g.D.Desk.opening c.args.desk.now).head.domain.domain c.args.accounts.now f olds c.args.places.now.items tapes links _ _ _ _
           c.in-Ready.k c.index_mut-place-in-Ready.result.now c.attend.new.place less c.index_mut-place-in-Ready.ensures.value same
           c.in-None-attend.ensures.attended.0 c.wait.ensures.tapes (rings.2.came c.in-Ready.k) (λ j apart. rings.2.came j) all;
+      rings = λ olds rung same all.
+          rang_at f olds c.args.places.now.items c.in-Ready.k c.index_mut-place-in-Ready.result.now c.attend.new.place (Ready c.in-Ready.k) rung _ _ _ less
+          c.index_mut-place-in-Ready.ensures.value same c.in-Ready.ensures.rung refl (ready_apart c.in-Ready.k)
+          (comes_ready c.in-Ready.k (f c.index_mut-place-in-Ready.result.now) (f c.attend.new.place) (sym held.known ∙ rings.1) c.attend.ensures.round) all;
       said = c.attend.ensures.said;
       quota = c.wait.ensures.quota;
       within = λ w. within_same _ _ _ _ c.wait.ensures.quota rings.2.links w;
@@ -191,6 +209,7 @@ returns-in-Shut g c =
       stand = λ olds tapes links wide all.
           places_stand (g.D.Desk.opening c.args.desk.now).head.domain.domain c.args.accounts.now olds (map f c.args.places.now.items) tapes links _ _ _ _
           c.wait.ensures.tapes same.came all;
+      rings = λ olds rung same all. rang_nowhere olds (map f c.args.places.now.items) Shut rung _ _ c.in-Shut.ensures.rung (λ k. refl) all;
       said = c.requires.said;
       quota = c.wait.ensures.quota;
       within = λ w. within_same _ _ _ _ c.wait.ensures.quota same.links w;
@@ -213,6 +232,7 @@ returns-in-Failed g c =
       stand = λ olds tapes links wide all.
           places_stand (g.D.Desk.opening c.args.desk.now).head.domain.domain c.args.accounts.now olds (map f c.args.places.now.items) tapes links _ _ _ _
           c.wait.ensures.tapes same.came all;
+      rings = λ olds rung same all. rang_nowhere olds (map f c.args.places.now.items) Failed rung _ _ c.in-Failed.ensures.rung (λ k. refl) all;
       said = c.requires.said;
       quota = c.wait.ensures.quota;
       within = λ w. within_same _ _ _ _ c.wait.ensures.quota same.links w;

@@ -68,3 +68,9 @@ returns-in-Some-go_on-clause-attended g c =
       now,
       ap is_taken was,
     )
+
+pub returns-in-None-replace-clause-round : goal.returns-in-None-replace-clause-round
+returns-in-None-replace-clause-round g c = rw c.in-None-replace.ensures.after (λ taken. c.in-None.ensures.round)
+
+pub returns-in-Some-go_on-clause-round : goal.returns-in-Some-go_on-clause-round
+returns-in-Some-go_on-clause-round g c = rw c.in-Some.ensures.after (λ taken. c.in-Some-go_on.ensures.round)

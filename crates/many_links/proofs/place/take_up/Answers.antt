@@ -41,3 +41,13 @@ returns-in-Err-clause-taken_up g c =
           (λ a v. gone _ _ a v _ _ _) c.in-Err.ensures.mark c.conclude-ended.ensures.mark,
       free,
     )
+
+pub returns-in-None-clause-asked : goal.returns-in-None-clause-asked
+returns-in-None-clause-asked g c =
+    let began = c.in-Ok.ensures.began c.args.accounts.now (g.L.Link.tape c.args.link) (g.L.Link.faults c.args.link) (g.L.Link.ends c.args.link) in
+    (began.0, began.1)
+
+pub returns-in-Err-clause-asked : goal.returns-in-Err-clause-asked
+returns-in-Err-clause-asked g c =
+    let began = c.in-Err.ensures.began c.args.accounts.now (g.L.Link.tape c.args.link) (g.L.Link.faults c.args.link) (g.L.Link.ends c.args.link) in
+    (began.0, began.1)
