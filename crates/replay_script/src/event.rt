@@ -7,7 +7,7 @@ ghost use Rattle.replay_script.specs.Lines.{enable_of, resume_of, ack_of, going_
 ghost use Rattle.replay_script.specs.Readings.{Gives};
 
 use crate::fault::LineFault;
-use crate::fields::{first_field, is_token};
+use crate::fields::{first_field, is_token, text_of};
 use crate::notice::read_notice;
 use crate::numbers::{read_count, read_dice, read_line_number, read_resume_id};
 use house_model::Event;
@@ -183,7 +183,7 @@ fn read_id(alloc: Global, bytes: &[u8]) -> Result<Text, LineFault>
     if bytes.len() > MOST_ID || !is_token(bytes) {
         return Err(LineFault::Bad);
     }
-    Ok(Text::of(alloc, bytes)?)
+    Ok(text_of(alloc, bytes)?)
 }
 
 /// The resource that is asked for, or `*` for none.

@@ -5,11 +5,15 @@ ghost use Rattle.replay_script.specs.Notices.{plain_attr, body_of, notice, notic
 ghost use Rattle.replay_script.specs.Readings.{Gives};
 
 use crate::fault::LineFault;
-use crate::fields::{is_token, is_xml};
+use crate::fields::{is_token, is_xml, text_of};
 use jid_core::Jid;
+use stanza_model::make::{self, element_of, one_child, push_attr};
 use stanza_model::{MessageForm, Stanza};
-use stanza_tree::{Attr, Element, Name, NoMemory, Node, Several, Text, TextFault, length};
+use stanza_tree::{Attr, Element, NoMemory, Node, length};
 use std::alloc::Global;
+
+/// The namespace of stanzas (RFC 6120, 4.8.2).
+const CLIENT_SPACE: &str = "jabber:client";
 
 /// How many canonical bytes a stanza may have: as many as one of a stream.
 const MOST_STANZA: u64 = 196_608;
@@ -35,76 +39,30 @@ pub(crate) fn read_notice(alloc: Global, address: &[u8], words: &[u8]) -> Result
     })
 }
 
-/// The text of bytes that are known to be UTF-8.
-fn text_of(alloc: Global, bytes: &[u8]) -> Result<Text, NoMemory>
-    requires { IsUtf8 bytes.now }
-    ensures { IfOk result (λ t. t ≡ bytes.now) }
-{
-    match Text::of(alloc, bytes) {
-        Ok(text) => Ok(text),
-        Err(TextFault::NoMemory) => Err(NoMemory),
-        Err(TextFault::NotUtf8(_)) => unreachable!(),
-    }
-}
-
-fn name_of(alloc: Global, space: &[u8], local: &[u8]) -> Result<Name, NoMemory>
-    requires { IsUtf8 space.now × IsUtf8 local.now }
-    ensures { IfOk result (λ n. n ≡ record { space = space.now; local = local.now }) }
-{
-    Ok(Name {
-        space: text_of(alloc, space)?,
-        local: text_of(alloc, local)?,
-    })
-}
-
-fn attr_of(alloc: Global, local: &[u8], value: &[u8]) -> Result<Attr, NoMemory>
-    requires { IsUtf8 local.now × IsUtf8 value.now }
-    ensures { IfOk result (λ a. a ≡ plain_attr local.now value.now) }
-{
-    Ok(Attr {
-        name: name_of(alloc, b"", local)?,
-        value: text_of(alloc, value)?,
-    })
-}
-
-fn one_node(alloc: Global, node: Node) -> Result<Several<Node>, NoMemory>
-    ensures { IfOk result (λ nodes. nodes ≡ node ∷ []) }
-{
-    let mut nodes = Vec::new(alloc);
-    nodes.push(node)?;
-    Ok(Several::of(nodes))
-}
-
-fn attrs_of(alloc: Global, address: &[u8]) -> Result<Several<Attr>, NoMemory>
+fn attrs_of(alloc: Global, address: &[u8]) -> Result<Vec<Attr>, NoMemory>
     requires { IsUtf8 address.now }
-    ensures { IfOk result (λ attrs. attrs ≡ plain_attr (codes "to") address.now ∷ plain_attr (codes "type") (codes "headline") ∷ []) }
+    ensures { IfOk result (λ attrs. attrs.items ≡ plain_attr (codes "to") address.now ∷ plain_attr (codes "type") (codes "headline") ∷ []) }
 {
-    let mut attrs = Vec::new(alloc);
-    attrs.push(attr_of(alloc, b"to", address)?)?;
-    attrs.push(attr_of(alloc, b"type", b"headline")?)?;
-    Ok(Several::of(attrs))
+    let mut attrs = Vec::with_capacity(alloc, 2)?;
+    push_attr(&mut attrs, alloc, "to", text_of(alloc, address)?)?;
+    push_attr(&mut attrs, alloc, "type", make::text_of(alloc, "headline")?)?;
+    Ok(attrs)
 }
 
 fn body_of(alloc: Global, words: &[u8]) -> Result<Element, NoMemory>
     requires { IsUtf8 words.now }
     ensures { IfOk result (λ e. e ≡ body_of words.now) }
 {
-    let words = Node::Words(text_of(alloc, words)?);
-    Ok(Element {
-        name: name_of(alloc, b"jabber:client", b"body")?,
-        attrs: Several::of(Vec::new(alloc)),
-        children: one_node(alloc, words)?,
-    })
+    let mut children = Vec::new(alloc);
+    children.push(Node::Words(text_of(alloc, words)?))?;
+    element_of(alloc, CLIENT_SPACE, "body", Vec::new(alloc), children)
 }
 
 fn message_of(alloc: Global, address: &[u8], words: &[u8]) -> Result<Element, NoMemory>
     requires { IsUtf8 address.now × IsUtf8 words.now }
     ensures { IfOk result (λ e. e ≡ notice address.now words.now) }
 {
-    let body = Node::Child(body_of(alloc, words)?);
-    Ok(Element {
-        name: name_of(alloc, b"jabber:client", b"message")?,
-        attrs: attrs_of(alloc, address)?,
-        children: one_node(alloc, body)?,
-    })
+    let attrs = attrs_of(alloc, address)?;
+    let children = one_child(alloc, body_of(alloc, words)?)?;
+    element_of(alloc, CLIENT_SPACE, "message", attrs, children)
 }

@@ -5,7 +5,7 @@ ghost use Rattle.replay_script.specs.Prints.{print_of, cause_text, frame_line, l
 
 use house_model::Reply;
 use sm_resume::Cause;
-use stanza_tree::{Element, NoMemory, write};
+use stanza_tree::{Element, NoMemory, append, write};
 use std::alloc::Global;
 use stream_frames::{FrameFault, Item};
 
@@ -68,11 +68,13 @@ fn print_frame(text: &[u8], out: &mut Vec<u8>) -> Result<(), NoMemory>
     ensures ok { OnOk result (out.new.items ≡ out.old.items ++ frame_line text.now) }
     ensures err { OnErr result (out.new.items ≡ out.old.items) }
 {
-    let mut line = Vec::with_capacity(*out.allocator(), text.len().saturating_add(7))?;
-    line.extend_from_slice(b"frame ")?;
-    line.extend_from_slice(text)?;
-    line.push(b'\n')?;
-    out.extend_from_slice(line.as_slice())
+    // Room for the whole line comes first, so that the line is written as it is made.
+    let length = text.len().checked_add(7).ok_or(NoMemory)?;
+    out.reserve(length)?;
+    append(b"frame ", out);
+    append(text, out);
+    append(b"\n", out);
+    Ok(())
 }
 
 /// Appends the line of an item, whole or not at all. Costs the canonical spelling of a top element.

@@ -37,6 +37,14 @@ GivesNext old now (next.Byte b) = Begins old now (b ∷ [])
 GivesNext old now next.End = Ends old now
 GivesNext old now next.Failed = ⊤
 
+-- bytes that are held, and none of which is a line feed, were moved to a line
+pub record MovesRun (old now : Reading) (before after : List ℕ) : Type 0 where
+  pub run : List ℕ
+  pub plain : text_of run ≡ run
+  pub held : old.held ≡ run ++ now.held
+  pub line : after ≡ before ++ run
+  pub given : now.given ≡ old.given + length run
+
 -- a line was taken: this is its text; so many bytes were given before it and after it
 pub record TakesLine (old now : Option (List ℕ)) (before after : ℕ) (text : List ℕ) : Type 0 where
   pub line : List ℕ

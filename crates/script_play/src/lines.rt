@@ -1,8 +1,10 @@
 //! Lines of a source, which is read in pieces.
-ghost use Rattle.std.specs.Prelude.{◌≡◌, ◌<◌, ◌≤◌, ◌+◌, ◌∷◌, [], length, nat_lt, IfOk};
+ghost use Rattle.std.specs.Prelude.{◌≡◌, ◌<◌, ◌≤◌, ◌+◌, ◌∷◌, [], length, take, nat_lt, IfOk, OnOk};
 ghost use Rattle.outside.specs.Devices.{Rose};
-ghost use Rattle.script_play.specs.Readings.{unread, Fills, GivesNext, Takes};
+ghost use Rattle.replay_script.specs.Scripts.{text_of};
+ghost use Rattle.script_play.specs.Readings.{unread, Fills, GivesNext, MovesRun, Takes};
 
+use memchr::memchr;
 use outside::{Got, Source};
 use stanza_tree::NoMemory;
 use std::marker::Model;
@@ -38,6 +40,16 @@ enum Filled {
     Ready,
     End,
     Failed,
+}
+
+/// How many bytes come before the first line feed; no more than `most` are looked at.
+fn run_length(bytes: &[u8], most: usize) -> usize
+    ensures fits { result ≤ length bytes.now }
+    ensures few { result ≤ most }
+    ensures plain { text_of (take result bytes.now) ≡ take result bytes.now }
+{
+    let near = &bytes[..bytes.len().min(most)];
+    memchr(b'\n', near).unwrap_or(near.len())
 }
 
 /// A piece of a source, how much of it was given on, and how many bytes were given on in all.
@@ -124,6 +136,21 @@ impl Reader {
         self.given += 1;
     }
 
+    /// Moves the bytes before the next line feed to the line, as many as are held and are within the limits.
+    fn take_run(&mut self, line: &mut Vec<u8>) -> Result<(), NoMemory>
+        requires { length line.old.items ≤ 200000 }
+        ensures moves { OnOk result (MovesRun self.old self.new line.old.items line.new.items) }
+        ensures short { OnOk result (length line.new.items ≤ 200000) }
+    {
+        let most = (MOST_LINE - line.len()).min((MOST_SCRIPT - self.given) as usize);
+        let held = &self.piece[self.from..self.to];
+        let count = run_length(held, most);
+        line.extend_from_slice(&held[..count])?;
+        self.from += count;
+        self.given += count as u64;
+        Ok(())
+    }
+
     fn next<S: Source>(&mut self, source: &mut S) -> Next
         ensures falls { S.faults source.old ≤ S.faults source.new }
         ensures failed { result ≡ Next.Failed → Rose (S.faults source.old) (S.faults source.new) }
@@ -150,7 +177,8 @@ impl Reader {
             (unread self.new.held (S.left source.new)) self.old.given self.new.given line.new.items taken) }
     {
         line.clear();
-        for _count in 0..=MOST_LINE {
+        while line.len() <= MOST_LINE {
+            self.take_run(line)?;
             let byte = match self.next(source) {
                 Next::Byte(byte) => byte,
                 Next::End => {
