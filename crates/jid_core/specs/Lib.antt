@@ -3,3 +3,4 @@ pub mod AsciiParts
 pub mod Cuts
 pub mod Names
 pub mod Preparation
+pub mod Held

@@ -5,6 +5,7 @@ pub mod address;
 mod ascii;
 pub mod cut;
 pub mod fault;
+mod held;
 pub mod laws;
 pub mod part;
 mod prepare;

@@ -3,25 +3,34 @@ ghost use Rattle.std.specs.Prelude.{◌≡◌, Ok, IfOk, IfErr, IsTrue, IsUtf8};
 ghost use Rattle.jid_core.specs.Preparation.{is_local, is_resource, is_domain, local_of, resource_of, domain_of, IsCause};
 
 use crate::fault::{JidFault, NoMemory};
+use crate::held::Held;
 use crate::prepare::{prepared_domain, prepared_local, prepared_resource};
 use std::alloc::Global;
 use std::marker::Model;
 
 /// A prepared part of an address, seen as its bytes. Each is fit to be a resource.
-#[derive(Drop)]
 pub struct Part {
-    bytes: Vec<u8>,
+    held: Held,
+}
+
+// One call wherever a part is dropped, whatever holds its bytes.
+impl Drop for Part {
+    fn drop(self) {
+        let Part { held } = self;
+        drop(held);
+    }
 }
 
 impl Model for Part {
     ghost use Rattle.std.specs.Prelude.{List, ℕ, IsTrue};
+    ghost use Rattle.jid_core.specs.Held.{bytes_of};
     ghost use Rattle.jid_core.specs.Preparation.{is_resource};
 
     ghost Value = { List ℕ };
 
-    ghost view = { λ p. p.bytes.items };
+    ghost view = { λ p. bytes_of p.held };
 
-    ghost invariant = { λ p. IsTrue (is_resource p.bytes.items) };
+    ghost invariant = { λ p. IsTrue (is_resource (bytes_of p.held)) };
 }
 
 impl Part {
@@ -32,7 +41,7 @@ impl Part {
         ensures fault { IfErr result (IsCause (local_of bytes.now)) }
     {
         Ok(Part {
-            bytes: prepared_local(alloc, bytes)?,
+            held: Held::of(prepared_local(alloc, bytes)?),
         })
     }
 
@@ -42,7 +51,7 @@ impl Part {
         ensures fault { IfErr result (IsCause (resource_of bytes.now)) }
     {
         Ok(Part {
-            bytes: prepared_resource(alloc, bytes)?,
+            held: Held::of(prepared_resource(alloc, bytes)?),
         })
     }
 
@@ -53,7 +62,7 @@ impl Part {
         ensures fault { IfErr result (IsCause (domain_of bytes.now)) }
     {
         Ok(Part {
-            bytes: prepared_domain(alloc, bytes)?,
+            held: Held::of(prepared_domain(alloc, bytes)?),
         })
     }
 
@@ -63,15 +72,15 @@ impl Part {
         ensures prepared { IsTrue (is_resource self.now) }
         ensures utf8 { IsUtf8 self.now }
     {
-        self.bytes.as_slice()
+        self.held.slice()
     }
 
-    /// Another part of the same bytes.
+    /// Another part of the same bytes. Takes no memory where they are few.
     pub fn copy(&self, alloc: Global) -> Result<Part, NoMemory>
         ensures { IfOk result (λ p. p ≡ self.now) }
     {
         Ok(Part {
-            bytes: self.bytes.as_slice().to_vec(alloc)?,
+            held: self.held.copy(alloc)?,
         })
     }
 }

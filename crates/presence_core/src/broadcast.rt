@@ -67,7 +67,7 @@ fn announced(
     ensures { IfOk result (λ effects. effects.items ≡ announced priority who.now element.now watchers.now) }
 {
     let rest = presence_text(alloc, who, element)?;
-    let mut effects = Vec::new(alloc);
+    let mut effects = Vec::with_capacity(alloc, watchers.len().saturating_add(1))?;
     effects.push(Effect::Set(Change::Available {
         session: who.session,
         stanza: rest.copy(alloc)?,

@@ -19,7 +19,7 @@ const USUAL_LENGTH: usize = 512;
 pub fn text_of(alloc: Global, text: &str) -> Result<Text, NoMemory>
     ensures { IfOk result (λ t. t ≡ text.now) }
 {
-    Ok(Text::of_string(String::from_str(alloc, text)?))
+    Text::of_str(alloc, text)
 }
 
 /// How many bytes an optional part takes, with its mark.

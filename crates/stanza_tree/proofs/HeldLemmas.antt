@@ -1,11 +1,10 @@
--- What holds a text's bytes holds UTF-8.
+-- Bytes that were copied to the front of a block are UTF-8 there.
+use Rattle.std.proofs.Common.{◌≡◌, List, ℕ, ◌++◌, take, length, true, subst, sym, ap, ◌∙◌}
 use Rattle.std.specs.Prelude.{IsUtf8}
-use Rattle.std.specs.Arc.{arc_value}
-use Rattle.std.proofs.lemmas.Str.{IsUtf8-string_bytes}
-use Rattle.stanza_tree.specs.declared.text.Held.{Held}
-use Rattle.stanza_tree.specs.declared.text.Held.TheVariants.{Own, Shared}
-use Rattle.stanza_tree.specs.Texts.{bytes_of}
+use Rattle.std.specs.Str.{is_utf8}
+use Rattle.std.proofs.Math.Seq.{take-append_seam}
+use Rattle.std.proofs.lemmas.Str.{is_utf8-from_IsUtf8}
 
-pub IsUtf8-bytes_of : (h : Held) → IsUtf8 (bytes_of h)
-IsUtf8-bytes_of (Own text) = IsUtf8-string_bytes text
-IsUtf8-bytes_of (Shared text) = IsUtf8-string_bytes (arc_value text)
+pub utf8_in_front : (xs ys rest : List ℕ) → ys ≡ xs → IsUtf8 xs → is_utf8 (take (length xs) (ys ++ rest)) ≡ true
+utf8_in_front xs ys rest same utf8 = subst (λ (b : List ℕ). is_utf8 b ≡ true)
+    (sym (ap (λ (z : List ℕ). take (length xs) (z ++ rest)) same ∙ take-append_seam xs rest)) (is_utf8-from_IsUtf8 xs utf8)

@@ -3,6 +3,7 @@
 
 pub mod children;
 pub mod frame;
+mod held;
 pub mod measure;
 pub mod node;
 pub mod several;

@@ -3,11 +3,11 @@ ghost use Rattle.std.specs.Prelude.{◌≡◌, [], IfOk, IfErr, OnOk, IsUtf8, st
 ghost use Rattle.stanza_tree.specs.Faults.{IsTextFault};
 ghost use Rattle.stanza_tree.specs.Texts.{bytes_of};
 
+use crate::held::Held;
 pub use std::alloc::AllocError as NoMemory;
 use std::alloc::{AllocError, Global};
 use std::marker::Model;
 use std::mem;
-use std::sync::Arc;
 
 /// Why bytes were not read as text.
 #[derive(Clone, Copy, Debug, PartialEq, Eq)]
@@ -25,52 +25,6 @@ impl From<AllocError> for TextFault {
 
     fn from(_error: AllocError) -> TextFault {
         TextFault::NoMemory
-    }
-}
-
-/// What holds the bytes of a text.
-#[derive(Drop)]
-enum Held {
-    /// This text alone.
-    Own(String),
-    /// It and its copies.
-    Shared(Arc<String, Global>),
-}
-
-impl Held {
-    fn string(&self) -> &String
-        ensures { string_bytes result.now ≡ bytes_of self.now }
-    {
-        match self {
-            Held::Own(text) => text,
-            Held::Shared(text) => text,
-        }
-    }
-
-    /// Another that holds the same bytes.
-    fn copy(&self, alloc: Global) -> Result<Held, NoMemory>
-        ensures { IfOk result (λ h. bytes_of h ≡ bytes_of self.now) }
-    {
-        match self {
-            Held::Own(text) => Ok(Held::Own(String::from_str(alloc, text.as_str())?)),
-            Held::Shared(text) => Ok(Held::Shared(Arc::try_clone(text)?)),
-        }
-    }
-
-    /// The same bytes, in a block that copies can share; where there was no memory for the block, as they were.
-    fn shared(self, alloc: Global) -> (Held, Result<(), NoMemory>)
-        ensures { bytes_of result.0 ≡ bytes_of self }
-    {
-        match self {
-            Held::Own(mut text) => {
-                text.shrink_to_fit();
-                match Arc::new(alloc, text) {
-                    Ok(block) => (Held::Shared(block), Ok(())),
-                    Err(failed) => (Held::Own(failed.value), Err(NoMemory)),
-                }
-            }
-            Held::Shared(text) => (Held::Shared(text), Ok(())),
-        }
     }
 }
 
@@ -104,9 +58,18 @@ impl Text {
         ensures fault { IfErr result (IsTextFault bytes.now) }
     {
         match std::str::from_utf8(bytes) {
-            Ok(text) => Ok(Text::of_string(String::from_str(alloc, text)?)),
+            Ok(text) => Ok(Text::of_str(alloc, text)?),
             Err(error) => Err(TextFault::NotUtf8(error.valid_up_to())),
         }
+    }
+
+    /// A text of the same bytes. Costs one copy; takes no memory where they are few.
+    pub fn of_str(alloc: Global, text: &str) -> Result<Text, NoMemory>
+        ensures { IfOk result (λ t. t ≡ text.now) }
+    {
+        Ok(Text {
+            held: Held::of_str(alloc, text)?,
+        })
     }
 
     /// The text without bytes. Takes no memory.
@@ -121,12 +84,10 @@ impl Text {
         requires { IsUtf8 bytes.now }
         ensures { IfOk result (λ t. t ≡ bytes.now) }
     {
-        let mut copied = Vec::new(alloc);
-        copied.extend_from_slice(bytes)?;
-        Ok(Text::of_vec(copied))
+        Text::of_str(alloc, unsafe { std::str::from_utf8_unchecked(bytes) })
     }
 
-    /// The text of bytes that are known to be UTF-8. Takes no memory: the vector's bytes become the text's.
+    /// The text of bytes that are known to be UTF-8. Takes no memory: the vector's bytes become the text's, or, where they are few, are copied.
     pub fn of_vec(bytes: Vec<u8>) -> Text
         requires { IsUtf8 bytes.items }
         ensures { result ≡ bytes.items }
@@ -139,7 +100,7 @@ impl Text {
         ensures { result ≡ string_bytes text }
     {
         Text {
-            held: Held::Own(text),
+            held: Held::of(text),
         }
     }
 
@@ -148,24 +109,25 @@ impl Text {
         ensures bytes { result.now ≡ self.now }
         ensures utf8 { IsUtf8 self.now }
     {
-        self.held.string().as_bytes()
+        self.held.bytes()
     }
 
-    /// Another text of the same bytes. Costs one copy of them, or, where they are shared, no memory.
+    /// Another text of the same bytes. Costs one copy of them; takes no memory where they are few or shared.
     pub fn copy(&self, alloc: Global) -> Result<Text, NoMemory>
         ensures copy { IfOk result (λ t. t ≡ self.now) }
         ensures utf8 { IsUtf8 self.now }
     {
+        let _ = self.held.bytes();
         Ok(Text {
             held: self.held.copy(alloc)?,
         })
     }
 
-    /// From now on the text shares its bytes with its copies. Moves them; takes a block of a few bytes.
+    /// From now on the text shares its bytes with its copies. Moves them, and takes a block of a few bytes; few bytes stay where they are.
     pub fn share(&mut self, alloc: Global) -> Result<(), NoMemory>
         ensures { self.new ≡ self.old }
     {
-        let held = mem::replace(&mut self.held, Held::Own(String::new(alloc)));
+        let held = mem::replace(&mut self.held, Held::empty());
         let (held, done) = held.shared(alloc);
         self.held = held;
         done

@@ -34,22 +34,12 @@ impl From<AllocError> for TagFault {
     }
 }
 
-/// A text of the same bytes. Takes no memory for none.
-fn fixed_text(alloc: Global, text: &str) -> Result<Text, NoMemory>
-    ensures { IfOk result (λ t. t ≡ text.now) }
-{
-    if text.is_empty() {
-        return Ok(Text::empty(alloc));
-    }
-    Ok(Text::of_string(String::from_str(alloc, text)?))
-}
-
 /// A namespace as a text, or none. One that a tag declared shares its bytes with the binding.
 pub(crate) fn space_text(alloc: Global, space: Option<Space<'_>>) -> Result<Text, NoMemory>
     ensures { IfOk result (λ t. t ≡ or_none (bound_space space.entry)) }
 {
     match space {
-        Some(Space::Fixed(text)) => fixed_text(alloc, text),
+        Some(Space::Fixed(text)) => Text::of_str(alloc, text),
         Some(Space::Bound(text)) => text.copy(alloc),
         None => Ok(Text::empty(alloc)),
     }
