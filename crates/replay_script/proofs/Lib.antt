@@ -5,6 +5,7 @@ mod StanzaLemmas
 mod StanzaTexts
 mod UserLemmas
 mod NoticeLemmas
+mod NoticeSizes
 pub mod Printing
 mod DrillAddresses
 pub mod DrillWords

@@ -1,5 +1,6 @@
 //! The stanza of a `note` line.
-ghost use Rattle.std.specs.Prelude.{◌≡◌, [], ◌∷◌, codes, IfOk, IsUtf8};
+ghost use Rattle.std.specs.Prelude.{◌≡◌, ◌<◌, ◌≤◌, [], ◌∷◌, codes, true, false, length as list_length, IfOk, IsUtf8};
+ghost use Rattle.stanza_tree.specs.Spelling.{text};
 ghost use Rattle.house_model.specs.Histories.{StanzaFits};
 ghost use Rattle.replay_script.specs.Notices.{plain_attr, body_of, notice, notice_of};
 ghost use Rattle.replay_script.specs.Readings.{Gives};
@@ -18,6 +19,9 @@ const CLIENT_SPACE: &str = "jabber:client";
 /// How many canonical bytes a stanza may have: as many as one of a stream.
 const MOST_STANZA: u64 = 196_608;
 
+/// So many bytes of an address and so many of words are few enough, however they are escaped.
+const SHORT: usize = 16_000;
+
 /// `<message to='ADDRESS' type='headline'><body>WORDS</body></message>`. Costs the bytes of both.
 #[tactic(auto, using(crate::proofs::CharacterLemmas::token_utf8, crate::proofs::CharacterLemmas::xml_utf8))]
 pub(crate) fn read_notice(alloc: Global, address: &[u8], words: &[u8]) -> Result<Stanza, LineFault>
@@ -29,7 +33,7 @@ pub(crate) fn read_notice(alloc: Global, address: &[u8], words: &[u8]) -> Result
     }
     let to = Jid::read(alloc, address)?;
     let element = message_of(alloc, address, words)?;
-    if length(&element) > MOST_STANZA {
+    if is_too_long(address, words, &element) {
         return Err(LineFault::Bad);
     }
     Ok(Stanza::Message {
@@ -37,6 +41,19 @@ pub(crate) fn read_notice(alloc: Global, address: &[u8], words: &[u8]) -> Result
         form: MessageForm::Headline,
         element,
     })
+}
+
+/// Whether a stanza has more bytes than it may. That of a short address and few words isn't counted.
+#[tactic(auto, using(crate::proofs::NoticeSizes::notice_small))]
+fn is_too_long(address: &[u8], words: &[u8], message: &Element) -> bool
+    requires { message.now ≡ notice address.now words.now }
+    ensures long { result ≡ true → 196608 < list_length (text message.now) }
+    ensures short { result ≡ false → list_length (text message.now) ≤ 196608 }
+{
+    if address.len() <= SHORT && words.len() <= SHORT {
+        return false;
+    }
+    length(message) > MOST_STANZA
 }
 
 fn attrs_of(alloc: Global, address: &[u8]) -> Result<Vec<Attr>, NoMemory>

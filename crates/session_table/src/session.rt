@@ -1,7 +1,7 @@
 //! A session, as the table keeps it.
 
 ghost use Rattle.std.specs.Prelude.{◌≡◌, ℕ, ◌||◌, ◌==◌, Some, is_some, unwrap_or, nat_eq, []};
-ghost use Rattle.std.specs.Hash.DefaultHasher as sip;
+ghost use Rattle.std.specs.Hash.FoldHasher as folding;
 ghost use Rattle.std.specs.Borrow.{sem};
 ghost use Rattle.jid_core.specs.Addresses.{Address, same_address};
 ghost use Rattle.session_table.specs.Hashes.{address_hash};
@@ -12,7 +12,7 @@ use sm_queue::SmQueue;
 use sm_resume::{Cause, ResumeId};
 use stanza_tree::{Several, Text};
 use std::alloc::Global;
-use std::hash::{DefaultHasher, Hasher};
+use std::hash::{FoldHasher, Hasher};
 use std::marker::Model;
 
 /// What a session's owner sees to.
@@ -160,11 +160,9 @@ fn bytes_of(part: &Option<Part>) -> &[u8]
 pub(crate) fn hash_of(address: &Jid) -> u64
     ensures { result ≡ address_hash address.now }
 {
-    let mut hasher = DefaultHasher::new();
+    let mut hasher = FoldHasher::default();
     hasher.write(bytes_of(&address.local));
-    hasher.write(b"/");
     hasher.write(address.domain.bytes());
-    hasher.write(b"/");
     hasher.write(bytes_of(&address.resource));
     hasher.finish()
 }

@@ -14,7 +14,7 @@ returns-clause-fits c =
     let token : is_token c.args.address.now ≡ true = grind (arith, c.is_token.ensures, c.if-not-is_token.false) in
     let xml : is_xml c.args.words.now ≡ true = grind (arith, c.is_xml.ensures, c.if-not-is_xml.false) in
     let some : 0 < length c.args.words.now = grind (arith, c.is_empty.ensures, c.if-is_empty.false) in
-    let small : length (text c.in_ok-element.element) ≤ 196608 = grind (arith, c.length.ensures, c.if-length-gt-MOST_STANZA.false) in
+    let small : length (text c.in_ok-element.element) ≤ 196608 = c.is_too_long.ensures.short c.if-is_too_long.false in
     search (
       rules,
       subst (λ (e : Element). StanzaFits (Message (Some c.in_ok-to.to) Headline e)) (sym same)
