@@ -23,7 +23,10 @@ use std::sync::Wait;
 use std::thread;
 use std::thread::Threads;
 
-/// So few turns are over sooner than a thread sleeps and is woken, also where threads are more than processors.
+/// Where each worker has a processor, at least so many turns are near: they are over sooner than a thread sleeps and is woken.
+const SOME_TURNS: u32 = 2;
+
+/// So many are where threads are more than processors.
 const FEW_TURNS: u32 = 1;
 
 /// Each worker serves the links of its poller, in a thread of its own.
@@ -63,7 +66,7 @@ where
 fn near_turns<R: Threads>(rt: &R, workers: u32) -> u32 {
     match thread::available_parallelism(rt) {
         Ok(processors) if processors.get() >= workers as usize => {
-            workers.saturating_sub(1).max(FEW_TURNS)
+            workers.saturating_sub(1).max(SOME_TURNS)
         }
         _ => FEW_TURNS,
     }

@@ -27,8 +27,12 @@ const VALUE_SLOT: usize = 0;
 // word: the passes that looked before may still draw, and they are fewer than 2^32.
 const MOST_TURNS: u64 = 1 << 63;
 
-// A pass that is near its turn looks again so often: a turn that is over sooner was worth the looks. Then it sleeps.
-const MOST_LOOKS: u32 = 1000;
+// A pass that is near its turn looks again so often, and then it sleeps: to sleep and be woken costs some tens of
+// microseconds, in which several turns may come before it.
+const MOST_LOOKS: u32 = 20_000;
+
+// So often where only the next in turn is near: others wait for its processor then.
+const FEW_LOOKS: u32 = 1000;
 
 /// A value under a lock that gives it out for one turn at a time.
 #[derive(Drop)]
@@ -179,6 +183,7 @@ impl<T: Storied> Turnstile<T> {
         ensures refused { refused pass.new ≡ refused pass.old }
         ensures few { length (seen pass.new) < 2 ^ 63 + 2 ^ 32 }
     {
+        let most = if self.near > 1 { MOST_LOOKS } else { FEW_LOOKS };
         let mut looks: u32 = 0;
         let mut wakes = None;
         for _ in rt.forever() {
@@ -201,7 +206,7 @@ impl<T: Storied> Turnstile<T> {
                     looks = 0;
                     None
                 }
-                None if is_near && looks < MOST_LOOKS => {
+                None if is_near && looks < most => {
                     looks = looks.saturating_add(1);
                     spin_loop();
                     None
