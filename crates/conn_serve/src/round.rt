@@ -25,8 +25,9 @@ use outside::{Clock, Dice, Link};
 use std::alloc::Global;
 use std::sync::Wait;
 
-/// So many wants are answered before another connection's: 64 moves at least, of which one may still be due.
-const STEPS: u64 = 65;
+/// So many wants are answered before another connection's, of which the last move may still be due. They are so many that what waits for a busy
+/// client is given within a round, so that it is then asked for its count.
+const STEPS: u64 = 513;
 
 /// What a connection keeps between its rounds.
 pub struct Conn {
