@@ -79,8 +79,8 @@ stays : (s mid : State) (p : Phase) → s.talk.phase ≡ p → mid ≡ s → Spe
 stays s mid p at is speaks = subst Speaks (sym (same_wish s mid p at is)) speaks
 
 awaits_at : (accounts : Book) (s mid : State) (p : Phase) → s.talk.phase ≡ p → IsToldAll p → IsLoaded s.talk p → Prepares accounts s p mid
-    → wish_of mid ≡ ToAwait → mid.talk.phase ≡ Resting
-awaits_at accounts s mid Resting at told loaded prepares w = ap (λ (x : State). x.talk.phase) prepares ∙ at
+    → wish_of mid ≡ ToAwait → s.talk.phase ≡ Resting
+awaits_at accounts s mid Resting at told loaded prepares w = at
 awaits_at accounts s mid Heard at told loaded prepares w = absurd (takes_speaks s.talk (waiting s.fed.reading) mid.talk prepares.0 w)
 awaits_at accounts s mid (Drawn dice) at told loaded prepares w =
     absurd (subst (λ (x : Talk). Speaks (wish x x.phase)) (sym prepares.0) (drawn_speaks accounts s.talk dice s.talk.purpose loaded) w)
@@ -97,9 +97,13 @@ awaits_at accounts s mid Sweeping at told loaded prepares w = absurd (stays s mi
 awaits_at accounts s mid (Parting x) at told loaded prepares w = absurd (stays s mid (Parting x) at prepares (parts (last_text s.talk x) x) w)
 awaits_at accounts s mid (Left x) at told loaded prepares w = absurd (stays s mid (Left x) at prepares (finishes x) w)
 
-awaits : (accounts : Book) (s mid : State) → IsLoaded s.talk s.talk.phase → Prepares accounts s s.talk.phase mid → wish_of mid ≡ ToAwait
-    → IsToldAll s.talk.phase → mid.talk.phase ≡ Resting
+pub awaits : (accounts : Book) (s mid : State) → IsLoaded s.talk s.talk.phase → Prepares accounts s s.talk.phase mid → wish_of mid ≡ ToAwait
+    → IsToldAll s.talk.phase → s.talk.phase ≡ Resting
 awaits accounts s mid loaded prepares w told = awaits_at accounts s mid s.talk.phase refl told loaded prepares w
+
+-- a flow that rests handles nothing first
+pub rests_on : (accounts : Book) (s mid : State) → Prepares accounts s s.talk.phase mid → s.talk.phase ≡ Resting → mid ≡ s
+rests_on accounts s mid prepares rest = subst (λ (p : Phase). Prepares accounts s p mid) rest prepares
 
 -- what was submitted has a reply to come
 no_event : (text : List ℕ) (e : Event) → ToSay text ≡ ToSubmit e → ⊥
@@ -126,15 +130,15 @@ submitted s (Drawn dice) e at w = absurd (let d : ToAwait ≡ ToSubmit e = w in 
 submitted s (Entered pulls) e at w = absurd (let d : ToAwait ≡ ToSubmit e = w in cc)
 submitted s LoggedIn e at w = absurd (let d : ToAwait ≡ ToSubmit e = w in cc)
 
-no_draw_event : (e : Option Event) → event_wish e ≡ ToDraw → ⊥
+pub no_draw_event : (e : Option Event) → event_wish e ≡ ToDraw → ⊥
 no_draw_event (Some e) w = cc
 no_draw_event None w = cc
 
-no_draw_login : (w : ℕ) (user : Option (List ℕ)) → login_wish w user ≡ ToDraw → ⊥
+pub no_draw_login : (w : ℕ) (user : Option (List ℕ)) → login_wish w user ≡ ToDraw → ⊥
 no_draw_login n (Some user) w = cc
 no_draw_login n None w = cc
 
-no_draw_end : (text : Option (List ℕ)) (x : Ended) → parting_wish text x ≡ ToDraw → ⊥
+pub no_draw_end : (text : Option (List ℕ)) (x : Ended) → parting_wish text x ≡ ToDraw → ⊥
 no_draw_end (Some text) x w = cc
 no_draw_end None x w = cc
 
@@ -164,11 +168,11 @@ refused_told : (few more : Bool) (x : Ended) → IsToldAll (if few then handled_
 refused_told true more x = handled_told more
 refused_told false more x = tt
 
-no_event_text : (e : Option Event) (text : List ℕ) → event_wish e ≡ ToSay text → ⊥
+pub no_event_text : (e : Option Event) (text : List ℕ) → event_wish e ≡ ToSay text → ⊥
 no_event_text (Some e) text w = cc
 no_event_text None text w = cc
 
-no_login_text : (n : ℕ) (user : Option (List ℕ)) (text : List ℕ) → login_wish n user ≡ ToSay text → ⊥
+pub no_login_text : (n : ℕ) (user : Option (List ℕ)) (text : List ℕ) → login_wish n user ≡ ToSay text → ⊥
 no_login_text n (Some user) text w = cc
 no_login_text n None text w = cc
 
@@ -200,7 +204,8 @@ waits_after accounts s (Submit e) s' loaded h =
 waits_after accounts s NeedDice s' loaded h =
     subst (λ (x : State). x.talk.phase ≡ Drawing) (sym h.3) (needs h.0.talk h.0.talk.phase refl h.2)
 waits_after accounts s Await s' loaded h = λ told.
-    let rest : h.0.talk.phase ≡ Resting = awaits accounts s h.0 loaded h.1 h.2 told in
+    let was : s.talk.phase ≡ Resting = awaits accounts s h.0 loaded h.1 h.2 told in
+    let rest : h.0.talk.phase ≡ Resting = ap (λ (x : State). x.talk.phase) (rests_on accounts s h.0 h.1 was) ∙ was in
     subst (λ (x : State). x.talk.phase ≡ Resting) (sym h.3) (subst (λ (p : Phase). (wished h.0.talk p).phase ≡ Resting) (sym rest) rest)
 
 pub waits_then : (accounts : Book) (s : State) {E : Type 0} (r : Result Want E) (s' : State) → IsLoaded s.talk s.talk.phase

@@ -1,2 +1,7 @@
 mod Afters
 mod Replies
+pub mod ItemEnds
+mod Ends
+mod Reasoning
+mod ReplyEnds
+mod Calling

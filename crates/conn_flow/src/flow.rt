@@ -1,13 +1,15 @@
 //! A connection without its socket.
 
-ghost use Rattle.std.specs.Prelude.{◌≡◌, true, IfOk, OnErr, OnOk};
+ghost use Rattle.std.specs.Prelude.{◌≡◌, ◌↔◌, true, IfOk, OnErr, OnOk};
 ghost use Rattle.std.specs.Option.{option_copied};
 ghost use Rattle.stream_grammar.specs.machine.Reading.{handed, is_ready, waiting};
 ghost use Rattle.conn_asks.specs.declared.ended.Ended.TheVariants as ended;
 ghost use Rattle.conn_asks.specs.Texts.{stream_id};
 ghost use Rattle.conn_flow.specs.declared.phase.Phase.TheVariants as phase;
 ghost use Rattle.conn_flow.specs.Flows.{IsAfter, IsGoing, IsLoaded, IsReadyAt, IsTold, IsToldAll, Prepares, State, Takes, Wants};
+ghost use Rattle.conn_flow.specs.declared.want.Want.TheVariants as wants;
 ghost use Rattle.conn_flow.specs.Flows.{fresh, gave_at, hears, hung_at, is_late, late_at, short_at, taken_of, logged_user, told, waited};
+ghost use Rattle.conn_flow.specs.Reasons.{EndsBy, Finishes, FinishesOwn, IsIdle, IsOwnIf, LeavesNothing, NeedsDice, RestsBy, end_at, end_by};
 
 use crate::phase::Phase;
 use crate::talk::Talk;
@@ -34,6 +36,7 @@ impl Model for Flow {
     ghost use Rattle.std.specs.Coded.{codes};
     ghost use Rattle.stanza_tree.specs.contracts.node.Node as node;
     ghost use Rattle.conn_flow.specs.Flows.{IsLoaded, IsReadyAt, State};
+    ghost use Rattle.conn_flow.specs.Reasons.{IsOwnIf, end_at};
 
     ghost Value = { State };
 
@@ -41,7 +44,7 @@ impl Model for Flow {
 
     ghost view = { λ f. record { fed = f.framer; talk = f.talk } };
 
-    ghost invariant = { λ f. IsReadyAt f.talk.phase f.framer.reading × IsLoaded f.talk f.talk.phase };
+    ghost invariant = { λ f. IsReadyAt f.talk.phase f.framer.reading × IsLoaded f.talk f.talk.phase × IsOwnIf (end_at f.talk.phase) };
 }
 
 impl Drop for Flow {
@@ -200,12 +203,21 @@ impl Flow {
         self.talk.hang(moment);
     }
 
-    /// What is wanted next. Want of memory leaves the flow able to finish only.
+    /// What is wanted next. Want of memory leaves the flow able to finish only. It waits exactly where all that it heard is handled and nothing is
+    /// left to be done, needs random bytes exactly where they were asked for, and finishes exactly where an end stands and its last text was said.
+    /// Which calls leave nothing to be done, and which make each end, is told by the laws `a_flow_rests_after_its_last_reply` and
+    /// `each_end_was_made`.
     pub fn next(&mut self, accounts: &Accounts) -> Result<Want, NoMemory>
         ensures wants { IfOk result (λ want. Wants accounts.now self.old want self.new) }
         ensures err { OnErr result (self.new.talk.phase ≡ phase.Left ended.NoMemory) }
         ensures going { OnErr result (IsGoing self.old.talk self.old.talk.phase) }
         ensures after { IfOk result (λ want. IsAfter self.old.talk.phase want self.new.talk.phase) }
+        ensures awaits { IfOk result (λ want. IsToldAll self.old.talk.phase → (want ≡ wants.Await) ↔ IsIdle self.old) }
+        ensures rests { IfOk result (λ want. (self.new.talk.phase ≡ phase.Resting) ↔ RestsBy self.old.talk.phase self.new.talk want) }
+        ensures dice { IfOk result (λ want. (want ≡ wants.NeedDice) ↔ NeedsDice self.old self.new) }
+        ensures finishes { IfOk result (λ want. Finishes self.old.talk.phase want (end_at self.new.talk.phase)) }
+        ensures ends { IfOk result (λ want. EndsBy (end_at self.old.talk.phase) (end_at self.new.talk.phase)) }
+        ensures own { IfOk result (λ want. FinishesOwn want) }
     {
         match next_want(self.alloc, accounts, &mut self.framer, &mut self.talk) {
             Ok(want) => Ok(want),
@@ -222,6 +234,8 @@ impl Flow {
         requires { IsTold self.old.talk.phase }
         ensures state { self.new ≡ told self.old reply }
         ensures told { IsToldAll self.new.talk.phase }
+        ensures ends { end_at self.new.talk.phase ≡ end_by self.old.talk.phase reply }
+        ensures rests { (self.new.talk.phase ≡ phase.Resting) ↔ LeavesNothing self.old.talk.more self.old.talk.phase reply }
     {
         if self.talk.told(reply) {
             self.framer.restart();

@@ -1,7 +1,9 @@
 //! A connection without its socket (RFC 6120): bytes go in, texts and events come out.
 #![tactic(auto)]
 
+mod calls;
 mod flow;
+pub mod laws;
 mod phase;
 mod saying;
 mod talk;

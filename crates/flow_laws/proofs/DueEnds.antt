@@ -16,7 +16,7 @@ use Rattle.conn_flow.specs.Duties.{AsksIf, Site, Due, Opens, Rest, Text, Id, Dic
 use Rattle.conn_flow.specs.Duties.{Left, Duty, asked_due, counts_failure, end_due, error_due, follows, numbered}
 use Rattle.conn_flow.specs.Following.{TakesDue, rest_due}
 use Rattle.flow_laws.specs.Causes.{AsksEnd, IsThird, Makes}
-use Rattle.flow_laws.proofs.ItemEnds.{IsItemEnd, asks_ends}
+use Rattle.conn_flow.proofs.ItemEnds.{IsItemEnd, asks_ends}
 
 -- the end is due
 abbrev pub IsDue : Ended → List Due → Type 0

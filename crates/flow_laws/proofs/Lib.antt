@@ -10,6 +10,5 @@ pub mod Answering
 pub mod Submitting
 pub mod Drawing
 pub mod Ending
-pub mod ItemEnds
 pub mod DueEnds
 pub mod Causing
