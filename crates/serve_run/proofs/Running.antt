@@ -21,7 +21,7 @@ use Rattle.conn_staff.specs.declared.roster.Worked.{Worked}
 use Rattle.conn_staff.specs.declared.roster.Worked.TheVariants.{PollFault, Shut}
 use Rattle.conn_staff.specs.Staffs.{AllEnded, PostTelling, Staffed, places_of, worked_by}
 use Rattle.serve_run.proofs.Pollers.{dice-counted, links-added, places-many, quotas-filled}
-use Rattle.serve_run.specs.Services.{AllOpened, Gathered, IsRefused, LeftUnserved, ListeningFailed, Ran, ReadsList, Refused}
+use Rattle.serve_run.specs.Services.{AllOpened, CameShort, Gathered, IsRefused, LeftUnserved, ListeningFailed, Ran, ReadsList, Refused}
 use Rattle.serve_run.specs.Services.{Served, ServedBy, SomeRose, Tally, Unserved, address_at, report}
 
 -- Workers: each poller shut, or one failed.
@@ -182,13 +182,15 @@ ports_refused (Err s) list f0 f1 f2 f3 k0 k2 (inr (failed, rose)) = inr (failed,
 by_status : (port workers links quota : ℕ) (ports ports' : Tally) (s : Status) → Unserved port workers links quota ports ports'
     → LeftUnserved port workers links quota ports ports' s
 by_status port workers links quota ports ports' (status.Accounts n) left = left
-by_status port workers links quota ports ports' status.ListenFault left = inr left
-by_status port workers links quota ports ports' status.Done left = tt
-by_status port workers links quota ports ports' status.NoMemory left = tt
-by_status port workers links quota ports ports' status.ReadFault left = tt
-by_status port workers links quota ports ports' status.WriteFault left = tt
-by_status port workers links quota ports ports' status.Usage left = tt
-by_status port workers links quota ports ports' (status.Script n) left = tt
+by_status port workers links quota ports ports' s left = inr left
+
+-- nothing listened
+pub never_listened : (port workers links quota : ℕ) (ports ports' : Tally) (s : Status) → (s ≡ status.ListenFault) ⊎ (s ≡ status.NoMemory)
+    → ports'.tapes ≡ ports.tapes → ports'.links ≡ ports.links → ports'.dice ≡ ports.dice → LeftUnserved port workers links quota ports ports' s
+never_listened port workers links quota ports ports' s (inl is) tapes came dice =
+    subst (λ (x : Status). LeftUnserved port workers links quota ports ports' x) (sym is) (inl (record { tapes = tapes; links = came; dice = dice }))
+never_listened port workers links quota ports ports' s (inr is) tapes came dice =
+    subst (λ (x : Status). LeftUnserved port workers links quota ports ports' x) (sym is) (inl (record { tapes = tapes; links = came; dice = dice }))
 
 -- posts that came back as they were
 pub ports_unserved : (r : Result (HouseRecord × Worked) Status) (port workers links quota : ℕ) (ports ports' : Tally) (T : Type 0) (tell : T → PostTelling)
@@ -280,6 +282,15 @@ write-accounts n is = absurd (let k : status.WriteFault ≡ status.Accounts n = 
 pub write-read : status.WriteFault ≡ status.ReadFault → ⊥
 write-read is = absurd (let k : status.WriteFault ≡ status.ReadFault = is in cc)
 
+pub write-memory : status.WriteFault ≡ status.NoMemory → ⊥
+write-memory is = absurd (let k : status.WriteFault ≡ status.NoMemory = is in cc)
+
+pub listen-memory : status.ListenFault ≡ status.NoMemory → ⊥
+listen-memory is = absurd (let k : status.ListenFault ≡ status.NoMemory = is in cc)
+
+pub listen-read : status.ListenFault ≡ status.ReadFault → ⊥
+listen-read is = absurd (let k : status.ListenFault ≡ status.ReadFault = is in cc)
+
 pub write-listen : status.WriteFault ≡ status.ListenFault → ⊥
 write-listen is = absurd (let k : status.WriteFault ≡ status.ListenFault = is in cc)
 
@@ -323,3 +334,22 @@ pub run_failed : (domain : Address) (port workers links quota : ℕ) (list : Lis
     → ListeningFailed domain port workers links quota list ports ports'
 run_failed domain port workers links quota list ports ports' house worked failed (x, same) =
     inr (inr (subst (λ (w : Worked). Ran w domain port workers links quota list ports ports') failed x))
+
+-- where memory was wanting
+
+pub short_unserved : (left left' : Option (List ℕ)) (domain : Address) (port workers links quota : ℕ) (ports ports' : Tally) (s : Status)
+    → LeftUnserved port workers links quota ports ports' s → s ≡ status.NoMemory → CameShort left left' domain port workers links quota ports ports'
+short_unserved left left' domain port workers links quota ports ports' s unserved is =
+    elim (subst (λ (x : Status). LeftUnserved port workers links quota ports ports' x) is unserved) [ inl never ↦ inl never | inr back ↦ inr (inl back) ]
+
+pub short_line : (left left' : Option (List ℕ)) (domain : Address) (port workers links quota : ℕ) (list : List ℕ) (ports ports' : Tally)
+    (house : HouseRecord) (worked : Worked) → worked ≡ Shut → (x : Ran worked domain port workers links quota list ports ports') × (x.kept ≡ held house)
+    → ReadsList left left' list → CameShort left left' domain port workers links quota ports ports'
+short_line left left' domain port workers links quota list ports ports' house worked shut (x, same) reads =
+    inr (inr (list, reads, subst (λ (w : Worked). Ran w domain port workers links quota list ports ports') shut x))
+
+-- and what is refused is no fault of the source
+pub refused-read : (list : List ℕ) (s : Status) (X Y : Type 0) → Refused list s X → s ≡ status.ReadFault → Y
+refused-read list s X Y (inl refused) is = absurd (subst (λ (x : Status). IsRefused (entries_of list) x) is refused)
+refused-read list s X Y (inr (failed, rose)) is =
+    absurd (let k : status.ListenFault ≡ status.ReadFault = sym failed ∙ is in cc)

@@ -135,6 +135,13 @@ ListeningFailed domain port workers links quota list ports now_ports =
     NeverListened ports now_ports ⊎ Unserved port workers links quota ports now_ports
     ⊎ Ran PollFault domain port workers links quota list ports now_ports
 
+-- What was left where memory was wanting: for what listens, and nothing listened; for what serves, and nothing was served; or for the line, after each
+-- poller shut.
+abbrev pub CameShort : (left now : Option (List ℕ)) → Address → (port workers links quota : ℕ) → (ports now_ports : Tally) → Type 0
+CameShort left now domain port workers links quota ports now_ports =
+    NeverListened ports now_ports ⊎ Unserved port workers links quota ports now_ports
+    ⊎ ((list : List ℕ) × ReadsList left now list × Ran Shut domain port workers links quota list ports now_ports)
+
 -- Parts of a run.
 
 -- a poller failed
@@ -156,6 +163,4 @@ Refused list s failed = IsRefused (entries_of list) s ⊎ ((s ≡ status.ListenF
 -- what was left where nothing was served, by the status
 abbrev pub LeftUnserved : (port workers links quota : ℕ) → (ports now_ports : Tally) → Status → Type 0
 LeftUnserved port workers links quota ports now_ports (status.Accounts n) = Unserved port workers links quota ports now_ports
-LeftUnserved port workers links quota ports now_ports status.ListenFault =
-    NeverListened ports now_ports ⊎ Unserved port workers links quota ports now_ports
-LeftUnserved port workers links quota ports now_ports s = ⊤
+LeftUnserved port workers links quota ports now_ports s = NeverListened ports now_ports ⊎ Unserved port workers links quota ports now_ports

@@ -10,7 +10,7 @@ ghost use Rattle.house_model.specs.States.{State, opening};
 ghost use Rattle.outside.specs.Devices.{Rose};
 ghost use Rattle.conn_staff.specs.Staffs.{Staffed, post_told};
 ghost use Rattle.script_play.specs.Runs.{Front};
-ghost use Rattle.serve_run.specs.Services.{IsRefused, LeftUnserved, ListeningFailed, Ran, ReadsList, Refused, Served, ServedBy, Unserved, address_at, tally};
+ghost use Rattle.serve_run.specs.Services.{CameShort, IsRefused, LeftUnserved, ListeningFailed, Ran, ReadsList, Refused, Served, ServedBy, Unserved, address_at, tally};
 
 use crate::list::read_list;
 use crate::opening::{accounts_of, house_of, secret_of};
@@ -246,6 +246,11 @@ where
         × ListeningFailed serving.now.domain serving.now.port serving.now.workers serving.now.links serving.now.connections list
         (tally (P.tapes ports.old) (P.links ports.old) (P.dice_faults ports.old) (P.address ports.old))
         (tally (P.tapes ports.new) (P.links ports.new) (P.dice_faults ports.new) (P.address ports.new))) }
+    ensures short { IfErr result (λ s. s ≡ Status.NoMemory → CameShort (S.left source.old) (S.left source.new)
+        serving.now.domain serving.now.port serving.now.workers serving.now.links serving.now.connections
+        (tally (P.tapes ports.old) (P.links ports.old) (P.dice_faults ports.old) (P.address ports.old))
+        (tally (P.tapes ports.new) (P.links ports.new) (P.dice_faults ports.new) (P.address ports.new))) }
+    ensures unread { IfErr result (λ s. s ≡ Status.ReadFault → ports.new ≡ ports.old) }
     ensures read { IfErr result (λ s. s ≡ Status.ReadFault → Rose (S.faults source.old) (S.faults source.new)) }
     ensures written { IfErr result (λ s. s ≡ Status.WriteFault → Rose (K.faults sink.old) (K.faults sink.new)) }
     ensures listened { IfErr result (λ s. s ≡ Status.ListenFault → Rose (P.faults ports.old) (P.faults ports.new)) }
@@ -266,7 +271,8 @@ where
 ///
 /// `Accounts` tells the first line at fault. `ReadFault`, `WriteFault` and `ListenFault` come only where the source, the sink, or the ports and their
 /// pollers count a fault; what listens is given back to the ports in any case. At `WriteFault` the server ran to its end and a front of the line is
-/// printed; at any other fault nothing is. At `ListenFault` either nothing was served, or the server served until each poller shut or failed.
+/// printed; at any other fault nothing is. At `ListenFault` either nothing was served, or the server served until each poller shut or failed; at
+/// `NoMemory` nothing listened, or nothing was served, or the server ran to its end; and at `ReadFault` the ports are as they were.
 pub fn serve<R: Threads + Wait + Sync, S: Source, K: Sink, P: Ports>(
     rt: &R,
     alloc: Global,
@@ -302,6 +308,11 @@ where
         × ListeningFailed serving.now.domain serving.now.port serving.now.workers serving.now.links serving.now.connections list
         (tally (P.tapes ports.old) (P.links ports.old) (P.dice_faults ports.old) (P.address ports.old))
         (tally (P.tapes ports.new) (P.links ports.new) (P.dice_faults ports.new) (P.address ports.new)) }
+    ensures short { result ≡ Status.NoMemory → CameShort (S.left source.old) (S.left source.new)
+        serving.now.domain serving.now.port serving.now.workers serving.now.links serving.now.connections
+        (tally (P.tapes ports.old) (P.links ports.old) (P.dice_faults ports.old) (P.address ports.old))
+        (tally (P.tapes ports.new) (P.links ports.new) (P.dice_faults ports.new) (P.address ports.new)) }
+    ensures unread { result ≡ Status.ReadFault → ports.new ≡ ports.old }
     ensures read { result ≡ Status.ReadFault → Rose (S.faults source.old) (S.faults source.new) }
     ensures written { result ≡ Status.WriteFault → Rose (K.faults sink.old) (K.faults sink.new) }
     ensures listened { result ≡ Status.ListenFault → Rose (P.faults ports.old) (P.faults ports.new) }
