@@ -1,4 +1,4 @@
-//! The outside in memory, and values that no script and no story of a connection shows: tests of `outside`, `jid_core`,
+//! The outside in memory, and values that no script and no story of a connection shows: tests of `outside`, `stanza_tree`, `jid_core`,
 //! `stanza_model`, `stanza_router`, `stream_frames` and `conn_asks` by their public calls. They stand apart from these crates, since a crate with
 //! tests is proved twice.
 #![tactic(auto)]
@@ -7,6 +7,8 @@
 mod addresses;
 #[cfg(test)]
 mod devices;
+#[cfg(test)]
+mod elements;
 #[cfg(test)]
 mod heard;
 #[cfg(test)]
