@@ -109,7 +109,7 @@ all-differ accounts a h fresh =
     ap are_distinct (map-append (λ x. x.name) accounts (a ∷ []))
     ∙ distinct-more a.name (names_of accounts) h (name-among a.name accounts ∙ fresh)
 
-pub one-more : (accounts : List Account) (a : Account) (new : List Account) → new ≡ accounts ++ a ∷ [] → length accounts < 4096 → length new ≤ 4096
+pub one-more : (accounts : List Account) (a : Account) (new : List Account) → new ≡ accounts ++ a ∷ [] → length accounts < 65536 → length new ≤ 65536
 one-more accounts a new is few = let l = ap length is ∙ length-append accounts (a ∷ []) in omega (arith, l, few)
 
 -- the account of a name has that name

@@ -41,14 +41,14 @@ line_of line = need kind.Fields (fields_of line) entry_in
 abbrev pub has_name : List Entry → List ℕ → Bool
 has_name entries name = list_any (λ e. bytes_eq name e.name) entries
 
--- an account after those of the lines before it: its name is new, and there are at most 4,096
-abbrev pub joined : List Entry → Result Entry LineKind → Result Entry LineKind
-joined earlier (Err k) = Err k
-joined earlier (Ok e) = if has_name earlier e.name then Err kind.Twice else if nat_lt (length earlier) 4096 then Ok e else Err kind.TooMany
+-- an account after those of the lines before it: its name is new, and there are at most so many
+abbrev pub joined : (most : ℕ) → List Entry → Result Entry LineKind → Result Entry LineKind
+joined most earlier (Err k) = Err k
+joined most earlier (Ok e) = if has_name earlier e.name then Err kind.Twice else if nat_lt (length earlier) most then Ok e else Err kind.TooMany
 
--- the account of a line after those of the lines before it, or the line's first fault
-abbrev pub line_after : List Entry → List ℕ → Result Entry LineKind
-line_after earlier line = joined earlier (line_of line)
+-- the account of a line after those of the lines before it, of at most so many, or the line's first fault
+abbrev pub line_after : (most : ℕ) → List Entry → List ℕ → Result Entry LineKind
+line_after most earlier line = joined most earlier (line_of line)
 
 -- why a field was not read: it has this fault. Want of memory has no cause here.
 abbrev pub IsFault : {X : Type 0} → LineKind → Option X → LineFault → Type 0

@@ -27,14 +27,18 @@ abbrev pub go_on : List Entry → Result Entry LineKind → (List Entry → Resu
 go_on earlier (Ok e) more = more (earlier ++ e ∷ [])
 go_on earlier (Err k) more = Err (suc (length earlier), k)
 
--- the accounts of lines, after those of the lines before them
-abbrev pub entries_after : List Entry → List (List ℕ) → Result (List Entry) (ℕ × LineKind)
-entries_after earlier [] = Ok earlier
-entries_after earlier (line ∷ more) = go_on earlier (line_after earlier line) (λ entries. entries_after entries more)
+-- the accounts of lines, after those of the lines before them, at most so many in all
+abbrev pub entries_after : (most : ℕ) → List Entry → List (List ℕ) → Result (List Entry) (ℕ × LineKind)
+entries_after most earlier [] = Ok earlier
+entries_after most earlier (line ∷ more) = go_on earlier (line_after most earlier line) (λ entries. entries_after most entries more)
 
--- the accounts of a list
+-- the accounts of a list of at most so many
+abbrev pub entries_within : (most : ℕ) → List ℕ → Result (List Entry) (ℕ × LineKind)
+entries_within most bytes = entries_after most [] (lines_of bytes)
+
+-- the accounts of a list of at most 4,096
 abbrev pub entries_of : List ℕ → Result (List Entry) (ℕ × LineKind)
-entries_of bytes = entries_after [] (lines_of bytes)
+entries_of bytes = entries_within 4096 bytes
 
 -- the names of accounts, in their order
 abbrev pub names_of : List Account → List (List ℕ)

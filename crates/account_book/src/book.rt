@@ -9,7 +9,7 @@ ghost use Rattle.jid_core.specs.Names.{are_distinct};
 ghost use Rattle.jid_core.specs.Preparation.{is_local};
 ghost use Rattle.account_book.specs.Entries.{entry_of};
 ghost use Rattle.account_book.specs.Lines.{line_after, has_name, Reads};
-ghost use Rattle.account_book.specs.Lists.{names_of, entries_of, named, IsNext, Gives};
+ghost use Rattle.account_book.specs.Lists.{names_of, entries_of, entries_within, named, IsNext, Gives};
 
 use crate::account::Account;
 use crate::fault::{BookFault, LineFault, LineKind};
@@ -20,7 +20,7 @@ use indexmap::IndexSet;
 use std::alloc::{AllocError, Global};
 use std::marker::Model;
 
-/// How many accounts a list may have: as many users as a house takes.
+/// How many accounts a list has at most where nothing else is said.
 const MOST_ACCOUNTS: usize = 4096;
 
 /// The accounts of a list, each with a name of its own.
@@ -46,7 +46,7 @@ impl Model for Accounts {
 
     ghost invariant = { λ b. (map (λ k. k.items) b.names.keys ≡ names_of b.accounts.items)
         × IsTrue (list_all is_local (names_of b.accounts.items)) × IsTrue (are_distinct (names_of b.accounts.items))
-        × (length b.accounts.items ≤ 4096) };
+        × (length b.accounts.items ≤ 65536) };
 }
 
 impl Accounts {
@@ -74,7 +74,7 @@ impl Accounts {
         ensures accounts { result.now ≡ self.now.accounts }
         ensures prepared { IsTrue (list_all is_local (names_of result.now)) }
         ensures differ { IsTrue (are_distinct (names_of result.now)) }
-        ensures few { length result.now ≤ 4096 }
+        ensures few { length result.now ≤ 65536 }
     {
         self.accounts.as_slice()
     }
@@ -99,7 +99,7 @@ impl Accounts {
     fn with(self, alloc: Global, account: Account) -> Result<Accounts, AllocError>
         requires new { has_name (map entry_of self.accounts) account.name ≡ false }
         requires local { IsTrue (is_local account.name) }
-        requires few { length self.accounts < 4096 }
+        requires few { length self.accounts < 65536 }
         ensures { IfOk result (λ book. book ≡ record { accounts = self.accounts ++ account ∷ []; secret = self.secret }) }
     {
         let mut book = self;
@@ -109,18 +109,18 @@ impl Accounts {
         Ok(book)
     }
 
-    /// The account of a line that stands after those of these accounts.
-    fn judge(&self, alloc: Global, line: &[u8]) -> Result<Account, LineFault>
-        ensures read { Reads (line_after (map entry_of self.now.accounts) line.now) result }
+    /// The account of a line that stands after those of these accounts, of at most so many.
+    fn judge(&self, alloc: Global, line: &[u8], most: usize) -> Result<Account, LineFault>
+        ensures read { Reads (line_after most (map entry_of self.now.accounts) line.now) result }
         ensures new { IfOk result (λ account. has_name (map entry_of self.now.accounts) account.name ≡ false) }
         ensures local { IfOk result (λ account. IsTrue (is_local account.name)) }
-        ensures few { IsOk result → length self.now.accounts < 4096 }
+        ensures few { IsOk result → length self.now.accounts < most }
     {
         let account = read_line(alloc, line)?;
         if self.has(account.name.bytes()) {
             return Err(LineFault::Faulty(LineKind::Twice));
         }
-        if self.accounts.len() < MOST_ACCOUNTS {
+        if self.accounts.len() < most {
             Ok(account)
         } else {
             Err(LineFault::Faulty(LineKind::TooMany))
@@ -128,13 +128,13 @@ impl Accounts {
     }
 
     /// The same, with the number of the line in its fault.
-    fn next_account(&self, alloc: Global, line: &[u8]) -> Result<Account, BookFault>
-        ensures read { IsNext self.now.accounts (line_after (map entry_of self.now.accounts) line.now) result }
+    fn next_account(&self, alloc: Global, line: &[u8], most: usize) -> Result<Account, BookFault>
+        ensures read { IsNext self.now.accounts (line_after most (map entry_of self.now.accounts) line.now) result }
         ensures new { IfOk result (λ account. has_name (map entry_of self.now.accounts) account.name ≡ false) }
         ensures local { IfOk result (λ account. IsTrue (is_local account.name)) }
-        ensures few { IsOk result → length self.now.accounts < 4096 }
+        ensures few { IsOk result → length self.now.accounts < most }
     {
-        match self.judge(alloc, line) {
+        match self.judge(alloc, line, most) {
             Ok(account) => Ok(account),
             Err(LineFault::NoMemory) => Err(BookFault::NoMemory),
             Err(LineFault::Faulty(kind)) => Err(BookFault::Line {
@@ -144,19 +144,33 @@ impl Accounts {
         }
     }
 
-    /// The accounts of a list. Its bytes are read once, and each name is sought once.
+    /// The accounts of a list of at most 4,096: see [`Accounts::read_most`].
+    pub fn read(alloc: Global, bytes: &[u8], secret: [u8; 32]) -> Result<Accounts, BookFault>
+        ensures read { Gives (entries_of bytes.now) result }
+        ensures secret { IfOk result (λ book. book.secret ≡ secret) }
+    {
+        Accounts::read_most(alloc, bytes, secret, MOST_ACCOUNTS)
+    }
+
+    /// The accounts of a list of at most so many. Its bytes are read once, and each name is sought once.
     ///
     /// The first line at fault is told by its number, from 1, with the first [`LineKind`] that fits it. A list without lines has no
     /// accounts. The secret is the key of [`Accounts::decoy`].
-    pub fn read(alloc: Global, bytes: &[u8], secret: [u8; 32]) -> Result<Accounts, BookFault>
-        ensures read { Gives (entries_of bytes.now) result }
+    pub fn read_most(
+        alloc: Global,
+        bytes: &[u8],
+        secret: [u8; 32],
+        most: usize,
+    ) -> Result<Accounts, BookFault>
+        requires few { most ≤ 65536 }
+        ensures read { Gives (entries_within most bytes.now) result }
         ensures secret { IfOk result (λ book. book.secret ≡ secret) }
     {
         let mut book = Accounts::new(alloc, secret);
         let mut rest = bytes;
         while !rest.is_empty() {
             let (line, more) = first_line(rest);
-            let account = book.next_account(alloc, line)?;
+            let account = book.next_account(alloc, line, most)?;
             book = book.with(alloc, account)?;
             rest = more;
         }

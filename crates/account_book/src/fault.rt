@@ -18,7 +18,7 @@ pub enum LineKind {
     Key,
     /// An earlier line has the same name.
     Twice,
-    /// 4,096 lines stand before it.
+    /// As many lines stand before it as the list may have.
     TooMany,
 }
 

@@ -1,5 +1,5 @@
-//! A list of accounts, one line each: [`make_line`] makes a line from a password, [`Accounts::read`] reads a list, and
-//! [`Accounts::find`] finds the account of a name.
+//! A list of accounts, one line each: [`make_line`] makes a line from a password, [`Accounts::read`] and [`Accounts::read_most`]
+//! read a list, and [`Accounts::find`] finds the account of a name.
 //!
 //! A line is `NAME ROUNDS SALT STORED1 SERVER1 STORED256 SERVER256` with one space between its fields and LF at its end. NAME is a
 //! prepared local part (RFC 7622, section 3.3). ROUNDS is a decimal from 4096 to 1000000 without leading zeros. The others are base64

@@ -1,6 +1,6 @@
 -- The folders stand for the book, change by change.
 use Rattle.std.proofs.Common.{◌≡◌, ℕ, ◌<◌, List, [], ◌∷◌, map, Bool, true, false, ◌&&◌, ◌||◌, cond, bytes_eq, filter}
-use Rattle.std.proofs.Common.{Option, Some, None, is_some, refl, sym, ap, subst, ◌∙◌, arith}
+use Rattle.std.proofs.Common.{Option, Some, None, Result, Ok, Err, IfOk, is_some, refl, sym, ap, subst, ◌∙◌, arith}
 use Rattle.std.proofs.lemmas.Bool.{and_parts}
 use Rattle.std.specs.List.{list_all}
 use Rattle.jid_core.specs.Addresses.{Address}
@@ -155,3 +155,8 @@ pub owner_by : (domain word user : List ℕ) (k : Book) (es : Entries) (f : Fold
     → f.roster.owner ≡ bare_of domain user
 owner_by domain word user k es f same found kept =
     (subst (IsOwn domain user) (sym (found ∙ ap (λ (m : List ℕ). folder_at m es) same)) (kept.own user)).0
+
+-- what a list that was made is, under an equation
+pub ok_carried : {X Y E : Type 0} (r : Result X E) (f : X → Y) (a b : Y) → IfOk r (λ v. f v ≡ a) → a ≡ b → IfOk r (λ v. f v ≡ b)
+ok_carried (Ok v) f a b is same = is ∙ same
+ok_carried (Err e) f a b is same = tt

@@ -1,6 +1,5 @@
 pub mod ByteLemmas
-mod OrderLemmas
-mod ArrangedLemmas
+pub mod OrderLemmas
 mod ContactLemmas
 mod NameLemmas
 mod ListedLemmas

@@ -1,4 +1,3 @@
-pub mod Arranged
 pub mod Books
 pub mod Folders
 pub mod Marks

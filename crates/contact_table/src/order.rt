@@ -1,12 +1,10 @@
 //! Users in the order in which they came.
-ghost use Rattle.std.specs.Prelude.{◌≡◌, ◌<◌, ◌≤◌, ◌+◌, [], true, false, bytes_eq, map, IfOk, OnOk};
+ghost use Rattle.std.specs.Prelude.{◌≡◌, ◌<◌, ◌≤◌, ◌+◌, [], true, false, bytes_eq, map, OnOk};
 ghost use Rattle.std.specs.List.{list_any};
-ghost use Rattle.contact_table.specs.Arranged.{arranged};
-ghost use Rattle.contact_table.specs.Orders.{place_of, with_places, with_user};
+ghost use Rattle.contact_table.specs.Orders.{with_user};
 
 use indexmap::IndexSet;
 use jid_core::Part;
-use stanza_model::Here;
 use stanza_tree::NoMemory;
 use std::alloc::Global;
 use std::marker::Model;
@@ -46,42 +44,8 @@ impl Order {
         self.users.contains(user.bytes())
     }
 
-    /// The sessions of these users, in the order of the users, and those of one user in the order in which they stood. Costs one look in
-    /// a hash table for each session, and a sort of those that are found.
-    pub fn arrange(&self, sessions: Vec<Here>) -> Result<Vec<Here>, NoMemory>
-        ensures { IfOk result (λ v. v.items ≡ arranged self.now.users sessions.items) }
-    {
-        let _ = &self.users;
-        let alloc = *sessions.allocator();
-        let mut found = self.find_all(alloc, sessions)?;
-        found.sort_by_key(|pair| pair.0)?;
-        without_places(alloc, found)
-    }
-
-    // The sessions of these users, each with its user's place.
-    fn find_all(&self, alloc: Global, sessions: Vec<Here>) -> Result<Vec<(usize, Here)>, NoMemory>
-        ensures { IfOk result (λ v. v.items ≡ with_places self.now.users sessions.items) }
-    {
-        let mut found = Vec::new(alloc);
-        for session in sessions {
-            if let Some(place) = self.place_of(&session.address.local) {
-                found.push((place, session))?;
-            }
-        }
-        Ok(found)
-    }
-
-    fn place_of(&self, user: &Option<Part>) -> Option<usize>
-        ensures { result ≡ place_of user.now self.now.users }
-    {
-        match user {
-            Some(user) => self.users.get_index_of(user.bytes()),
-            None => None,
-        }
-    }
-
     /// The users' names, in their order.
-    pub(crate) fn names(&self) -> &[Vec<u8>]
+    pub fn names(&self) -> &[Vec<u8>]
         ensures { map (λ k. k.items) result.now ≡ self.now.users }
     {
         self.users.as_slice()
@@ -115,14 +79,4 @@ impl Order {
     {
         self.users.shift_remove(user.bytes());
     }
-}
-
-fn without_places(alloc: Global, found: Vec<(usize, Here)>) -> Result<Vec<Here>, NoMemory>
-    ensures { IfOk result (λ v. v.items ≡ map (λ pair. pair.1) found.items) }
-{
-    let mut sessions = Vec::new(alloc);
-    for (_, session) in found {
-        sessions.push(session)?;
-    }
-    Ok(sessions)
 }

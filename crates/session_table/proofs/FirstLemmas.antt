@@ -73,7 +73,7 @@ first_is P test to from t rises = record {
 same_bytes : (xs : List ℕ) → bytes_eq xs xs ≡ true
 same_bytes xs = (bytes_decides xs xs).1 refl
 
-same_part_itself : (p : Option (List ℕ)) → same_part p p ≡ true
+pub same_part_itself : (p : Option (List ℕ)) → same_part p p ≡ true
 same_part_itself None = refl
 same_part_itself (Some bytes) = same_bytes bytes
 

@@ -1,4 +1,10 @@
+pub mod ChainLemmas
 pub mod FirstLemmas
-pub mod IndexLemmas
+pub mod LinkLemmas
 pub mod ListLemmas
+pub mod MomentLemmas
 pub mod NumberLemmas
+pub mod PlaceLemmas
+pub mod PresentLemmas
+pub mod UserLemmas
+pub mod WakeLemmas

@@ -30,7 +30,7 @@ lookup_changed s n f (e ∷ more) = by (nat_eq n e.0) refl (lookup_changed s n f
     by false other after = after
 
 -- no session of a lower number is there
-lookup_below : (n last made : ℕ) (es : List (ℕ × SessionRecord)) → Rises last es made → n ≤ last
+pub lookup_below : (n last made : ℕ) (es : List (ℕ × SessionRecord)) → Rises last es made → n ≤ last
     → lookup (nat_eq n) es ≡ None
 lookup_below n last made [] rises low = refl
 lookup_below n last made (e ∷ more) rises low =

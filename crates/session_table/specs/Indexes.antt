@@ -1,45 +1,146 @@
--- What the code goes by to find a session without looking at all of them.
-use Rattle.std.specs.Prelude.{◌≡◌, ℕ, min, nat_eq, List, [], ◌∷◌, Option, Some, None, if◌then◌else◌}
+-- What the code goes by to find a session without looking at all of them: places in the order of the numbers, which are
+-- left empty where a session was taken away, the moments of the places, and the first session of each user's hash,
+-- from which each leads to the next.
+use Rattle.std.specs.Prelude.{◌≡◌, ◌<◌, ◌≤◌, ◌+◌, ℕ, zero, suc, nat_eq, nat_le, Bool, true, false, is_some, length, List, [], ◌∷◌, Option, Some, None, option_map}
+use Rattle.std.specs.Prelude.{if◌then◌else◌, ⊤, ◌≢◌}
 use Rattle.std.specs.Map.{lookup}
-use Rattle.session_table.specs.declared.life.Life.{Life}
-use Rattle.session_table.specs.declared.life.Life.TheVariants.{Live, Over}
-use Rattle.session_table.specs.Hashes.{address_hash}
+use Rattle.session_table.specs.declared.slots.Slot.{Slot}
+use Rattle.session_table.specs.Hashes.{user_hash}
 use Rattle.session_table.specs.Sessions.{SessionRecord}
+use Rattle.session_table.specs.Waking.{wake_of}
 
--- the moment from which a session is due; one that has ended is due from the first moment on
-abbrev pub wake_of : Life → Option ℕ → Option ℕ
-wake_of Live deadline = deadline
-wake_of (Over cause) deadline = Some 0
+abbrev pub Slots : Type 0
+Slots = List (ℕ × Slot)
 
--- what the index goes by: the hash of a session's address, and the moment from which it is due
-pub record Known : Type 0 where
-  pub number : ℕ
-  pub hash : ℕ
-  pub wake : Option ℕ
+-- a session before others, where it is there
+abbrev pub before : ℕ → Option SessionRecord → List (ℕ × SessionRecord) → List (ℕ × SessionRecord)
+before number None more = more
+before number (Some s) more = (number, s) ∷ more
 
-abbrev pub known_of : ℕ → SessionRecord → Known
-known_of number s = record { number = number; hash = address_hash s.address; wake = wake_of s.state s.deadline }
+-- the sessions that are there
+abbrev pub present : Slots → List (ℕ × SessionRecord)
+present [] = []
+present (e ∷ more) = before e.0 e.1.session (present more)
 
-abbrev pub known : List (ℕ × SessionRecord) → List Known
-known [] = []
-known (e ∷ more) = known_of e.0 e.1 ∷ known more
+-- the session at a place that may be missing
+abbrev pub session_in : Option Slot → Option SessionRecord
+session_in None = None
+session_in (Some slot) = slot.session
+
+-- the numbers rise from one place to the next, from above `last`, and none is above `made`
+abbrev pub Climbs : ℕ → Slots → ℕ → Type 0
+Climbs last [] made = last ≤ made
+Climbs last (e ∷ more) made = (last < e.0) × Climbs e.0 more made
+
+-- at this place there is this number with this slot
+abbrev pub IsAt : (place number : ℕ) → Slot → Slots → Type 0
+IsAt place number slot [] = ⊥
+IsAt zero number slot (e ∷ more) = (e.0 ≡ number) × (e.1 ≡ slot)
+IsAt (suc place) number slot (e ∷ more) = IsAt place number slot more
+
+-- the place of a number, or none where it has none
+abbrev pub IsPlaceOf : ℕ → Slots → Option ℕ → Type 0
+IsPlaceOf number slots None = lookup (nat_eq number) slots ≡ None
+IsPlaceOf number slots (Some place) = (slot : Slot) × IsAt place number slot slots
+
+-- what becomes of a slot
+abbrev pub with_change : (SessionRecord → SessionRecord) → Slot → Slot
+with_change change slot = record slot { session = option_map change slot.session }
+
+abbrev pub leading_to : Option ℕ → Slot → Slot
+leading_to next slot = record slot { next = next }
+
+abbrev pub emptied : Slot → Slot
+emptied slot = record slot { session = None; next = None }
+
+-- the moment of a place
+abbrev pub wake_in : Option SessionRecord → Option ℕ
+wake_in None = None
+wake_in (Some s) = wake_of s.state s.deadline
+
+-- there are no moments
+abbrev pub AreNone : List (Option ℕ) → Type 0
+AreNone [] = ⊤
+AreNone (m ∷ more) = (m ≡ None) × AreNone more
+
+-- these are the moments of the places, and there may be room for more
+abbrev pub AreWakes : Slots → List (Option ℕ) → Type 0
+AreWakes [] ms = AreNone ms
+AreWakes (e ∷ more) [] = ⊥
+AreWakes (e ∷ more) (m ∷ ms) = (m ≡ wake_in e.1.session) × AreWakes more ms
+
+-- whether a session of this hash is at a place
+abbrev pub has_hash : ℕ → Option SessionRecord → Bool
+has_hash hash None = false
+has_hash hash (Some s) = nat_eq hash (user_hash s.address.local)
 
 -- the first session of a hash
-abbrev pub first_with : ℕ → List Known → Option ℕ
-first_with hash [] = None
-first_with hash (k ∷ more) = if nat_eq hash k.hash then Some k.number else first_with hash more
+abbrev pub first_of : ℕ → Slots → Option ℕ
+first_of hash [] = None
+first_of hash (e ∷ more) = if has_hash hash e.1.session then Some e.0 else first_of hash more
 
-abbrev pub earlier : Option ℕ → Option ℕ → Option ℕ
-earlier None b = b
-earlier (Some a) None = Some a
-earlier (Some a) (Some b) = Some (min a b)
+-- each session leads to the next one of its hash
+abbrev pub AreLinked : Slots → Type 0
+AreLinked [] = ⊤
+AreLinked (e ∷ more) = ((hash : ℕ) → has_hash hash e.1.session ≡ true → e.1.next ≡ first_of hash more) × AreLinked more
 
--- the moment from which the first of them is due
-abbrev pub earliest : List Known → Option ℕ
-earliest [] = None
-earliest (k ∷ more) = earlier k.wake (earliest more)
+-- the heads are the first sessions of the hashes, and the sessions of a hash can be gone through from there
+pub record AreChained (slots : Slots) (heads : List (ℕ × ℕ)) (made : ℕ) : Type 0 where
+  pub climbs : Climbs 0 slots made
+  pub linked : AreLinked slots
+  pub firsts : (hash : ℕ) → lookup (nat_eq hash) heads ≡ first_of hash slots
 
--- the index has the first session of each hash, and the moment of the first that becomes due
-pub record Indexes (places : List (ℕ × ℕ)) (alarm : Option ℕ) (ks : List Known) : Type 0 where
-  pub hashes : (hash : ℕ) → lookup (nat_eq hash) places ≡ first_with hash ks
-  pub earliest : alarm ≡ earliest ks
+-- what is true of every table
+pub record IsIndexed (slots : Slots) (wakes : List (Option ℕ)) (heads : List (ℕ × ℕ)) (made there : ℕ) : Type 0 where
+  pub chained : AreChained slots heads made
+  pub moments : AreWakes slots wakes
+  pub counted : there ≡ length (present slots)
+
+-- the last of the sessions of a hash, or one that is not the first of them
+abbrev pub EndsAt : ℕ → Option ℕ → Slots → Type 0
+EndsAt hash None slots = ⊤
+EndsAt hash (Some number) slots =
+    (place : ℕ) × (slot : Slot) × IsAt place number slot slots × (has_hash hash slot.session ≡ true) × (first_of hash slots ≢ Some number)
+
+-- the place of the session of a hash that leads there
+abbrev pub IsLink : ℕ → Option ℕ → Slots → ℕ → Type 0
+IsLink hash next slots place =
+    (number : ℕ) × (slot : Slot) × IsAt place number slot slots × (has_hash hash slot.session ≡ true) × (slot.next ≡ next)
+
+-- it, or none where no session has the hash
+abbrev pub IsLinkOrNone : ℕ → Option ℕ → Slots → Option ℕ → Type 0
+IsLinkOrNone hash next slots None = first_of hash slots ≡ None
+IsLinkOrNone hash next slots (Some place) = IsLink hash next slots place
+
+-- the places from a number on
+abbrev pub from_number : ℕ → Slots → Slots
+from_number n [] = []
+from_number n (e ∷ more) = if nat_le n e.0 then e ∷ more else from_number n more
+
+-- those from the next session on, where there is one
+abbrev pub from : Option ℕ → Slots → Slots
+from None slots = []
+from (Some n) slots = from_number n slots
+
+-- the same numbers and sessions, which may lead elsewhere
+abbrev pub AreRelinked : Slots → Slots → Type 0
+AreRelinked [] [] = ⊤
+AreRelinked [] (f ∷ rest) = ⊥
+AreRelinked (e ∷ more) [] = ⊥
+AreRelinked (e ∷ more) (f ∷ rest) = (f.0 ≡ e.0) × (f.1.session ≡ e.1.session) × AreRelinked more rest
+
+-- the next session of a hash is there, or none is left
+abbrev pub IsNext : ℕ → Slots → Option ℕ → Type 0
+IsNext hash slots None = ⊤
+IsNext hash slots (Some number) = (place : ℕ) × (slot : Slot) × IsAt place number slot slots × (has_hash hash slot.session ≡ true)
+
+-- the sessions of a hash can be gone through from there
+pub record IsOnWay (hash : ℕ) (slots : Slots) (next : Option ℕ) : Type 0 where
+  pub made : ℕ
+  pub climbs : Climbs 0 slots made
+  pub linked : AreLinked slots
+  pub stands : IsNext hash slots next
+
+-- whether there is a session at a place
+abbrev pub is_filled : ℕ × Slot → Bool
+is_filled e = is_some e.1.session

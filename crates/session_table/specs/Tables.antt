@@ -1,10 +1,10 @@
 -- Lines and sessions by number. A line is a place for a connection; connections and sessions are numbered
 -- from 1 as they come.
-use Rattle.std.specs.Prelude.{◌≡◌, ℕ, ◌+◌, ◌<◌, ◌≤◌, nat_eq, Bool, true, false, List, [], ◌∷◌, ◌++◌, replicate, Option, Some}
+use Rattle.std.specs.Prelude.{◌≡◌, ℕ, ◌+◌, ◌<◌, ◌≤◌, nat_eq, Bool, true, false, List, [], ◌∷◌, ◌++◌, filter, replicate, Option, Some}
 use Rattle.std.specs.Prelude.{None, IfSome, IsSomeAnd, is_some, if◌then◌else◌, slice_index_or, slice_set}
 use Rattle.std.specs.List.{list_any}
 use Rattle.std.specs.Map.{lookup, remove_entry}
-use Rattle.jid_core.specs.Addresses.{Address, same_address}
+use Rattle.jid_core.specs.Addresses.{Address, same_address, same_part}
 use Rattle.sm_resume.specs.declared.decision.Cause.{Cause}
 use Rattle.session_table.specs.declared.life.Life.TheVariants.{Live}
 use Rattle.session_table.specs.declared.line.Line.{Line}
@@ -132,3 +132,11 @@ first_due now sessions = first_that (is_due now) sessions
 pub record IsFirst (P : SessionRecord → Type 0) (t : TableRecord) (answer : Option ℕ) : Type 0 where
   pub found : IfSome answer (λ s. IsThereWith s P t)
   pub least : (s : ℕ) → IsThereWith s P t → IsSomeAnd answer (λ n. n ≤ s)
+
+-- whether a session is of the user whose addresses have this local part
+abbrev pub is_of : Option (List ℕ) → ℕ × SessionRecord → Bool
+is_of local e = same_part e.1.address.local local
+
+-- the sessions of a user
+abbrev pub of_user : Option (List ℕ) → List (ℕ × SessionRecord) → List (ℕ × SessionRecord)
+of_user local sessions = filter (is_of local) sessions

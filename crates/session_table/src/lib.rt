@@ -4,15 +4,19 @@
 //! Only `Table::new` and `Table::reserve` take memory.
 #![tactic(auto)]
 
-mod index;
+mod chains;
 pub mod laws;
 mod life;
 mod line;
-mod search;
+mod room;
 mod session;
+mod slots;
 mod table;
+mod users;
+mod wakes;
 
 pub use life::Life;
 pub use line::Line;
 pub use session::{Own, Session};
 pub use table::Table;
+pub use users::OfUser;

@@ -1,18 +1,19 @@
 //! A session, as the table keeps it.
 
-ghost use Rattle.std.specs.Prelude.{◌≡◌, ℕ, ◌||◌, ◌==◌, Some, is_some, unwrap_or, nat_eq, []};
-ghost use Rattle.std.specs.Hash.FoldHasher as folding;
+ghost use Rattle.std.specs.Prelude.{◌≡◌, ℕ, ◌||◌, ◌==◌, Some, is_some, nat_eq};
+ghost use Rattle.std.specs.Hash.DefaultHasher as sip;
 ghost use Rattle.std.specs.Borrow.{sem};
-ghost use Rattle.jid_core.specs.Addresses.{Address, same_address};
-ghost use Rattle.session_table.specs.Hashes.{address_hash};
+ghost use Rattle.std.specs.Option.{option_copied};
+ghost use Rattle.jid_core.specs.Addresses.{Address, same_address, same_part};
+ghost use Rattle.session_table.specs.Hashes.{user_hash};
 
 use crate::life::Life;
-use jid_core::{Jid, Part};
+use jid_core::Jid;
 use sm_queue::SmQueue;
 use sm_resume::{Cause, ResumeId};
 use stanza_tree::{Several, Text};
 use std::alloc::Global;
-use std::hash::{FoldHasher, Hasher};
+use std::hash::{DefaultHasher, Hasher};
 use std::marker::Model;
 
 /// What a session's owner sees to.
@@ -95,7 +96,7 @@ impl Own {
 pub struct Session {
     number: u64,
     address: Jid,
-    // The address's hash.
+    // The user's hash.
     hash: u64,
     holder: Option<u32>,
     state: Life,
@@ -106,7 +107,7 @@ pub struct Session {
 
 impl Model for Session {
     ghost use Rattle.std.specs.Prelude.{◌≡◌};
-    ghost use Rattle.session_table.specs.Hashes.{address_hash};
+    ghost use Rattle.session_table.specs.Hashes.{user_hash};
     ghost use Rattle.session_table.specs.Sessions.{SessionRecord};
 
     ghost Value = { SessionRecord };
@@ -131,7 +132,7 @@ impl Model for Session {
       pushes = s.own.pushes;
     } };
 
-    ghost invariant = { λ s. s.hash ≡ address_hash s.address };
+    ghost invariant = { λ s. s.hash ≡ user_hash s.address.local };
 }
 
 /// What the table changes of a session.
@@ -145,33 +146,31 @@ pub(crate) enum Change {
     Ended(Cause),
 }
 
-// The bytes of a part that may be absent.
-fn bytes_of(part: &Option<Part>) -> &[u8]
-    ensures { result.now ≡ unwrap_or part.now [] }
+/// The bytes of an address's local part, where it has one.
+pub(crate) fn local_of(address: &Jid) -> Option<&[u8]>
+    ensures { option_copied result ≡ address.now.local }
 {
-    match part {
-        Some(part) => part.bytes(),
-        None => &[],
+    match &address.local {
+        Some(local) => Some(local.bytes()),
+        None => None,
     }
 }
 
-/// The hash of an address's parts.
-#[tactic(auto, unfolding(crate::specs::Hashes::address_hash))]
-pub(crate) fn hash_of(address: &Jid) -> u64
-    ensures { result ≡ address_hash address.now }
+/// The hash of a user, by the bytes of the local part of an address.
+#[tactic(auto, unfolding(crate::specs::Hashes::user_hash))]
+pub(crate) fn hash_of(local: Option<&[u8]>) -> u64
+    ensures { result ≡ user_hash (option_copied local.entry) }
 {
-    let mut hasher = FoldHasher::default();
-    hasher.write(bytes_of(&address.local));
-    hasher.write(address.domain.bytes());
-    hasher.write(bytes_of(&address.resource));
+    let mut hasher = DefaultHasher::new();
+    hasher.write(local.unwrap_or(&[]));
     hasher.finish()
 }
 
 impl Session {
     ghost use Rattle.session_table.specs.Changes.{change_of};
-    ghost use Rattle.session_table.specs.Indexes.{wake_of};
+    ghost use Rattle.session_table.specs.Waking.{wake_of};
     ghost use Rattle.session_table.specs.Lending.{LendsItsOwn};
-    ghost use Rattle.session_table.specs.Sessions.{begun, is_due, own_of};
+    ghost use Rattle.session_table.specs.Sessions.{begun, own_of};
 
     /// The session of this number that line w has bound.
     pub(crate) fn begin(alloc: Global, number: u64, address: Jid, w: u32) -> Session
@@ -179,7 +178,7 @@ impl Session {
     {
         Session {
             number,
-            hash: hash_of(&address),
+            hash: hash_of(local_of(&address)),
             address,
             holder: Some(w),
             state: Life::Live,
@@ -229,18 +228,20 @@ impl Session {
         self.address.is_same(address)
     }
 
-    pub(crate) fn is_due(&self, now: u64) -> bool
-        ensures { result ≡ is_due now self.now }
+    /// Whether it is of the user whose addresses have a local part of these bytes.
+    pub(crate) fn is_of(&self, local: Option<&[u8]>) -> bool
+        ensures { result ≡ same_part self.now.address.local (option_copied local.entry) }
     {
-        match self.state {
-            Life::Live => self.deadline.is_some_and(|deadline| deadline <= now),
-            Life::Over(_) => true,
+        match (&self.address.local, local) {
+            (None, None) => true,
+            (Some(own), Some(local)) => own.bytes() == local,
+            _ => false,
         }
     }
 
-    /// The hash of its address.
+    /// The hash of its user.
     pub(crate) fn hash(&self) -> u64
-        ensures { result ≡ address_hash self.now.address }
+        ensures { result ≡ user_hash self.now.address.local }
     {
         self.hash
     }

@@ -1,16 +1,18 @@
 //! The table.
 
-ghost use Rattle.std.specs.Prelude.{◌≡◌, ◌<◌, ◌≤◌, ◌+◌, ◌-◌, ◌^◌, length, min, true, false, IfOk, IsOk, OnOk};
+ghost use Rattle.std.specs.Prelude.{◌≡◌, ◌<◌, ◌≤◌, ◌+◌, ◌-◌, ◌^◌, ◌++◌, ◌∷◌, [], length, min, true, false, Some, IfOk, IsOk, OnOk};
 ghost use Rattle.std.specs.Borrow.{sem};
 ghost use Rattle.std.specs.Option.{option_copied, option_copied_mut, option_map};
 
-use crate::index::Index;
+use crate::chains::{Heads, bridge, join};
 use crate::line::Line;
-use crate::search::{Sessions, add, change, take_out};
-use crate::session::{Change, Own, Session, hash_of};
+use crate::room::grow;
+use crate::session::{Change, Own, Session, hash_of, local_of};
+use crate::slots::{Slots, add, change, empty, find, number_at, session_at, visit};
+use crate::users::{OfUser, find_at};
+use crate::wakes::Wakes;
 use indexmap::IndexMap;
-use indexmap::map::Iter;
-use jid_core::Jid;
+use jid_core::{Jid, Part};
 use sm_resume::Cause;
 use stanza_tree::NoMemory;
 use std::alloc::Global;
@@ -22,37 +24,39 @@ pub struct Table {
     lines: Vec<Line>,
     opened: u64,
     made: u64,
-    sessions: Sessions,
-    index: Index,
+    there: usize,
+    slots: Slots,
+    wakes: Wakes,
+    heads: Heads,
 }
 
 impl Model for Table {
-    ghost use Rattle.std.specs.Prelude.{◌-◌, ◌^◌, min};
+    ghost use Rattle.std.specs.Prelude.{◌-◌, ◌^◌, length, min};
     ghost use Rattle.indexmap.specs.IndexMap.{spare};
-    ghost use Rattle.session_table.specs.Serving.{IsIndexed};
+    ghost use Rattle.session_table.specs.Indexes.{IsIndexed, present};
     ghost use Rattle.session_table.specs.Tables.{TableRecord};
 
     ghost Value = { TableRecord };
 
-    // There is room where both maps have room and a number is left.
+    // There is room where both maps have room, a place is left, and a number is.
     ghost view = { λ t. record {
       lines = t.lines.items;
       opened = t.opened;
       made = t.made;
-      sessions = t.sessions.entries;
-      spare = min (min (spare t.sessions) (spare t.index.places)) (2 ^ 64 - 1 - t.made);
+      sessions = present t.slots.entries;
+      spare = min (min (spare t.slots) (spare t.heads)) (min (length t.wakes - length t.slots.entries) (2 ^ 64 - 1 - t.made));
     } };
 
-    ghost invariant = { λ t. IsIndexed t.index t.sessions.entries t.made };
+    ghost invariant = { λ t. IsIndexed t.slots.entries t.wakes t.heads.entries t.made t.there };
 }
 
 impl Table {
     ghost use Rattle.session_table.specs.Changes.{change_of};
     ghost use Rattle.session_table.specs.Lending.{LendsOwn};
-    ghost use Rattle.session_table.specs.Sessions.{ended, held_by, is_due, left_until, own_of};
-    ghost use Rattle.session_table.specs.Tables.{IsFirst, IsLive, Rises, attached, bound, changed, first_due, holds, is_empty};
+    ghost use Rattle.session_table.specs.Sessions.{begun, ended, held_by, is_due, left_until, own_of};
+    ghost use Rattle.session_table.specs.Tables.{IsFirst, IsLive, Rises, attached, bound, bound_at, changed, first_due, holds, is_empty};
     ghost use Rattle.session_table.specs.Tables.{is_fresh, is_logged, is_there, line_ended, line_of, logged_in, new_table};
-    ghost use Rattle.session_table.specs.Tables.{number_at, session_of, with_conn, with_line, without};
+    ghost use Rattle.session_table.specs.Tables.{number_at, of_user, session_of, with_conn, with_line, without};
 
     /// A table of so many lines, all without a connection, and no session.
     pub fn new(alloc: Global, lines: u32) -> Result<Table, NoMemory>
@@ -64,13 +68,15 @@ impl Table {
             lines: places,
             opened: 0,
             made: 0,
-            sessions: IndexMap::new(alloc),
-            index: Index::new(alloc),
+            there: 0,
+            slots: IndexMap::new(alloc),
+            wakes: Wakes::new(alloc),
+            heads: IndexMap::new(alloc),
         })
     }
 
     /// Takes the room for one session more, and a number for it, where they are not there. Nothing else changes,
-    /// whatever the answer is.
+    /// whatever the answer is. Takes, all in all, time logarithmic in the sessions for each one that is made.
     pub fn reserve(&mut self) -> Result<(), NoMemory>
         ensures room { OnOk result (0 < self.new.spare) }
         ensures succeeds { 0 < self.old.spare → IsOk result }
@@ -80,8 +86,13 @@ impl Table {
         if self.made == u64::MAX {
             return Err(NoMemory);
         }
-        self.sessions.reserve(1)?;
-        self.index.places.reserve(1)
+        self.slots.reserve(1)?;
+        self.heads.reserve(1)?;
+        if self.slots.len() == self.wakes.len() {
+            let alloc = *self.lines.allocator();
+            grow(alloc, &mut self.slots, &mut self.wakes, self.there)?;
+        }
+        Ok(())
     }
 
     /// The next connection is at line w, whatever was there. Answers its number, which stays at 2^64 - 1 once
@@ -107,7 +118,7 @@ impl Table {
     }
 
     /// Makes the next session, at this address and held by line w, which is Logged. Answers its number. There is
-    /// room for it.
+    /// room for it. Takes time linear in the sessions of the user.
     pub fn bind(&mut self, w: u32, address: Jid) -> u64
         requires line { w < length self.old.lines }
         requires logged { is_logged (line_of w self.old) ≡ true }
@@ -116,24 +127,13 @@ impl Table {
         ensures table { self.new ≡ record (bound w address self.old) { spare = self.new.spare } }
         ensures keeps_room { self.old.spare ≤ self.new.spare + 1 }
     {
-        self.made += 1;
-        let alloc = *self.lines.allocator();
-        self.index.add(self.made, hash_of(&address));
-        add(
-            &mut self.sessions,
-            self.made,
-            Session::begin(alloc, self.made, address, w),
-        );
-        let conn = self.lines[w as usize].conn();
-        self.lines[w as usize] = Line::Bound {
-            conn,
-            session: self.made,
-        };
-        self.made
+        let s = self.make(w, address);
+        self.hold(w, s);
+        s
     }
 
     /// Line w, which is Logged, holds the session from now on, which is Live. Another line that held it is left
-    /// as it is.
+    /// as it is. Takes time logarithmic in the sessions, as do `detach` and `mark_over`.
     pub fn attach(&mut self, s: u64, w: u32)
         requires line { w < length self.old.lines }
         requires logged { is_logged (line_of w self.old) ≡ true }
@@ -141,8 +141,7 @@ impl Table {
         ensures { self.new ≡ attached s w self.old }
     {
         self.change(s, Change::Held(w));
-        let conn = self.lines[w as usize].conn();
-        self.lines[w as usize] = Line::Bound { conn, session: s };
+        self.hold(w, s);
     }
 
     /// No line holds the session any more, and it can be resumed until this moment, in milliseconds since 1970.
@@ -172,15 +171,23 @@ impl Table {
         self.lines[w as usize] = Line::Over { conn, cause };
     }
 
-    /// The session is there no more.
+    /// The session is there no more. Takes time linear in the sessions of its user and logarithmic in all.
     pub fn remove(&mut self, s: u64)
         requires { is_there s self.old ≡ true }
         ensures table { self.new ≡ record (without s self.old) { spare = self.new.spare } }
         ensures keeps_room { self.old.spare ≤ self.new.spare }
     {
-        if let Some(hash) = take_out(&mut self.sessions, s) {
-            self.index.forget(&self.sessions, hash);
-        }
+        let Some((place, slot)) = visit(&self.slots, s) else {
+            return;
+        };
+        let Some(session) = &slot.session else {
+            return;
+        };
+        let (hash, next) = (session.hash(), slot.next);
+        bridge(&mut self.slots, &mut self.heads, hash, s, next);
+        empty(&mut self.slots, place);
+        self.wakes.set(place, None);
+        self.there -= 1;
     }
 
     /// No connection is at line w any more. No session has the line as its holder.
@@ -197,6 +204,13 @@ impl Table {
         ensures { result ≡ self.now.made }
     {
         self.made
+    }
+
+    /// How many sessions are there.
+    pub fn count(&self) -> usize
+        ensures { result ≡ length self.now.sessions }
+    {
+        self.there
     }
 
     /// How many connections were opened.
@@ -219,7 +233,7 @@ impl Table {
         ensures session { option_copied result ≡ session_of s self.now }
         ensures rises { Rises 0 self.now.sessions self.now.made }
     {
-        self.sessions.get(&s)
+        session_at(&self.slots, s)
     }
 
     /// What the owner of the session of this number sees to, to be changed, if the session is there.
@@ -228,39 +242,97 @@ impl Table {
         ensures there { option_copied_mut result ≡ option_map own_of (session_of s self.old) }
         ensures rises { Rises 0 self.old.sessions self.old.made }
     {
-        let session = self.sessions.get_mut(&s)?;
+        let Some(place) = find(&self.slots, s) else {
+            return None;
+        };
+        let Some(slot) = self.slots.get_index_mut(place) else {
+            return None;
+        };
+        let Some(session) = slot.session.as_mut() else {
+            return None;
+        };
         Some(session.own_mut())
     }
 
-    /// The sessions that are there with their numbers, in the order of these.
-    pub fn sessions(&self) -> Iter<'_, u64, Session>
-        ensures { result ≡ self.now.sessions }
+    /// The sessions of the user whose addresses have this local part, with their numbers, in the order of these. One
+    /// that is over is among them. Takes no memory, and time linear in what it answers.
+    pub fn of_user<'a>(&'a self, local: &'a Part) -> OfUser<'a>
+        ensures { result ≡ of_user (Some local.now) self.now.sessions }
     {
-        self.sessions.iter()
+        OfUser::new(&self.slots, &self.heads, Some(local.bytes()))
     }
 
-    /// The session at this address; of several the first. Takes no memory.
+    /// As `of_user`, by the bytes of the local part.
+    pub fn of_name<'a>(&'a self, local: &'a [u8]) -> OfUser<'a>
+        ensures { result ≡ of_user (Some local.now) self.now.sessions }
+    {
+        OfUser::new(&self.slots, &self.heads, Some(local))
+    }
+
+    /// As `of_user`, by an address of the user. Where it has no local part, these are the sessions whose addresses have none.
+    pub fn of_user_at<'a>(&'a self, address: &'a Jid) -> OfUser<'a>
+        ensures { result ≡ of_user address.now.local self.now.sessions }
+    {
+        OfUser::new(&self.slots, &self.heads, local_of(address))
+    }
+
+    /// The session at this address; of several the first. Takes no memory, and time linear in the sessions of its user.
     pub fn at(&self, address: &Jid) -> Option<u64>
         ensures number { result ≡ number_at address.now self.now.sessions }
         ensures first { IsFirst (λ x. x.address ≡ address.now) self.now result }
     {
-        self.index.find_at(&self.sessions, address)
+        find_at(&self.slots, &self.heads, address)
     }
 
-    /// The session of the least number that is over or has a deadline of at most `now`. Looks at none while no
-    /// session is over and the least deadline lies ahead.
+    /// The session of the least number that is over or has a deadline of at most `now`. Takes time logarithmic in the
+    /// sessions.
     pub fn due(&self, now: u64) -> Option<u64>
         ensures number { result ≡ first_due now self.now.sessions }
         ensures first { IsFirst (λ x. is_due now x ≡ true) self.now result }
     {
-        self.index.find_due(&self.sessions, now)
+        match self.wakes.first(now) {
+            Some(place) => number_at(&self.slots, place),
+            None => None,
+        }
+    }
+
+    // Makes the next session, at this address and held by line w.
+    fn make(&mut self, w: u32, address: Jid) -> u64
+        requires room { 0 < self.old.spare }
+        ensures number { result ≡ self.old.made + 1 }
+        ensures table { self.new ≡ record self.old {
+          made = result;
+          sessions = self.old.sessions ++ (result, begun result address w) ∷ [];
+          spare = self.new.spare;
+        } }
+        ensures keeps_room { self.old.spare ≤ self.new.spare + 1 }
+    {
+        self.made += 1;
+        self.there += 1;
+        let alloc = *self.lines.allocator();
+        let hash = hash_of(local_of(&address));
+        join(&mut self.slots, &mut self.heads, hash, self.made);
+        let session = Session::begin(alloc, self.made, address, w);
+        add(&mut self.slots, self.made, session);
+        self.made
+    }
+
+    // Line w holds the session of this number.
+    fn hold(&mut self, w: u32, s: u64)
+        requires { w < length self.old.lines }
+        ensures { self.new ≡ bound_at w s self.old }
+    {
+        let conn = self.lines[w as usize].conn();
+        self.lines[w as usize] = Line::Bound { conn, session: s };
     }
 
     // Changes the session of a number, where it is there.
     fn change(&mut self, s: u64, to: Change)
         ensures { self.new ≡ changed s (change_of to) self.old }
     {
-        change(&mut self.sessions, s, to);
-        self.index.look_ahead(&self.sessions);
+        if let Some(place) = find(&self.slots, s) {
+            let wake = change(&mut self.slots, place, to);
+            self.wakes.set(place, wake);
+        }
     }
 }

@@ -21,5 +21,5 @@ invariant_of-book c =
       ap (λ accounts. list_all is_local (names_of accounts)) pushed ∙ all-local c.book.inside.accounts.items c.args.account c.book.invariant.1 c.requires.local,
       ap (λ accounts. are_distinct (names_of accounts)) pushed ∙ all-differ c.book.inside.accounts.items c.args.account c.book.invariant.2 fresh,
       one-more c.book.inside.accounts.items c.args.account c.push.new.self.items pushed
-          (subst (λ book. length book.accounts < 4096) (sym c.book.view_is) c.requires.few),
+          (subst (λ book. length book.accounts < 65536) (sym c.book.view_is) c.requires.few),
     )

@@ -3,8 +3,7 @@ use Rattle.std.specs.List.{list_all}
 use Rattle.contact_table.specs.Books.{bare_of, who_asked}
 use Rattle.contact_table.specs.Folders.{folder_at}
 use Rattle.contact_table.specs.Tables.{book_after}
-use Rattle.contact_table.proofs.ArrangedLemmas.{ok_carried}
-use Rattle.contact_table.proofs.KeepLemmas.{askers_there, told_by}
+use Rattle.contact_table.proofs.KeepLemmas.{askers_there, ok_carried, told_by}
 use Rattle.contact_table.proofs.book.Book.asking.Goals as goal
 
 pub addresses-requires : goal.addresses-requires
