@@ -14,6 +14,7 @@ use Rattle.archive_table.specs.Tables.{archives_of}
 use Rattle.house_model.specs.declared.answer.Answer.{Answer}
 use Rattle.house_model.specs.declared.answer.Answer.TheVariants as answer
 use Rattle.house_model.specs.declared.reply.Reply.TheVariants as reply
+use Rattle.house_model.specs.declared.limits.Limits.{Limits}
 use Rattle.house_model.specs.Answers.{answer_text}
 use Rattle.house_model.specs.Effects.{Effect, At, Begin, Say}
 use Rattle.house_model.specs.States.{Kept, World}
@@ -190,10 +191,10 @@ more_ends v r a b ends = record { answer = ends.answer; did = did_more v.effects
 pub same_did : (a b : code.World) → IsTied b.table → b ≡ a → Did [] 0 a b
 same_did a b tied same = subst (λ (x : code.World). Did [] 0 x b) same (did_none b tied)
 
-pub passed_is : (domain : Address) (users : List (List ℕ)) (turns moment : ℕ) (a b : code.World) → Did [] 0 a b
-    → held (house domain users (turns + 1) moment b) ≡ passed (held (house domain users turns moment a))
-passed_is domain users turns moment a b did = λ i. record {
-  head = record { domain = domain; users = users; workers = did.lines i; turns = turns + 1; moment = moment };
+pub passed_is : (domain : Address) (users : List (List ℕ)) (limits : Limits) (turns moment : ℕ) (a b : code.World) → Did [] 0 a b
+    → held (house domain users limits (turns + 1) moment b) ≡ passed (held (house domain users limits turns moment a))
+passed_is domain users limits turns moment a b did = λ i. record {
+  head = record { domain = domain; users = users; workers = did.lines i; limits = limits; turns = turns + 1; moment = moment };
   world = did.world i;
 }
 

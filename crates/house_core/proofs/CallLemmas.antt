@@ -2,6 +2,7 @@
 use Rattle.std.proofs.Common.{◌≡◌, ℕ, ◌+◌, ◌≤◌, List, [], ◌∷◌, ◌++◌, length, refl, sym, ap, subst, ◌∙◌, arith}
 use Rattle.jid_core.specs.Addresses.{Address}
 use Rattle.house_model.specs.declared.event.Event.{Event}
+use Rattle.house_model.specs.declared.limits.Limits.{Limits}
 use Rattle.house_model.specs.States.{World}
 use Rattle.house_model.specs.Traffic.{KeptTraffic, brief}
 use Rattle.sm_resume.specs.declared.decision.Cause.TheVariants.{Closed, Flood}
@@ -26,11 +27,12 @@ use Rattle.house_world.proofs.QuietLemmas.{archived_same}
 use Rattle.house_world.proofs.WorldLemmas.{few_later}
 use Rattle.house_core.proofs.CalmLemmas.{IsCalm, calm_archives, calm_rooms}
 
-abbrev pub house : Address → List (List ℕ) → (turns moment : ℕ) → code.World → HouseRecord
-house domain users turns moment a =
+abbrev pub house : Address → List (List ℕ) → Limits → (turns moment : ℕ) → code.World → HouseRecord
+house domain users limits turns moment a =
     record {
       domain = domain;
       users = users;
+      limits = limits;
       turns = turns;
       moment = moment;
       table = a.table;
@@ -41,12 +43,12 @@ house domain users turns moment a =
     }
 
 -- the step of an event whose effects are these
-pub state_is : (domain : Address) (users : List (List ℕ)) (turns moment moment' : ℕ) (a b : code.World) (e : Event) (es : List Effect) (more : ℕ)
-    → (verdict (turn e (held (house domain users turns moment a))) e).effects ≡ es
+pub state_is : (domain : Address) (users : List (List ℕ)) (limits : Limits) (turns moment moment' : ℕ) (a b : code.World) (e : Event) (es : List Effect)
+    (more : ℕ) → (verdict (turn e (held (house domain users limits turns moment a))) e).effects ≡ es
     → moment' ≡ moment_of e moment → Did es more a b
-    → held (house domain users (turns + 1) moment' b) ≡ (kept_step (held (house domain users turns moment a)) e).state
-state_is domain users turns moment moment' a b e es more effects now did = λ i. record {
-  head = record { domain = domain; users = users; workers = did.lines i; turns = turns + 1; moment = now i };
+    → held (house domain users limits (turns + 1) moment' b) ≡ (kept_step (held (house domain users limits turns moment a)) e).state
+state_is domain users limits turns moment moment' a b e es more effects now did = λ i. record {
+  head = record { domain = domain; users = users; workers = did.lines i; limits = limits; turns = turns + 1; moment = now i };
   world = (did.world ∙ ap (apply_all brief (seen a)) (sym effects)) i;
 }
 
@@ -115,28 +117,29 @@ pub later_passed : (now t next : ℕ) → now ≤ last_moment → next ≡ later
 later_passed now t next low is = omega (arith, low, is)
 
 -- the same for a verdict that was carried out
-pub state_ends : (domain : Address) (users : List (List ℕ)) (turns moment moment' more : ℕ) (a b : code.World) (e : Event) (r : Reply)
-    → moment' ≡ moment_of e moment → Ends (verdict (turn e (held (house domain users turns moment a))) e) more r a b
-    → held (house domain users (turns + 1) moment' b) ≡ (kept_step (held (house domain users turns moment a)) e).state
-state_ends domain users turns moment moment' more a b e r now ends =
-    state_is domain users turns moment moment' a b e (verdict (turn e (held (house domain users turns moment a))) e).effects more refl now ends.did
+pub state_ends : (domain : Address) (users : List (List ℕ)) (limits : Limits) (turns moment moment' more : ℕ) (a b : code.World) (e : Event) (r : Reply)
+    → moment' ≡ moment_of e moment → Ends (verdict (turn e (held (house domain users limits turns moment a))) e) more r a b
+    → held (house domain users limits (turns + 1) moment' b) ≡ (kept_step (held (house domain users limits turns moment a)) e).state
+state_ends domain users limits turns moment moment' more a b e r now ends =
+    state_is domain users limits turns moment moment' a b e (verdict (turn e (held (house domain users limits turns moment a))) e).effects more refl now
+    ends.did
 
-pub whole_ends : (domain : Address) (users : List (List ℕ)) (turns moment moment' more : ℕ) (a b : code.World) (e : Event) (r : Reply)
+pub whole_ends : (domain : Address) (users : List (List ℕ)) (limits : Limits) (turns moment moment' more : ℕ) (a b : code.World) (e : Event) (r : Reply)
     → IsWhole domain.domain users turns moment a.table a.answers.items a.book a.rooms a.archives → moment' ≤ last_moment → more ≤ 1
-    → Ends (verdict (turn e (held (house domain users turns moment a))) e) more r a b → Hosts a.rooms b.rooms
+    → Ends (verdict (turn e (held (house domain users limits turns moment a))) e) more r a b → Hosts a.rooms b.rooms
     → Archived (archives_of a.archives) (archives_of b.archives)
     → IsWhole domain.domain users (turns + 1) moment' b.table b.answers.items b.book b.rooms b.archives
-whole_ends domain users turns moment moment' more a b e r whole passed few ends hosts archives =
-    let k = turn e (held (house domain users turns moment a)) in
+whole_ends domain users limits turns moment moment' more a b e r whole passed few ends hosts archives =
+    let k = turn e (held (house domain users limits turns moment a)) in
     whole_by users turns moment moment' a b (verdict k e).effects more whole passed few ends.did
     (subst (AreKept domain.domain) (sym (ap (λ (x : World KeptTraffic). x.book) ends.did.world)) (event_keeps k e whole.rosters)) hosts archives
 
-pub whole_calm : (domain : Address) (users : List (List ℕ)) (turns moment moment' more : ℕ) (a b : code.World) (e : Event) (r : Reply)
+pub whole_calm : (domain : Address) (users : List (List ℕ)) (limits : Limits) (turns moment moment' more : ℕ) (a b : code.World) (e : Event) (r : Reply)
     → IsWhole domain.domain users turns moment a.table a.answers.items a.book a.rooms a.archives → moment' ≤ last_moment → more ≤ 1
-    → Ends (verdict (turn e (held (house domain users turns moment a))) e) more r a b → IsCalm e
+    → Ends (verdict (turn e (held (house domain users limits turns moment a))) e) more r a b → IsCalm e
     → IsWhole domain.domain users (turns + 1) moment' b.table b.answers.items b.book b.rooms b.archives
-whole_calm domain users turns moment moment' more a b e r whole passed few ends calm =
-    whole_ends domain users turns moment moment' more a b e r whole passed few ends
-    (hosts_same a.rooms b.rooms (calm_rooms (turn e (held (house domain users turns moment a))) e a b calm ends.did.world))
+whole_calm domain users limits turns moment moment' more a b e r whole passed few ends calm =
+    whole_ends domain users limits turns moment moment' more a b e r whole passed few ends
+    (hosts_same a.rooms b.rooms (calm_rooms (turn e (held (house domain users limits turns moment a))) e a b calm ends.did.world))
     (archived_same (archives_of a.archives) (archives_of b.archives)
-    (calm_archives (turn e (held (house domain users turns moment a))) e a b calm ends.did.world))
+    (calm_archives (turn e (held (house domain users limits turns moment a))) e a b calm ends.did.world))

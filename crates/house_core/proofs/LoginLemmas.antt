@@ -8,6 +8,7 @@ use Rattle.house_model.specs.declared.event.Event.{Event}
 use Rattle.house_model.specs.declared.event.Event.TheVariants.{Login}
 use Rattle.house_model.specs.declared.reply.Reply.{Reply}
 use Rattle.house_model.specs.declared.reply.Reply.TheVariants as reply
+use Rattle.house_model.specs.declared.limits.Limits.{Limits}
 use Rattle.house_model.specs.Effects.{At, Log, apply}
 use Rattle.house_model.specs.Gate as model
 use Rattle.house_model.specs.Gate.{Verdict, only}
@@ -92,11 +93,11 @@ waits_enters k w users user p r a b d same pass moved enters =
     (subst (λ (z : code.World). Enters (logs_in w (user_place user users)) (length users) r z d) moved enters))
 
 -- the house after it
-pub whole_enters : (domain : Address) (users : List (List ℕ)) (turns moment : ℕ) (a b : code.World) (e : Event) (r : Reply)
+pub whole_enters : (domain : Address) (users : List (List ℕ)) (limits : Limits) (turns moment : ℕ) (a b : code.World) (e : Event) (r : Reply)
     → IsWhole domain.domain users turns moment a.table a.answers.items a.book a.rooms a.archives
-    → Enters (verdict (turn e (held (house domain users turns moment a))) e) (length users) r a b → IsCalm e
+    → Enters (verdict (turn e (held (house domain users limits turns moment a))) e) (length users) r a b → IsCalm e
     → IsWhole domain.domain users (turns + 1) moment b.table b.answers.items b.book b.rooms b.archives
-whole_enters domain users turns moment a b e r whole enters calm = record {
+whole_enters domain users limits turns moment a b e r whole enters calm = record {
   prepared = whole.prepared;
   differ = whole.differ;
   few = whole.few;
@@ -109,19 +110,19 @@ whole_enters domain users turns moment a b e r whole enters calm = record {
   names = enters.kept.names whole.names;
   rosters =
       subst (AreKept domain.domain) (sym (ap (λ (x : World KeptTraffic). x.book) enters.world))
-      (event_keeps (turn e (held (house domain users turns moment a))) e whole.rosters);
+      (event_keeps (turn e (held (house domain users limits turns moment a))) e whole.rosters);
   hosted =
-      hosts_same a.rooms b.rooms (calm_rooms (turn e (held (house domain users turns moment a))) e a b calm enters.world)
+      hosts_same a.rooms b.rooms (calm_rooms (turn e (held (house domain users limits turns moment a))) e a b calm enters.world)
       turns whole.hosted;
   archived =
       archived_same (archives_of a.archives) (archives_of b.archives)
-      (calm_archives (turn e (held (house domain users turns moment a))) e a b calm enters.world) turns whole.archived;
+      (calm_archives (turn e (held (house domain users limits turns moment a))) e a b calm enters.world) turns whole.archived;
 }
 
-pub state_enters : (domain : Address) (users : List (List ℕ)) (turns moment many : ℕ) (a b : code.World) (e : Event) (r : Reply)
-    → moment ≡ moment_of e moment → Enters (verdict (turn e (held (house domain users turns moment a))) e) many r a b
-    → held (house domain users (turns + 1) moment b) ≡ (kept_step (held (house domain users turns moment a)) e).state
-state_enters domain users turns moment many a b e r now enters = λ i. record {
-  head = record { domain = domain; users = users; workers = enters.lines i; turns = turns + 1; moment = now i };
+pub state_enters : (domain : Address) (users : List (List ℕ)) (limits : Limits) (turns moment many : ℕ) (a b : code.World) (e : Event) (r : Reply)
+    → moment ≡ moment_of e moment → Enters (verdict (turn e (held (house domain users limits turns moment a))) e) many r a b
+    → held (house domain users limits (turns + 1) moment b) ≡ (kept_step (held (house domain users limits turns moment a)) e).state
+state_enters domain users limits turns moment many a b e r now enters = λ i. record {
+  head = record { domain = domain; users = users; workers = enters.lines i; limits = limits; turns = turns + 1; moment = now i };
   world = enters.world i;
 }

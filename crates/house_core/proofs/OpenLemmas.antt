@@ -5,8 +5,9 @@ use Rattle.jid_core.specs.Addresses.{Address}
 use Rattle.session_table.specs.declared.line.Line.TheVariants.{Empty, Logged, Bound}
 use Rattle.session_table.specs.Tables.{TableRecord, new_table, line_of}
 use Rattle.house_model.specs.declared.answer.Answer.{Answer}
+use Rattle.house_model.specs.declared.limits.Limits.{Limits}
 use Rattle.house_model.specs.Fitting.{IsNumbered}
-use Rattle.house_model.specs.States.{opening, keep, empty_line}
+use Rattle.house_model.specs.States.{opening_with, keep, empty_line}
 use Rattle.archive_table.specs.Archives.{no_archives, no_rows}
 use Rattle.archive_table.specs.Tables as archive
 use Rattle.contact_table.specs.Books.{empty_book, Book}
@@ -30,10 +31,11 @@ same_all (suc n) zero v = refl
 same_all (suc n) (suc i) v = same_all n i v
 
 -- what is seen of it
-abbrev pub new_house : Address → List (List ℕ) → (workers spare : ℕ) → BookRecord → archive.TableRecord → HouseRecord
-new_house domain users workers spare book archives = record {
+abbrev pub new_house : Address → List (List ℕ) → Limits → (workers spare : ℕ) → BookRecord → archive.TableRecord → HouseRecord
+new_house domain users limits workers spare book archives = record {
   domain = domain;
   users = users;
+  limits = limits;
   turns = 0;
   moment = 0;
   table = new_table workers spare;
@@ -46,11 +48,11 @@ new_house domain users workers spare book archives = record {
 line_empty : (workers spare w : ℕ) → lines_of (new_table workers spare) (replicate workers []) w ≡ empty_line
 line_empty workers spare w = λ i. record { stage = same_all workers w Empty i; answers = same_all {A = List Answer} workers w [] i }
 
-pub new_held : (domain : Address) (users : List (List ℕ)) (workers spare : ℕ) (book : BookRecord) (archives : archive.TableRecord)
+pub new_held : (domain : Address) (users : List (List ℕ)) (limits : Limits) (workers spare : ℕ) (book : BookRecord) (archives : archive.TableRecord)
     → book.book ≡ empty_book → archive.archives_of archives ≡ no_archives
-    → held (new_house domain users workers spare book archives) ≡ keep (opening domain users workers)
-new_held domain users workers spare book archives none unsaid = λ i. record {
-  head = record { domain = domain; users = users; workers = length-replicate workers Empty i; turns = 0; moment = 0 };
+    → held (new_house domain users limits workers spare book archives) ≡ keep (opening_with limits domain users workers)
+new_held domain users limits workers spare book archives none unsaid = λ i. record {
+  head = record { domain = domain; users = users; workers = length-replicate workers Empty i; limits = limits; turns = 0; moment = 0 };
   world = record {
     opened = 0;
     book = none i;
@@ -58,16 +60,17 @@ new_held domain users workers spare book archives none unsaid = λ i. record {
     archives = unsaid i;
     lines = λ w. line_empty workers spare w i;
     made = 0;
-    sessions = (keep (opening domain users workers)).world.sessions;
+    sessions = (keep (opening_with limits domain users workers)).world.sessions;
   };
 }
 
-pub held_new : (domain domain' : Address) (users users' : List (List ℕ)) (workers : ℕ) (t : TableRecord) (answers : List (List Answer)) (book : BookRecord)
-    (rooms : Rooms) (archives : archive.TableRecord) → domain' ≡ domain → users' ≡ users → t ≡ new_table workers t.spare
+pub held_new : (domain domain' : Address) (users users' : List (List ℕ)) (limits : Limits) (workers : ℕ) (t : TableRecord) (answers : List (List Answer))
+    (book : BookRecord) (rooms : Rooms) (archives : archive.TableRecord) → domain' ≡ domain → users' ≡ users → t ≡ new_table workers t.spare
     → answers ≡ replicate workers [] → book.book ≡ empty_book → rooms ≡ no_rooms → archive.archives_of archives ≡ no_archives
     → held (record {
       domain = domain';
       users = users';
+      limits = limits;
       turns = 0;
       moment = 0;
       table = t;
@@ -75,11 +78,12 @@ pub held_new : (domain domain' : Address) (users users' : List (List ℕ)) (work
       book = book;
       rooms = rooms;
       archives = archives;
-    }) ≡ keep (opening domain users workers)
-held_new domain domain' users users' workers t answers book rooms archives named known lines none empty without unsaid =
+    }) ≡ keep (opening_with limits domain users workers)
+held_new domain domain' users users' limits workers t answers book rooms archives named known lines none empty without unsaid =
     (λ i. held (record {
       domain = named i;
       users = known i;
+      limits = limits;
       turns = 0;
       moment = 0;
       table = lines i;
@@ -88,7 +92,7 @@ held_new domain domain' users users' workers t answers book rooms archives named
       rooms = without i;
       archives = archives;
     }))
-    ∙ new_held domain users workers t.spare book archives empty unsaid
+    ∙ new_held domain users limits workers t.spare book archives empty unsaid
 
 -- all that is true of a house is true of it
 new_lines : (workers spare w : ℕ) → line_of w (new_table workers spare) ≡ Empty
@@ -108,7 +112,7 @@ none_archived = record {
 }
 
 fresh_whole : (domain : List ℕ) (users : List (List ℕ)) (workers spare : ℕ) (book : BookRecord) (archives : archive.TableRecord)
-    → list_all is_local users ≡ true → are_distinct users ≡ true → length users ≤ 4096 → book.domain ≡ domain → book.book ≡ empty_book
+    → list_all is_local users ≡ true → are_distinct users ≡ true → length users ≤ 65536 → book.domain ≡ domain → book.book ≡ empty_book
     → archive.archives_of archives ≡ no_archives
     → IsWhole domain users 0 0 (new_table workers spare) (replicate workers []) book no_rooms archives
 fresh_whole domain users workers spare book archives prepared differ few served empty unsaid = record {
@@ -137,7 +141,7 @@ fresh_whole domain users workers spare book archives prepared differ few served 
 }
 
 pub new_whole : (domain : List ℕ) (users : List (List ℕ)) (workers : ℕ) (t : TableRecord) (answers : List (List Answer)) (book : BookRecord)
-    (rooms : Rooms) (archives : archive.TableRecord) → list_all is_local users ≡ true → are_distinct users ≡ true → length users ≤ 4096
+    (rooms : Rooms) (archives : archive.TableRecord) → list_all is_local users ≡ true → are_distinct users ≡ true → length users ≤ 65536
     → t ≡ new_table workers t.spare → answers ≡ replicate workers []
     → book.domain ≡ domain → book.book ≡ empty_book → rooms ≡ no_rooms → archive.archives_of archives ≡ no_archives
     → IsWhole domain users 0 0 t answers book rooms archives

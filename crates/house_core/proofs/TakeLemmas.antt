@@ -13,7 +13,7 @@ use Rattle.house_model.specs.declared.reply.Reply.TheVariants as reply
 use Rattle.house_model.specs.Answers.{answer_text}
 use Rattle.house_model.specs.Sessions.{Resume}
 use Rattle.house_model.specs.Traffic.{KeptTraffic, kept_inward}
-use Rattle.house_model.specs.States.{World, Kept}
+use Rattle.house_model.specs.States.{World, Kept, usual}
 use Rattle.house_model.specs.Effects.{At, On, Say, Close}
 use Rattle.house_model.specs.Gate as model
 use Rattle.house_model.specs.Gate.{Verdict, does}
@@ -73,4 +73,7 @@ resume_ends k p w c u h t id user domain r a b d world pass same user' domain' e
 
 -- a kept house of this world
 abbrev pub some_kept : Address → List (List ℕ) → ℕ → code.World → Kept
-some_kept domain users moment a = record { head = record { domain = domain; users = users; workers = 0; turns = 0; moment = moment }; world = seen a }
+some_kept domain users moment a = record {
+  head = record { domain = domain; users = users; workers = 0; limits = usual; turns = 0; moment = moment };
+  world = seen a;
+}

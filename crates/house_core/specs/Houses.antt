@@ -3,6 +3,7 @@ use Rattle.std.specs.Prelude.{ℕ, List, length}
 use Rattle.jid_core.specs.Addresses.{Address}
 use Rattle.session_table.specs.Tables.{TableRecord}
 use Rattle.house_model.specs.declared.answer.Answer.{Answer}
+use Rattle.house_model.specs.declared.limits.Limits.{Limits}
 use Rattle.archive_table.specs.Tables as archive
 use Rattle.contact_table.specs.Tables.{BookRecord}
 use Rattle.muc_service.specs.Rooms.{Rooms}
@@ -12,6 +13,7 @@ use Rattle.house_world.specs.Views.{world_of}
 pub record HouseRecord : Type 0 where
   pub domain : Address
   pub users : List (List ℕ)
+  pub limits : Limits
   pub turns : ℕ
   pub moment : ℕ
   pub table : TableRecord
@@ -23,6 +25,6 @@ pub record HouseRecord : Type 0 where
 -- what the definitions see of a house
 abbrev pub held : HouseRecord → Kept
 held h = record {
-  head = record { domain = h.domain; users = h.users; workers = length h.table.lines; turns = h.turns; moment = h.moment };
+  head = record { domain = h.domain; users = h.users; workers = length h.table.lines; limits = h.limits; turns = h.turns; moment = h.moment };
   world = world_of h.table h.answers h.book.book h.rooms (archive.archives_of h.archives);
 }

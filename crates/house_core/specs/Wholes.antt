@@ -18,7 +18,7 @@ pub record IsWhole (domain : List ℕ) (users : List (List ℕ)) (turns moment :
     (book : BookRecord) (rooms : Rooms) (archives : archive.TableRecord) : Type 0 where
   pub prepared : list_all is_local users ≡ true
   pub differ : are_distinct users ≡ true
-  pub few : length users ≤ 4096
+  pub few : length users ≤ 65536
   pub passed : moment ≤ last_moment
   pub answered : length answers ≡ length t.lines
   pub known : AreUsers (length users) t

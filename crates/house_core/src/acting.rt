@@ -15,9 +15,9 @@ ghost use Rattle.house_world.specs.Worlds.{Did, Ends, seen};
 use crate::gate::{Needs, Pass, check};
 use crate::house::House;
 use house_model::{Reply, Stanza};
-use house_routing::effects_of;
+use house_routing::{Users, effects_of};
 use house_world::World;
-use jid_core::{Jid, Part};
+use jid_core::Jid;
 use stanza_tree::NoMemory;
 use std::alloc::Global;
 
@@ -33,7 +33,7 @@ fn act_at(
     world: &mut World,
     alloc: Global,
     domain: &Jid,
-    users: &[Part],
+    users: &Users,
     w: u32,
     stanza: &Stanza,
     moment: u64,
@@ -80,7 +80,7 @@ impl House {
         self.turns += 1;
         let moment = self.later(t);
         let alloc = *self.users.allocator();
-        let users = self.users.as_slice();
+        let users = &self.users;
         let reply = act_at(
             &mut self.world,
             alloc,
@@ -95,8 +95,8 @@ impl House {
     }
 
     /// The connection sends a stanza, which goes where its address says (RFC 6120, 10; RFC 6121, 8.5). Costs the size of the stanza and of
-    /// what it queues; a message for a user's bare address looks at each session, and what changes a room copies it. Where memory is
-    /// wanting only the count of turns changes.
+    /// what it queues; a message for a user's bare address looks at each of that user's sessions, and what changes a room copies it. Where
+    /// memory is wanting only the count of turns changes.
     pub fn act(&mut self, w: u32, stanza: &Stanza, t: u64) -> Result<Reply, NoMemory>
         requires line { w < length self.old.table.lines }
         requires turns { self.old.turns < 2 ^ 63 + 2 ^ 62 }

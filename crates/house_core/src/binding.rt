@@ -21,7 +21,7 @@ ghost use Rattle.house_world.specs.Worlds.{Did, Ends, KeepsLogged, seen};
 use crate::gate::{Needs, Pass, check};
 use crate::house::House;
 use crate::make::{make_address, make_bound};
-use house_model::{Answer, Reply};
+use house_model::{Answer, Limits, Reply};
 use house_routing::departure;
 use house_world::{Cast, World};
 use jid_core::{Jid, Part};
@@ -29,12 +29,6 @@ use sm_resume::Cause;
 use stanza_model::Effect;
 use stanza_tree::{NoMemory, Text};
 use std::alloc::Global;
-
-/// How many sessions one user may have: more devices than anyone has.
-const MOST_OF_USER: usize = 16;
-
-/// How many sessions all users together may have: so many full queues take 2 GiB.
-const MOST_SESSIONS: usize = 512;
 
 const TO_BIND: Needs = Needs {
     fresh: false,
@@ -44,25 +38,24 @@ const TO_BIND: Needs = Needs {
 };
 
 // Whether neither limit is passed by one session more at an address. The one there is not counted, since it departs.
-fn has_place(world: &World, address: &Jid) -> bool
+fn has_place(world: &World, limits: Limits, address: &Jid) -> bool
     requires tied { IsTied world.now.table }
     requires small { IsFew (2 ^ 64 - 5001) world.now.table }
-    ensures place { (k : Kept) → k.world ≡ seen world.now → result ≡ has_place k address.now }
+    ensures place { (k : Kept) → k.world ≡ seen world.now → k.head.limits ≡ limits → result ≡ has_place k address.now }
     ensures rises { Rises 0 world.now.table.sessions world.now.table.made }
 {
     let _ = world.table.session(0);
-    let mut all = 0usize;
-    let mut of_user = 0usize;
-    for (_number, session) in world.table.sessions() {
+    let mut same = 0usize;
+    let mut others = 0usize;
+    for (_number, session) in world.table.of_user_at(address) {
         if session.address().is_same(address) {
-            continue;
-        }
-        all += 1;
-        if session.address().is_same_bare(address) {
-            of_user += 1;
+            same += 1;
+        } else if session.address().is_same_bare(address) {
+            others += 1;
         }
     }
-    all < MOST_SESSIONS && of_user < MOST_OF_USER
+    let all = world.table.count() - same;
+    all < limits.sessions as usize && others < limits.of_user as usize
 }
 
 // What others are told of the session of an address, where there is one: the next one replaces it.
@@ -165,7 +158,13 @@ fn bind_at(world: &mut World, w: u32, address: Jid, id: &Text) -> Result<(), NoM
 }
 
 // The same, unless there are too many sessions.
-fn bind(world: &mut World, w: u32, address: Jid, id: &Text) -> Result<Reply, NoMemory>
+fn bind(
+    world: &mut World,
+    limits: Limits,
+    w: u32,
+    address: Jid,
+    id: &Text,
+) -> Result<Reply, NoMemory>
     requires line { w < length world.old.table.lines }
     requires answered { length world.old.answers.items ≡ length world.old.table.lines }
     requires tied { IsTied world.old.table }
@@ -174,13 +173,13 @@ fn bind(world: &mut World, w: u32, address: Jid, id: &Text) -> Result<Reply, NoM
     requires few { length (slice_index_or world.old.answers.items w []) < 8 }
     requires id { IdFits id.now }
     requires hosted { AreHosted (2 ^ 63 + 2 ^ 62) world.old.rooms }
-    ensures done { (k : Kept) → k.world ≡ seen world.old
+    ensures done { (k : Kept) → k.world ≡ seen world.old → k.head.limits ≡ limits
         → IfOk result (λ r. Ends (binds (has_place k address) k w (conn_of (line_of w world.old.table)) address id.now) 1 r world.old world.new) }
     ensures hosts { OnOk result (Hosts world.old.rooms world.new.rooms) }
     ensures archives { OnOk result (Archived (archives_of world.old.archives) (archives_of world.new.archives)) }
     ensures refused { OnErr result (Did [] 0 world.old world.new) }
 {
-    if has_place(world, &address) {
+    if has_place(world, limits, &address) {
         bind_at(world, w, address, id)?;
         return Ok(Reply::Bound);
     }
@@ -212,12 +211,12 @@ impl House {
                 let alloc = *self.users.allocator();
                 let address = make_address(
                     alloc,
-                    &self.users[user as usize],
+                    &self.users.parts()[user as usize],
                     &self.domain,
                     resource,
                     &dice,
                 )?;
-                let reply = bind(&mut self.world, w, address, id)?;
+                let reply = bind(&mut self.world, self.limits, w, address, id)?;
                 self.moment = moment;
                 Ok(reply)
             }
@@ -232,7 +231,7 @@ impl House {
         }
     }
 
-    /// The connection asks for a session. Costs the number of sessions.
+    /// The connection asks for a session. Costs the number of the user's sessions, and time logarithmic in all.
     pub fn bind(
         &mut self,
         w: u32,

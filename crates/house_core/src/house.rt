@@ -4,14 +4,17 @@ ghost use Rattle.std.specs.List.{list_all};
 ghost use Rattle.jid_core.specs.Names.{are_distinct};
 ghost use Rattle.jid_core.specs.Preparation.{is_local};
 ghost use Rattle.house_model.specs.Steps.{later};
-ghost use Rattle.house_model.specs.States.{State, keep, opening};
+ghost use Rattle.house_model.specs.States.{State, keep, opening, opening_with};
 ghost use Rattle.house_model.specs.Histories.{StandsFor, Turn, openings};
 ghost use Rattle.house_core.specs.Houses.{held};
 
 use archive_table::Archives;
 use contact_table::Book;
-use house_world::{Answers, Stirred, World};
+use house_model::Limits;
+use house_routing::Users;
+use house_world::{Answers, World};
 use jid_core::{Jid, Part};
+use mark_sets::{MarkedWord, Marks};
 use muc_service::Rooms;
 use session_table::Table;
 use stanza_tree::NoMemory;
@@ -25,7 +28,8 @@ const LAST_MOMENT: u64 = 253_402_300_799_999;
 #[derive(Drop)]
 pub struct House {
     pub(crate) domain: Jid,
-    pub(crate) users: Vec<Part>,
+    pub(crate) users: Users,
+    pub(crate) limits: Limits,
     pub(crate) turns: u64,
     pub(crate) moment: u64,
     pub(crate) world: World,
@@ -39,7 +43,8 @@ impl Model for House {
 
     ghost view = { λ h. record {
       domain = h.domain;
-      users = h.users.items;
+      users = h.users;
+      limits = h.limits;
       turns = h.turns;
       moment = h.moment;
       table = h.world.table;
@@ -49,7 +54,7 @@ impl Model for House {
       archives = h.world.archives;
     } };
 
-    ghost invariant = { λ h. IsWhole h.domain.domain h.users.items h.turns h.moment h.world.table h.world.answers.items h.world.book h.world.rooms
+    ghost invariant = { λ h. IsWhole h.domain.domain h.users h.turns h.moment h.world.table h.world.answers.items h.world.book h.world.rooms
         h.world.archives };
 }
 
@@ -58,16 +63,35 @@ impl House {
     pub fn new(alloc: Global, domain: &Jid, users: &[Part], workers: u32) -> Result<House, NoMemory>
         requires prepared { list_all is_local users.now ≡ true }
         requires differ { are_distinct users.now ≡ true }
-        requires few { length users.now ≤ 4096 }
+        requires few { length users.now ≤ 65536 }
         ensures held { IfOk result (λ h. held h ≡ keep (opening domain.now users.now workers)) }
         ensures history { IfOk result (λ h. StandsFor (opening domain.now users.now workers) [] (held h)) }
     {
+        House::with_limits(alloc, domain, users, workers, Limits::usual())
+    }
+
+    /// The same with other limits than the usual ones.
+    pub fn with_limits(
+        alloc: Global,
+        domain: &Jid,
+        users: &[Part],
+        workers: u32,
+        limits: Limits,
+    ) -> Result<House, NoMemory>
+        requires prepared { list_all is_local users.now ≡ true }
+        requires differ { are_distinct users.now ≡ true }
+        requires few { length users.now ≤ 65536 }
+        ensures held { IfOk result (λ h. held h ≡ keep (opening_with limits domain.now users.now workers)) }
+        ensures history { IfOk result (λ h. StandsFor (opening_with limits domain.now users.now workers) [] (held h)) }
+    {
+        let stirred = Marks::new(alloc, workers)?;
         let book = Book::new(alloc, domain.domain.copy(alloc)?);
         let rooms = Rooms::new(alloc);
         let archives = Archives::new(alloc);
         Ok(House {
             domain: domain.copy(alloc)?,
-            users: copies_of(alloc, users)?,
+            users: Users::of(alloc, users)?,
+            limits,
             turns: 0,
             moment: 0,
             world: World {
@@ -76,7 +100,7 @@ impl House {
                 book,
                 rooms,
                 archives,
-                stirred: Stirred::none(),
+                stirred,
             },
         })
     }
@@ -104,12 +128,12 @@ impl House {
         self.world.answers.len()
     }
 
-    /// The lines that may have something to pull since this was last asked, because of an event of another line: an entry was queued for
-    /// the session there, or the connection is over. Nothing is promised of it.
-    pub fn take_stirred(&mut self) -> Stirred
+    /// Some of the lines that may have something to pull since this was last asked, because of an event of another line: an entry was queued
+    /// for the session there, or the connection is over. Nothing is promised of it.
+    pub fn next_stirred(&mut self) -> Option<MarkedWord>
         ensures { self.new ≡ self.old }
     {
-        self.world.stirred.take()
+        self.world.stirred.take_word()
     }
 
     /// The domain that the house serves.
@@ -125,16 +149,6 @@ impl House {
     {
         self.moment.max(t.min(LAST_MOMENT))
     }
-}
-
-fn copies_of(alloc: Global, parts: &[Part]) -> Result<Vec<Part>, NoMemory>
-    ensures { IfOk result (λ v. v.items ≡ parts.now) }
-{
-    let mut copies = Vec::new(alloc);
-    for part in parts {
-        copies.push(part.copy(alloc)?)?;
-    }
-    Ok(copies)
 }
 
 fn no_answers(alloc: Global, workers: u32) -> Result<Vec<Answers>, NoMemory>

@@ -15,4 +15,4 @@ mod resuming;
 mod submit;
 
 pub use house::House;
-pub use house_world::{LINES_A_WORD, MOST_FRAME, STIRRED_WORDS, Stirred};
+pub use house_world::MOST_FRAME;

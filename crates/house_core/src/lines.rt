@@ -14,7 +14,7 @@ ghost use Rattle.house_world.specs.Worlds.{seen};
 use crate::gate::{Needs, Pass, check};
 use crate::house::House;
 use house_model::Reply;
-use house_routing::place_among;
+use house_routing::Users;
 use house_world::World;
 use jid_core::Part;
 use session_table::Line;
@@ -56,10 +56,10 @@ impl House {
         ensures reply { result ≡ (kept_step (held self.old) (Event.Login w user.now)).reply }
     {
         self.turns += 1;
-        login(&mut self.world, w, self.users.as_slice(), user, self.moment)
+        login(&mut self.world, w, &self.users, user, self.moment)
     }
 
-    /// The connection proved that it is this user's. Costs the number of users.
+    /// The connection proved that it is this user's. Costs one look in a hash table.
     pub fn login(&mut self, w: u32, user: &Part) -> Reply
         requires line { w < length self.old.table.lines }
         requires turns { self.old.turns < 2 ^ 63 + 2 ^ 62 }
@@ -131,14 +131,14 @@ impl House {
 }
 
 // The connection at a line is the user's of this name, where there is one.
-fn log_among(world: &mut World, w: u32, users: &[Part], user: &Part) -> Reply
+fn log_among(world: &mut World, w: u32, users: &Users, user: &Part) -> Reply
     requires line { w < length world.old.table.lines }
     requires fresh { is_fresh (line_of w world.old.table) ≡ true }
     requires tied { IsTied world.old.table }
-    requires few { length users.now ≤ 4096 }
+    requires few { length users.now ≤ 65536 }
     ensures { Enters (logs_in w (user_place user.now users.now)) (length users.now) result world.old world.new }
 {
-    match place_among(users, user) {
+    match users.place_of(user) {
         Some(place) => {
             world.log(w, place as u32);
             Reply::Done
@@ -148,12 +148,12 @@ fn log_among(world: &mut World, w: u32, users: &[Part], user: &Part) -> Reply
 }
 
 // The login of a user, once it is checked.
-fn login(world: &mut World, w: u32, users: &[Part], user: &Part, moment: u64) -> Reply
+fn login(world: &mut World, w: u32, users: &Users, user: &Part, moment: u64) -> Reply
     requires line { w < length world.old.table.lines }
     requires answered { length world.old.answers.items ≡ length world.old.table.lines }
     requires moment { moment ≤ last_moment }
     requires tied { IsTied world.old.table }
-    requires few { length users.now ≤ 4096 }
+    requires few { length users.now ≤ 65536 }
     ensures { (k : Kept) → k.world ≡ seen world.old → k.head.moment ≡ moment → k.head.users ≡ users.now
         → Enters (verdict k (Event.Login w user.now)) (length users.now) result world.old world.new }
 {

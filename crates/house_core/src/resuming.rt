@@ -17,6 +17,7 @@ use crate::counting::TO_MANAGE;
 use crate::gate::{Pass, check};
 use crate::house::House;
 use house_model::{Answer, Reply};
+use house_routing::Users;
 use house_world::World;
 use jid_core::{Jid, Part};
 use session_table::{Life, Session};
@@ -75,7 +76,7 @@ impl House {
             id,
             h,
             self.moment,
-            self.users.as_slice(),
+            &self.users,
             &self.domain,
         )
     }
@@ -151,7 +152,7 @@ fn go_on(
     id: Option<&ResumeId>,
     h: u32,
     moment: u64,
-    users: &[Part],
+    users: &Users,
     domain: &Jid,
 ) -> Reply
     requires line { w < length world.old.table.lines }
@@ -166,7 +167,7 @@ fn go_on(
     match check(world, &TO_MANAGE, w, moment) {
         Pass::Stop(reply) => reply,
         Pass::Knows { conn, user } => match id {
-            Some(id) => take_up(world, w, conn, id, h, &users[user as usize], domain),
+            Some(id) => take_up(world, w, conn, id, h, &users.parts()[user as usize], domain),
             None => {
                 world.say(w, Answer::NotFound);
                 Reply::Done

@@ -328,5 +328,5 @@ then_apart st (x ∷ more) sound zero_is apart =
 
 pub apart_after : (o : State) (h : List Turn) → IsOpening o → AreApart (after o h).world
 apart_after o h starts =
-    then_apart o h (starts_sound o starts) (ap (λ (st : State). st.world.sessions 0) starts.3)
-    (subst (λ (st : State). AreApart st.world) (sym starts.3) (λ q r (is : false ≡ true). absurd (true≢false (sym is))))
+    then_apart o h (starts_sound o starts) (ap (λ (st : State). st.world.sessions 0) starts.4)
+    (subst (λ (st : State). AreApart st.world) (sym starts.4) (λ q r (is : false ≡ true). absurd (true≢false (sym is))))

@@ -100,4 +100,4 @@ after_numbered st (x ∷ more) are = after_numbered (next st x) more (turn_numbe
 pub always_numbered : (o : State) (h : List Turn) → IsOpening o → AreNumbered (after o h).world.archives
 always_numbered o h starts =
     after_numbered o h
-    (subst (λ (st : State). AreNumbered st.world.archives) (sym starts.3) (record { users = λ user. no_numbers; rooms = λ n. no_numbers }))
+    (subst (λ (st : State). AreNumbered st.world.archives) (sym starts.4) (record { users = λ user. no_numbers; rooms = λ n. no_numbers }))

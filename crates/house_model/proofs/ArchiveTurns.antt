@@ -136,7 +136,7 @@ module _ (o : State) (starts : IsOpening o) where
 
   first_agrees : AgreesAfter o []
   first_agrees =
-      subst (λ (st : State). Agrees st.world no_logs.order (λ user. [])) (sym starts.3) (record { users = λ user. refl; rooms = λ n stays. refl })
+      subst (λ (st : State). Agrees st.world no_logs.order (λ user. [])) (sym starts.4) (record { users = λ user. refl; rooms = λ n stays. refl })
 
 pub archives_are_kept : (o : State) (h : List Turn) → IsOpening o
     → AreArchives (histories.after o h).world (logs_of o h).order (keeps_from o h)

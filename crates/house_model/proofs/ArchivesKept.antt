@@ -84,6 +84,6 @@ pub always_archives : (o : State) (h : List Turn) → IsOpening o → Legal o h 
     → AreShortArchives (after o h).world.archives
 always_archives o h starts legal names fit count =
     history_archives o [] h starts legal (short_throughout o h starts names fit) (omega (arith, count))
-    (subst (λ (st : State). AreShortRooms st.world.rooms) (sym starts.3) tt)
-    (subst (λ (st : State). AreShortArchives st.world.archives) (sym starts.3)
+    (subst (λ (st : State). AreShortRooms st.world.rooms) (sym starts.4) tt)
+    (subst (λ (st : State). AreShortArchives st.world.archives) (sym starts.4)
     (record { users = λ user. tt; rooms = λ n. tt; bytes = omega arith }))

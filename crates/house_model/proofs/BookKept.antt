@@ -247,4 +247,4 @@ after_kept st (x ∷ more) sound kept = after_kept (next st x) more (next_sound 
 pub always_kept : (o : State) (h : List Turn) → IsOpening o → AreKept (after o h).head.domain.domain (after o h).world.book
 always_kept o h starts =
     after_kept o h (starts_sound o starts)
-    (subst (λ (st : State). AreKept st.head.domain.domain st.world.book) (sym starts.3) (none_kept starts.0.domain))
+    (subst (λ (st : State). AreKept st.head.domain.domain st.world.book) (sym starts.4) (none_kept starts.1.domain))

@@ -77,7 +77,7 @@ after_told (x ∷ more) st m undue told =
     (next_undue st x.event x.outcome undue) (next_told st x.event x.outcome m undue told)
 
 opening_told : (o : State) → IsOpening o → AllTold o.world
-opening_told o starts = subst (λ (st : State). AllTold st.world) (sym starts.3) (λ w c cause bad. absurd (cc))
+opening_told o starts = subst (λ (st : State). AllTold st.world) (sym starts.4) (λ w c cause bad. absurd (cc))
 
 always_told : (o : State) (h : List Turn) → IsOpening o → AllTold (after o h).world
 always_told o h starts =

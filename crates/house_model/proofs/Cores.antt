@@ -173,7 +173,7 @@ after_core k st (x ∷ more) o =
 
 -- from the opening on
 pub starts_unmade : (o : State) (k : ℕ) → IsOpening o → core_of (o.world.sessions k) ≡ one.unmade
-starts_unmade o k starts = ap (λ (st : State). core_of (st.world.sessions k)) starts.3
+starts_unmade o k starts = ap (λ (st : State). core_of (st.world.sessions k)) starts.4
 
 pub alone_core : (o : State) (h : List Turn) (k : ℕ) → IsOpening o
     → core_of ((after o h).world.sessions k) ≡ (alone_of k o h).core

@@ -6,7 +6,8 @@ use Rattle.house_model.specs.declared.event.Event.{Event}
 use Rattle.house_model.specs.Sessions.{Hold, Held, Away, Ended, Gone, Rest, Session, Op, Push, Ack, Drop}
 use Rattle.house_model.specs.Sessions.{Resume, End, Part, session, begun, pushed, acked, resumed, step_if, session_step}
 use Rattle.house_model.specs.Traffic.{Traffic, whole}
-use Rattle.house_model.specs.States.{World, State, keep, opening}
+use Rattle.house_model.specs.declared.limits.Limits.{Limits}
+use Rattle.house_model.specs.States.{World, State, keep, opening_with}
 use Rattle.house_model.specs.Effects.{Effect, Open, At, Begin, On, Note, Hosts, Files, apply, apply_all}
 use Rattle.house_model.specs.Steps.{verdict, turn}
 use Rattle.house_model.specs.Histories.{Outcome, Made, Short, Turn, next_by, next, after, IsOpening}
@@ -88,11 +89,11 @@ after_undue : (st : State) (h : List Turn) → AllUndue st.world → AllUndue (a
 after_undue st [] undue = undue
 after_undue st (x ∷ more) undue = after_undue (next st x) more (next_undue st x.event x.outcome undue)
 
-opening_undue : (domain : Address) (users : List (List ℕ)) (workers : ℕ) → AllUndue (opening domain users workers).world
-opening_undue domain users workers s is = refl
+opening_undue : (limits : Limits) (domain : Address) (users : List (List ℕ)) (workers : ℕ) → AllUndue (opening_with limits domain users workers).world
+opening_undue limits domain users workers s is = refl
 
 pub starts_undue : (o : State) → IsOpening o → AllUndue o.world
-starts_undue o starts = subst (λ (st : State). AllUndue st.world) (sym starts.3) (opening_undue starts.0 starts.1 starts.2)
+starts_undue o starts = subst (λ (st : State). AllUndue st.world) (sym starts.4) (opening_undue starts.0 starts.1 starts.2 starts.3)
 
 pub always_undue : (o : State) (h : List Turn) → IsOpening o → AllUndue (after o h).world
 always_undue o h starts = after_undue o h (starts_undue o starts)

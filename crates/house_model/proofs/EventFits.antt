@@ -13,7 +13,8 @@ use Rattle.house_model.specs.declared.event.Event.{Event}
 use Rattle.house_model.specs.declared.event.Event.TheVariants as event
 use Rattle.house_model.specs.Sessions.{Hold, Held, Away, Ended, Gone, Session, Act}
 use Rattle.house_model.specs.Traffic.{Traffic, KeptTraffic, whole, brief, kept_sent}
-use Rattle.house_model.specs.States.{World, State, Kept, keep, opening, keep_world}
+use Rattle.house_model.specs.declared.limits.Limits.{Limits}
+use Rattle.house_model.specs.States.{World, State, Kept, keep, opening_with, keep_world}
 use Rattle.house_model.specs.Effects.{Open, At, Begin, On, Say, Leave, Close, apply}
 use Rattle.house_model.specs.Gate.{Waits, Knows, Holds, Needs, to_login, to_bind, to_manage, to_act, to_ask, to_pull, most_answers, left, closed, gate_at}
 use Rattle.house_model.specs.Lookups.{session_at}
@@ -178,11 +179,11 @@ after_matched st [] m = m
 after_matched st (x ∷ more) m =
     after_matched (next st x) more (record { sound = next_sound st x m.sound; back = next_back st x.event x.outcome m })
 
-pub opening_back : (domain : Address) (users : List (List ℕ)) (workers : ℕ) → Back (opening domain users workers).world
-opening_back domain users workers s w c bad = cc
+pub opening_back : (limits : Limits) (domain : Address) (users : List (List ℕ)) (workers : ℕ) → Back (opening_with limits domain users workers).world
+opening_back limits domain users workers s w c bad = cc
 
 pub starts_back : (o : State) → IsOpening o → Back o.world
-starts_back o starts = subst (λ (st : State). Back st.world) (sym starts.3) (opening_back starts.0 starts.1 starts.2)
+starts_back o starts = subst (λ (st : State). Back st.world) (sym starts.4) (opening_back starts.0 starts.1 starts.2 starts.3)
 
 pub always_matched : (o : State) (h : List Turn) → IsOpening o → IsMatched (after o h).world
 always_matched o h starts = after_matched o h (record { sound = starts_sound o starts; back = starts_back o starts })

@@ -109,5 +109,5 @@ none_before n = omega arith
 pub few_rows : (o : State) (h : List Turn) → IsOpening o → HaveFewRows (length h) (after o h).world.archives
 few_rows o h starts =
     subst (λ (n : ℕ). HaveFewRows n (after o h).world.archives) (none_before (length h))
-    (few_after h o 0 (subst (λ (st : State). HaveFewRows 0 st.world.archives) (sym starts.3)
+    (few_after h o 0 (subst (λ (st : State). HaveFewRows 0 st.world.archives) (sym starts.4)
     (record { users = λ user. omega arith; rooms = λ n. omega arith })))

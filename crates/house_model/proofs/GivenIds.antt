@@ -195,7 +195,7 @@ history_gave st (x ∷ more) gs o legal g =
     (next_gave st x.event x.outcome gs o legal.0.outcome g))
 
 opening_gave : (o : State) → IsOpening o → Gave o.world []
-opening_gave o starts = subst (λ (st : State). Gave st.world []) (sym starts.3)
+opening_gave o starts = subst (λ (st : State). Gave st.world []) (sym starts.4)
     (record { uncounted = λ k is. refl; same = λ id. refl })
 
 pub given_are : (o : State) (h : List Turn) → IsOpening o → Legal o h → Gave (after o h).world (told ids o h)

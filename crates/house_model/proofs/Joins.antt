@@ -265,7 +265,7 @@ history_good k st (x ∷ more) cs m legal g =
     (next_good k st x.event x.outcome cs m legal.0.outcome g))
 
 opening_good : (o : State) → IsOpening o → Good o.world []
-opening_good o starts = subst (λ (st : State). Good st.world []) (sym starts.3) (record {
+opening_good o starts = subst (λ (st : State). Good st.world []) (sym starts.4) (record {
   one_line = λ w v c a b. absurd (cc);
   low = λ w c a. absurd (cc);
   free = λ w c a. absurd (cc);

@@ -198,4 +198,4 @@ throughout st (x ∷ more) names fit all = (
 
 pub short_throughout : (o : State) (h : List Turn) → IsOpening o → HasShortNames o.head → NamesFit h → AreShortThroughout o h
 short_throughout o h starts names fit =
-    throughout o h names fit (subst (λ (st : State). Addressed st.world) (sym starts.3) (λ s. omega arith))
+    throughout o h names fit (subst (λ (st : State). Addressed st.world) (sym starts.4) (λ s. omega arith))

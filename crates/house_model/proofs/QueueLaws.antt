@@ -152,4 +152,4 @@ after_grows s st (x ∷ more) o =
 pub queueing : (o : State) (h : List Turn) → IsOpening o → (s : ℕ) → ((after o h).world.sessions s).traffic.queued ≡ queued_for o h s
 queueing o h starts s =
     after_grows s o h (starts_sound o starts)
-    ∙ ap (λ (st : State). (st.world.sessions s).traffic.queued ++ queued_for o h s) starts.3
+    ∙ ap (λ (st : State). (st.world.sessions s).traffic.queued ++ queued_for o h s) starts.4

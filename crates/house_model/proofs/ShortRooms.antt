@@ -252,7 +252,7 @@ pub always_short : (o : State) (h : List Turn) → IsOpening o → Legal o h →
     → AreShortRooms (histories.after o h).world.rooms
 always_short o h starts legal names fit =
     after_rooms o h no_logs (opening_all o starts) legal (short_throughout o h starts names fit)
-    (subst (λ (st : State). AreShortRooms st.world.rooms) (sym starts.3) tt)
+    (subst (λ (st : State). AreShortRooms st.world.rooms) (sym starts.4) tt)
 
 -- and one turn keeps it
 

@@ -9,7 +9,8 @@ use Rattle.house_model.specs.Numbered.{put}
 use Rattle.house_model.specs.Sessions.{Hold, Held, Away, Ended, Gone, Session, Op, Push, Pull, Request, Enable, Ack, Tell}
 use Rattle.house_model.specs.Sessions.{Act, Drop, Resume, End, Part, Marks, begun, unmade, session_step}
 use Rattle.house_model.specs.Traffic.{Traffic, whole}
-use Rattle.house_model.specs.States.{Line, World, empty_line, opening}
+use Rattle.house_model.specs.declared.limits.Limits.{Limits}
+use Rattle.house_model.specs.States.{Line, World, empty_line, opening_with}
 use Rattle.house_model.specs.Effects.{Effect, Open, At, Begin, On, Note, Hosts, Files, LineOp, Log, Say, Said, Leave, Close, logged, line_step}
 use Rattle.house_model.specs.Effects.{over_line, bound_line, moved_if, settled, touch, apply, apply_all}
 use Rattle.house_model.specs.Sound.{Sound}
@@ -211,7 +212,7 @@ pub all_sound : (world : World Traffic) (es : List Effect) → Sound world → S
 all_sound world [] o = o
 all_sound world (e ∷ es) o = all_sound (apply whole world e) es (apply_sound world e o)
 
-pub opening_sound : (domain : Address) (users : List (List ℕ)) (workers : ℕ)
-    → Sound (opening domain users workers).world
-opening_sound domain users workers =
+pub opening_sound : (limits : Limits) (domain : Address) (users : List (List ℕ)) (workers : ℕ)
+    → Sound (opening_with limits domain users workers).world
+opening_sound limits domain users workers =
     record { tied = λ w c s bad. cc; later = λ s low. refl; ordered = λ s. none_ordered }

@@ -7,7 +7,8 @@ use Rattle.house_model.specs.Numbered.{put}
 use Rattle.house_model.specs.Sessions.{Session, Op, Push, Pull, Request, Enable, Ack, Tell, Act, Drop, Resume, End, Marks, begun}
 use Rattle.house_model.specs.Sessions as sessions
 use Rattle.house_model.specs.Traffic.{Traffic, whole}
-use Rattle.house_model.specs.States.{World, State, opening}
+use Rattle.house_model.specs.declared.limits.Limits.{Limits}
+use Rattle.house_model.specs.States.{World, State, opening_with}
 use Rattle.house_model.specs.Effects as effects
 use Rattle.house_model.specs.Effects.{Effect, On, Note, Hosts, Files, apply, apply_all}
 use Rattle.house_model.specs.Histories.{Outcome, Made, Short, Turn, next, next_by, after, IsOpening}
@@ -142,8 +143,8 @@ after_good (x ∷ more) st logs suits sure =
     after_good more (next st x) (turn_logs st x.event x.outcome logs) suits.1 (turn_good st x logs x.outcome refl suits.0 sure)
 
 -- before any event
-pub opening_good : (domain : Address) (users : List (List ℕ)) (workers : ℕ) → Sure (opening domain users workers).world no_logs
-opening_good domain users workers = record {
+pub opening_good : (limits : Limits) (domain : Address) (users : List (List ℕ)) (workers : ℕ) → Sure (opening_with limits domain users workers).world no_logs
+opening_good limits domain users workers = record {
   good = record {
     fine = λ s i. refl;
     placed = λ s r i at. absurd (cc);
@@ -160,11 +161,11 @@ opening_good domain users workers = record {
 
 -- after each history whose turns suit, each stay shows a run of its room's order
 pub gapless_after : (o : State) (h : List Turn) → IsOpening o → HistorySuits o h → Gapless (after o h).world (logs_of o h)
-gapless_after o h (domain, users, workers, is) suits =
+gapless_after o h (limits, domain, users, workers, is) suits =
     good_gapless (after o h).world (logs_of o h)
-    (after_good h o no_logs suits (subst (λ (z : State). Sure z.world no_logs) (sym is) (opening_good domain users workers))).good
+    (after_good h o no_logs suits (subst (λ (z : State). Sure z.world no_logs) (sym is) (opening_good limits domain users workers))).good
 
 pub within_after : (o : State) (h : List Turn) → IsOpening o → HistorySuits o h → (i : ℕ) → IsWithin (logs_of o h).order ((logs_of o h).stays i)
-within_after o h (domain, users, workers, is) suits =
+within_after o h (limits, domain, users, workers, is) suits =
     good_within (after o h).world (logs_of o h)
-    (after_good h o no_logs suits (subst (λ (z : State). Sure z.world no_logs) (sym is) (opening_good domain users workers))).good
+    (after_good h o no_logs suits (subst (λ (z : State). Sure z.world no_logs) (sym is) (opening_good limits domain users workers))).good

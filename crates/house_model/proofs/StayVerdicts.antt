@@ -293,9 +293,9 @@ after_all st (x ∷ more) logs all = after_all (next st x) more (turn_logs st x.
 pub opening_all : (o : State) → IsOpening o → All o no_logs
 opening_all o starts = record {
   sound = starts_sound o starts;
-  zero = ap (λ (st : State). st.world.sessions 0) starts.3;
-  housed = subst (λ (st : State). Housed st.world) (sym starts.3) (λ n. tt);
-  sure = subst (λ (z : State). Sure z.world no_logs) (sym starts.3) (opening_good starts.0 starts.1 starts.2);
+  zero = ap (λ (st : State). st.world.sessions 0) starts.4;
+  housed = subst (λ (st : State). Housed st.world) (sym starts.4) (λ n. tt);
+  sure = subst (λ (z : State). Sure z.world no_logs) (sym starts.4) (opening_good starts.0 starts.1 starts.2 starts.3);
 }
 
 pub known_after : (o : State) (h : List Turn) → IsOpening o → Known (after o h).world

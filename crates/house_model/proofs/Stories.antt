@@ -11,7 +11,7 @@ use Rattle.house_model.specs.Accounts.{IsAccountOf, LineFits}
 use Rattle.house_model.specs.Story.{small_house, faulty, until_lost, whole_story, her_account}
 
 pub story_starts : IsOpening small_house
-story_starts = (_, _, _, refl)
+story_starts = (_, _, _, _, refl)
 
 pub story_legal : (k : Kind) (c : Condition) → Legal small_house (whole_story (faulty k c))
 unfolding number number_among

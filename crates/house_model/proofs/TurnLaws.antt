@@ -6,7 +6,8 @@ use Rattle.jid_core.specs.Addresses.{Address}
 use Rattle.house_model.specs.declared.event.Event.{Event}
 use Rattle.house_model.specs.declared.reply.Reply.{Reply}
 use Rattle.house_model.specs.Traffic.{Traffic, whole, brief}
-use Rattle.house_model.specs.States.{World, Head, State, Kept, keep, keep_world, opening}
+use Rattle.house_model.specs.declared.limits.Limits.{Limits}
+use Rattle.house_model.specs.States.{World, Head, State, Kept, keep, keep_world, opening_with}
 use Rattle.house_model.specs.Effects.{Effect, apply_all}
 use Rattle.house_model.specs.Steps.{verdict, turn}
 use Rattle.house_model.specs.Histories.{Outcome, Made, Short, Turn, step, kept_step, line_of, Meets, MayBeShort, IsOutcome, passed, next_by}
@@ -46,7 +47,7 @@ after_sound st [] o = o
 after_sound st (x ∷ more) o = after_sound (next st x) more (next_sound st x o)
 
 pub starts_sound : (o : State) → IsOpening o → Sound o.world
-starts_sound o starts = subst (λ (st : State). Sound st.world) (sym starts.3) (opening_sound starts.0 starts.1 starts.2)
+starts_sound o starts = subst (λ (st : State). Sound st.world) (sym starts.4) (opening_sound starts.0 starts.1 starts.2 starts.3)
 
 pub always_sound : (o : State) (h : List Turn) → IsOpening o → Sound (after o h).world
 always_sound o h starts = after_sound o h (starts_sound o starts)
@@ -117,6 +118,6 @@ stands-ended o h k k' e (Ok reply) stands low meets may text state same passed =
 stands-ended o h k k' e (Err fault) stands low meets may text state same passed =
     stands-short o h k k' e stands low meets may passed
 
-pub starts : (domain : Address) (users : List (List ℕ)) (workers : ℕ)
-    → StandsFor (opening domain users workers) [] (keep (opening domain users workers))
-starts domain users workers = record { starts = (domain, users, workers, refl); legal = tt; kept = refl }
+pub starts : (limits : Limits) (domain : Address) (users : List (List ℕ)) (workers : ℕ)
+    → StandsFor (opening_with limits domain users workers) [] (keep (opening_with limits domain users workers))
+starts limits domain users workers = record { starts = (limits, domain, users, workers, refl); legal = tt; kept = refl }

@@ -23,7 +23,7 @@ turns_after st (x ∷ more) =
     omega (arith, rest, first)
 
 turns_opening : (o : State) → IsOpening o → o.head.turns ≡ 0
-turns_opening o starts = ap (λ (st : State). st.head.turns) starts.3
+turns_opening o starts = ap (λ (st : State). st.head.turns) starts.4
 
 pub state_turns : (o : State) (h : List Turn) → IsOpening o → (after o h).head.turns ≡ length h
 state_turns o h starts = omega (arith, turns_after o h, turns_opening o starts)
@@ -96,7 +96,7 @@ opened_after st (x ∷ more) legal =
     omega (arith, rest, first)
 
 opened_opening : (o : State) → IsOpening o → o.world.opened ≡ 0
-opened_opening o starts = ap (λ (st : State). st.world.opened) starts.3
+opened_opening o starts = ap (λ (st : State). st.world.opened) starts.4
 
 pub state_opened : (o : State) (h : List Turn) → IsOpening o → Legal o h → (after o h).world.opened ≡ openings h
 state_opened o h starts legal = omega (arith, opened_after o h legal, opened_opening o starts)

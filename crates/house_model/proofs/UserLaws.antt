@@ -107,4 +107,4 @@ then_users st (x ∷ more) all = then_users (next st x) more (next_users st x.ev
 
 pub users_after : (o : State) (h : List Turn) → IsOpening o → AreUsers (after o h).head.domain.domain (after o h).world
 users_after o h starts =
-    then_users o h (subst (λ (st : State). AreUsers st.head.domain.domain st.world) (sym starts.3) (λ s (is : false ≡ true). absurd (true≢false (sym is))))
+    then_users o h (subst (λ (st : State). AreUsers st.head.domain.domain st.world) (sym starts.4) (λ s (is : false ≡ true). absurd (true≢false (sym is))))

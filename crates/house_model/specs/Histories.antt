@@ -9,9 +9,10 @@ use Rattle.stream_grammar.specs.grammar.Proper.{IsProper}
 use Rattle.jid_core.specs.Addresses.{Address}
 use Rattle.house_model.specs.declared.event.Event.{Event}
 use Rattle.house_model.specs.declared.event.Event.TheVariants.{OpenLine, Login, Bind, Enable, Resume, Act, Ack, Ask, Pull, DropLine, CloseLine, Sweep}
+use Rattle.house_model.specs.declared.limits.Limits.{Limits}
 use Rattle.house_model.specs.declared.reply.Reply.{Reply}
 use Rattle.house_model.specs.Traffic.{Traffic, whole, KeptTraffic, brief}
-use Rattle.house_model.specs.States.{House, State, Kept, keep, opening}
+use Rattle.house_model.specs.States.{House, State, Kept, keep, opening_with}
 use Rattle.house_model.specs.Steps.{Step, verdict, turn, concluded}
 
 abbrev pub step : State → Event → Step Traffic
@@ -143,9 +144,9 @@ abbrev pub Legal : State → List Turn → Type 0
 Legal st [] = ⊤
 Legal st (x ∷ more) = Allowed st x × Legal (next st x) more
 
--- a state in which no event has come
+-- a state in which no event has come, of a house with any limits
 abbrev pub IsOpening : State → Type 0
-IsOpening o = (domain : Address) × (users : List (List ℕ)) × (workers : ℕ) × (o ≡ opening domain users workers)
+IsOpening o = (limits : Limits) × (domain : Address) × (users : List (List ℕ)) × (workers : ℕ) × (o ≡ opening_with limits domain users workers)
 
 -- what the code has stands for a history: this is legal, and what is kept of the state after it is what the code has
 pub record StandsFor (o : State) (h : List Turn) (k : Kept) : Type 0 where

@@ -4,6 +4,7 @@ use Rattle.jid_core.specs.Addresses.{Address}
 use Rattle.session_table.specs.declared.line.Line.TheVariants.{Empty}
 use Rattle.session_table.specs.declared.line.Line as stage
 use Rattle.house_model.specs.declared.answer.Answer.{Answer}
+use Rattle.house_model.specs.declared.limits.Limits.{Limits}
 use Rattle.archive_table.specs.Archives.{Archives, no_archives}
 use Rattle.contact_table.specs.Books.{Book, empty_book}
 use Rattle.muc_service.specs.Rooms.{Rooms, no_rooms}
@@ -19,6 +20,7 @@ pub record Head : Type 0 where
   pub domain : Address
   pub users : List (List ℕ)
   pub workers : ℕ  -- how many lines there are
+  pub limits : Limits  -- how many sessions there may be
   pub turns : ℕ  -- how many events there were
   pub moment : ℕ  -- the greatest moment so far
 
@@ -47,12 +49,20 @@ Kept = House KeptTraffic
 abbrev pub empty_line : Line
 empty_line = record { stage = Empty; answers = [] }
 
+-- how many sessions a house may have, and a user, where nothing else is said
+abbrev pub usual : Limits
+usual = record { sessions = 512; of_user = 16 }
+
 -- a house before its first event
-abbrev pub opening : Address → List (List ℕ) → ℕ → State
-opening domain users workers = record {
-  head = record { domain = domain; users = users; workers = workers; turns = 0; moment = 0 };
+abbrev pub opening_with : Limits → Address → List (List ℕ) → ℕ → State
+opening_with limits domain users workers = record {
+  head = record { domain = domain; users = users; workers = workers; limits = limits; turns = 0; moment = 0 };
   world = record { opened = 0; lines = λ w. empty_line; made = 0; sessions = λ s. unmade whole; book = empty_book; rooms = no_rooms; archives = no_archives };
 }
+
+-- the same with the usual limits
+abbrev pub opening : Address → List (List ℕ) → ℕ → State
+opening domain users workers = opening_with usual domain users workers
 
 -- what is kept of a session; nothing of one that departed
 abbrev pub keep_by : Bool → Hold → Traffic → Rest → Session KeptTraffic

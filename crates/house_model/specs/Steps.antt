@@ -78,19 +78,12 @@ resource_or dice (Some resource) = resource
 abbrev pub bound_address : Kept → (user : ℕ) → List ℕ → Address
 bound_address k user resource = record { local = Some (slice_index_or k.head.users user []); domain = k.head.domain.domain; resource = Some resource }
 
--- how many sessions a user may have, and the house
-abbrev pub most_of_user : ℕ
-most_of_user = 16
-
-abbrev pub most_sessions : ℕ
-most_sessions = 512
-
--- neither limit is passed by one session more; the one of the same address is not counted, since it departs
+-- neither limit of the house is passed by one session more; the one of the same address is not counted, since it departs
 abbrev pub has_place : Kept → Address → Bool
 has_place k a =
-    nat_lt (passing k.world.made (λ s. is_there (k.world.sessions s) && not (is_at a (k.world.sessions s)))) most_sessions
+    nat_lt (passing k.world.made (λ s. is_there (k.world.sessions s) && not (is_at a (k.world.sessions s)))) k.head.limits.sessions
     && nat_lt (passing k.world.made (λ s. is_there (k.world.sessions s) &&
-    (same_bare (k.world.sessions s).rest.address a && not (is_at a (k.world.sessions s))))) most_of_user
+    (same_bare (k.world.sessions s).rest.address a && not (is_at a (k.world.sessions s))))) k.head.limits.of_user
 
 -- Departure: the session ends, others are told, it leaves its rooms, and it is there no more. It is over with this cause, unless it was over
 -- already.

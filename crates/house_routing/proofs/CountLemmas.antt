@@ -1,14 +1,16 @@
 -- How many sessions there are that a new one of an address has to leave room for.
-use Rattle.std.proofs.Common.{◌≡◌, ◌≢◌, inl, inr, ℕ, zero, suc, ◌+◌, ◌<◌, ◌≤◌, ◌&&◌, nat_lt, nat_eq, not, cond, Bool, true, false}
-use Rattle.std.proofs.Common.{List, [], ◌∷◌, Option, Some, None, if◌then◌else◌, arith, refl, sym, ap, ◌∙◌}
+use Rattle.std.proofs.Common.{◌≡◌, ◌≢◌, inl, inr, ℕ, zero, suc, ◌+◌, ◌-◌, ◌<◌, ◌≤◌, ◌&&◌, nat_lt, nat_eq, not, cond, Bool, true, false}
+use Rattle.std.proofs.Common.{List, [], ◌∷◌, length, Option, Some, None, if◌then◌else◌, arith, refl, sym, ap, ◌∙◌}
+use Rattle.std.specs.Prelude.{bytes_eq}
 use Rattle.std.specs.Map.{lookup}
-use Rattle.std.proofs.lemmas.Bool.{ne_eqb}
+use Rattle.std.proofs.lemmas.Bool.{ne_eqb, true≢false}
 use Rattle.std.proofs.lemmas.Bool.Decides.{eqb_tells}
-use Rattle.jid_core.specs.Addresses.{Address, same_address, same_bare}
+use Rattle.jid_core.specs.Addresses.{Address, same_address, same_bare, same_part}
 use Rattle.session_table.specs.declared.line.Line as stage
 use Rattle.session_table.specs.Sessions.{SessionRecord}
-use Rattle.session_table.specs.Tables.{Rises, TableRecord, session_of}
+use Rattle.session_table.specs.Tables.{Rises, TableRecord, of_user, session_of}
 use Rattle.house_model.specs.declared.answer.Answer.{Answer}
+use Rattle.house_model.specs.declared.limits.Limits.{Limits}
 use Rattle.house_model.specs.Numbered.{passing}
 use Rattle.house_model.specs.States.{World, Kept}
 use Rattle.house_model.specs.Lookups.{is_there, is_at}
@@ -107,7 +109,10 @@ counted_most pick t rises =
     let same = passing_listed pick 0 t.made t.sessions rises in
     omega (arith, most, same)
 
--- the sessions that count for one more of an address, and those of its user
+-- the sessions at an address, those that count for one more there, and those of its user
+abbrev pub is_same : Address → SessionRecord → Bool
+is_same a x = same_address x.address a
+
 abbrev pub is_other : Address → SessionRecord → Bool
 is_other a x = not (same_address x.address a)
 
@@ -128,11 +133,13 @@ users_by a lines (Some x) each =
 
 pub place_is : (k : Kept) (a : Address) (t : TableRecord) (answers : List (List Answer)) (book : Book) (rooms : Rooms) (kept : Archives)
     → IsTied t → Rises 0 t.sessions t.made → k.world ≡ world_of t answers book rooms kept
-    → has_place k a ≡ (nat_lt (counted (is_other a) t.sessions) 512 && nat_lt (counted (is_users_other a) t.sessions) 16)
+    → has_place k a
+    ≡ (nat_lt (counted (is_other a) t.sessions) k.head.limits.sessions && nat_lt (counted (is_users_other a) t.sessions) k.head.limits.of_user)
 place_is k a t answers book rooms kept tied rises world =
-    ap (λ (x : World KeptTraffic). nat_lt (passing x.made (λ s. is_there (x.sessions s) && not (is_at a (x.sessions s)))) 512
-    && nat_lt (passing x.made (λ s. is_there (x.sessions s) && (same_bare (x.sessions s).rest.address a && not (is_at a (x.sessions s))))) 16) world
-    ∙ (λ i. nat_lt (all i) 512 && nat_lt (users i) 16)
+    ap (λ (x : World KeptTraffic). nat_lt (passing x.made (λ s. is_there (x.sessions s) && not (is_at a (x.sessions s)))) k.head.limits.sessions
+    && nat_lt (passing x.made (λ s. is_there (x.sessions s) && (same_bare (x.sessions s).rest.address a && not (is_at a (x.sessions s)))))
+    k.head.limits.of_user) world
+    ∙ (λ i. nat_lt (all i) k.head.limits.sessions && nat_lt (users i) k.head.limits.of_user)
   where
     all : passing t.made (λ s. is_there (sessions_of t s) && not (is_at a (sessions_of t s))) ≡ counted (is_other a) t.sessions
     all =
@@ -145,21 +152,80 @@ place_is k a t answers book rooms kept tied rises world =
         (λ i. passing t.made (λ s. users_by a t.lines (session_of s t) (tied.each s) i))
         ∙ passing_listed (is_users_other a) 0 t.made t.sessions rises
 
+-- those that pass, and those that don't
+pub counted_both : (pick : SessionRecord → Bool) (es : List (ℕ × SessionRecord)) → counted pick es + counted (λ x. not (pick x)) es ≡ length es
+counted_both pick [] = refl
+counted_both pick (e ∷ more) = by (pick e.1) (counted_both pick more)
+  where
+    by : (b : Bool) → counted pick more + counted (λ x. not (pick x)) more ≡ length more
+        → (one_if b + counted pick more) + (one_if (not b) + counted (λ x. not (pick x)) more) ≡ suc (length more)
+    by true rest = omega (arith, rest)
+    by false rest = omega (arith, rest)
+
+-- all that pass are of one user, so it is enough to look at the user's
+pub counted_of_user : (local : Option (List ℕ)) (pick : SessionRecord → Bool) (es : List (ℕ × SessionRecord))
+    → ((x : SessionRecord) → pick x ≡ true → same_part x.address.local local ≡ true) → counted pick (of_user local es) ≡ counted pick es
+counted_of_user local pick [] theirs = refl
+counted_of_user local pick (e ∷ more) theirs = by (same_part e.1.address.local local) refl (counted_of_user local pick more theirs)
+  where
+    none : same_part e.1.address.local local ≡ false → (b : Bool) → pick e.1 ≡ b → one_if b ≡ 0
+    none other true is = absurd (true≢false (sym (theirs e.1 is) ∙ other))
+    none other false is = refl
+
+    by : (b : Bool) → same_part e.1.address.local local ≡ b → counted pick (of_user local more) ≡ counted pick more
+        → counted pick (cond b (e ∷ of_user local more) (of_user local more)) ≡ one_if (pick e.1) + counted pick more
+    by true own rest = ap (λ n. one_if (pick e.1) + n) rest
+    by false other rest =
+        let zero : one_if (pick e.1) ≡ 0 = none other (pick e.1) refl in
+        omega (arith, zero, rest)
+
+and_left : (b c : Bool) → (b && c) ≡ true → b ≡ true
+and_left true c both = refl
+and_left false c both = both
+
+its_user : (a : Address) (x : SessionRecord) → same_bare x.address a ≡ true → same_part x.address.local a.local ≡ true
+its_user a x same = and_left (same_part x.address.local a.local) (bytes_eq x.address.domain a.domain) same
+
+pub same_of_user : (a : Address) (es : List (ℕ × SessionRecord)) → counted (is_same a) (of_user a.local es) ≡ counted (is_same a) es
+same_of_user a es = counted_of_user a.local (is_same a) es
+    (λ x same. its_user a x (and_left (same_bare x.address a) (same_part x.address.resource a.resource) same))
+
+pub others_of_user : (a : Address) (es : List (ℕ × SessionRecord))
+    → counted (is_users_other a) (of_user a.local es) ≡ counted (is_users_other a) es
+others_of_user a es = counted_of_user a.local (is_users_other a) es
+    (λ x other. its_user a x (and_left (same_bare x.address a) (not (same_address x.address a)) other))
+
 -- a count, where none is left
-counted_end : (n : ℕ) (pick : SessionRecord → Bool) (rest es : List (ℕ × SessionRecord)) → rest ≡ [] → n + counted pick rest ≡ counted pick es
+pub counted_end : (n : ℕ) (pick : SessionRecord → Bool) (rest es : List (ℕ × SessionRecord)) → rest ≡ [] → n + counted pick rest ≡ counted pick es
     → counted pick es ≡ n
 counted_end n pick rest es end all =
     let none : counted pick rest ≡ 0 = ap (counted pick) end in
     omega (arith, none, all)
 
+-- those that were counted are no more than there are
+pub counted_within : (pick : SessionRecord → Bool) (count n : ℕ) (rest es : List (ℕ × SessionRecord)) → count ≡ length es → rest ≡ []
+    → n + counted pick rest ≡ counted pick es → n ≤ count
+counted_within pick count n rest es many end all =
+    let both = counted_both pick es in
+    let counts = counted_end n pick rest es end all in
+    omega (arith, both, counts, many)
+
+-- all less those at the address are the others
 pub place_counted : (k : Kept) (a : Address) (t : TableRecord) (answers : List (List Answer)) (book : Book) (rooms : Rooms) (kept : Archives)
-    (n m : ℕ) (rest : List (ℕ × SessionRecord))
-    → IsTied t → Rises 0 t.sessions t.made → k.world ≡ world_of t answers book rooms kept → rest ≡ []
-    → n + counted (is_other a) rest ≡ counted (is_other a) t.sessions → m + counted (is_users_other a) rest ≡ counted (is_users_other a) t.sessions
-    → has_place k a ≡ (nat_lt n 512 && nat_lt m 16)
-place_counted k a t answers book rooms kept n m rest tied rises world end all users =
+    (limits : Limits) (count n m : ℕ) (rest : List (ℕ × SessionRecord))
+    → IsTied t → Rises 0 t.sessions t.made → k.world ≡ world_of t answers book rooms kept → k.head.limits ≡ limits
+    → count ≡ length t.sessions → rest ≡ [] → n + counted (is_same a) rest ≡ counted (is_same a) t.sessions
+    → m + counted (is_users_other a) rest ≡ counted (is_users_other a) t.sessions
+    → has_place k a ≡ (nat_lt (count - n) limits.sessions && nat_lt m limits.of_user)
+place_counted k a t answers book rooms kept limits count n m rest tied rises world most many end same users =
     place_is k a t answers book rooms kept tied rises world
-    ∙ (λ i. nat_lt (counted_end n (is_other a) rest t.sessions end all i) 512 && nat_lt (counted_end m (is_users_other a) rest t.sessions end users i) 16)
+    ∙ (λ i. nat_lt (others i) (most i).sessions && nat_lt (counted_end m (is_users_other a) rest t.sessions end users i) (most i).of_user)
+  where
+    others : counted (is_other a) t.sessions ≡ count - n
+    others =
+        let both = counted_both (is_same a) t.sessions in
+        let counts = counted_end n (is_same a) rest t.sessions end same in
+        omega (arith, both, counts, many)
 
 -- one more is counted, where one is left
 pub counted_below : (n : ℕ) (pick : SessionRecord → Bool) (t : TableRecord) (e : ℕ × SessionRecord) (rest more : List (ℕ × SessionRecord))

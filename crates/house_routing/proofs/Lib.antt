@@ -1,6 +1,7 @@
 pub mod AvailableLemmas
 pub mod KeptLemmas
 pub mod ListedLemmas
+pub mod NamedLemmas
 pub mod OnceLemmas
 pub mod PlaceLemmas
 pub mod RosterLemmas
@@ -8,3 +9,4 @@ pub mod RoutingLemmas
 pub mod ShownLemmas
 pub mod TurnLemmas
 pub mod CountLemmas
+pub mod UserLemmas

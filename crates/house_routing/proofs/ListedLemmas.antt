@@ -1,8 +1,8 @@
 -- The sessions of a user, by number and as the table lists them.
 use Rattle.std.proofs.Common.{◌≡◌, inl, inr, ℕ, zero, suc, ◌<◌, ◌≤◌, ◌&&◌, nat_eq, cond, Bool, true, false, List, []}
 use Rattle.std.proofs.Common.{◌∷◌, ◌++◌, Option, Some, None, if◌then◌else◌, arith, refl, sym, ap, ◌∙◌}
-use Rattle.std.specs.Prelude.{map, flat_map, is_some, bytes_eq, ◌||◌}
-use Rattle.std.specs.List.{filter, list_any, AllByRecursion}
+use Rattle.std.specs.Prelude.{flat_map, map, is_some}
+use Rattle.std.specs.List.{filter, list_any}
 use Rattle.std.specs.Map.{lookup}
 use Rattle.std.proofs.lemmas.Bool.{ne_eqb}
 use Rattle.std.proofs.lemmas.Bool.Decides.{eqb_tells}
@@ -11,19 +11,17 @@ use Rattle.jid_core.specs.Addresses.{Address, same_part}
 use Rattle.stanza_model.specs.declared.here.Here.{Here}
 use Rattle.session_table.specs.declared.line.Line as stage
 use Rattle.session_table.specs.Sessions.{SessionRecord}
-use Rattle.session_table.specs.Tables.{Rises, session_of}
+use Rattle.session_table.specs.Tables.{Rises, of_user, session_of}
 use Rattle.house_model.specs.Numbered.{all_passing}
 use Rattle.house_model.specs.Lookups.{here, is_of, is_there, sessions_of}
-use Rattle.contact_table.specs.Arranged.{arranged, those_of}
 use Rattle.house_model.specs.Presences.{available_of, named, names}
 use Rattle.house_model.specs.Sessions.{Session}
 use Rattle.house_model.specs.Traffic.{KeptTraffic}
 use Rattle.house_world.specs.declared.world.World as code
 use Rattle.house_world.specs.Views.{session_by}
-use Rattle.house_routing.specs.Listings.{here_from, is_among, is_named, is_seen, is_users, listed, listed_by}
+use Rattle.house_routing.specs.Listings.{here_from, here_in, is_named, numbers_by}
 use Rattle.house_world.specs.Wholes.{IsSession, IsTied}
 use Rattle.house_world.specs.Worlds.{seen}
-use Rattle.std.proofs.lemmas.Slice.Eq.{bytes_eq-Decides}
 use Rattle.house_world.proofs.AtLemmas.{there_is}
 use Rattle.house_world.proofs.DueLemmas.{passes}
 use Rattle.house_routing.proofs.CountLemmas.{none_below, rises_most}
@@ -59,9 +57,17 @@ all_more (suc n) k b test other above low none here same = elim (eqb_tells k (su
       (λ i. before i ++ last i) ∙ append_assoc (one_of b k) (all_passing n test) (one_of (test (suc n)) (suc n))
 ]
 
-abbrev picked : (SessionRecord → Bool) → List (ℕ × SessionRecord) → List ℕ
-picked pick [] = []
-picked pick (e ∷ more) = one_of (pick e.1) e.0 ++ picked pick more
+abbrev pub is_users : List ℕ → SessionRecord → Bool
+is_users user x = same_part x.address.local (Some user)
+
+-- the sessions that pass a test
+abbrev pub listed_by : Bool → ℕ × SessionRecord → List Here → List Here
+listed_by true e later = here_from e.0 e.1 ∷ later
+listed_by false e later = later
+
+abbrev pub listed : (SessionRecord → Bool) → List (ℕ × SessionRecord) → List Here
+listed pick [] = []
+listed pick (e ∷ more) = listed_by (pick e.1) e (listed pick more)
 
 own_number : (e : ℕ × SessionRecord) (more : List (ℕ × SessionRecord)) → lookup (nat_eq e.0) (e ∷ more) ≡ Some e.1
 own_number e more = elim (eqb_tells e.0 e.0) [
@@ -70,7 +76,7 @@ own_number e more = elim (eqb_tells e.0 e.0) [
 ]
 
 all_picked : (pick : SessionRecord → Bool) (last made : ℕ) (es : List (ℕ × SessionRecord)) → Rises last es made
-    → all_passing made (λ s. passes pick (lookup (nat_eq s) es)) ≡ picked pick es
+    → all_passing made (λ s. passes pick (lookup (nat_eq s) es)) ≡ numbers_by pick es
 all_picked pick last made [] rises = none_passing made (λ s. false) (λ s low. refl)
 all_picked pick last made (e ∷ more) rises =
     let first = rises.0 in
@@ -90,14 +96,14 @@ later_found last made s e more x rises at = elim (eqb_tells s e.0) [
 ]
 
 map_listed : (g : ℕ → Here) (pick : SessionRecord → Bool) (last made : ℕ) (es : List (ℕ × SessionRecord)) → Rises last es made
-    → ((s : ℕ) (x : SessionRecord) → lookup (nat_eq s) es ≡ Some x → g s ≡ here_from s x) → map g (picked pick es) ≡ listed pick es
+    → ((s : ℕ) (x : SessionRecord) → lookup (nat_eq s) es ≡ Some x → g s ≡ here_from s x) → map g (numbers_by pick es) ≡ listed pick es
 map_listed g pick last made [] rises are = refl
 map_listed g pick last made (e ∷ more) rises are =
     by (pick e.1) (are e.0 e.1 (own_number e more))
     (map_listed g pick e.0 made more rises.1 (λ s x at. are s x (later_found last made s e more x rises at)))
   where
-    by : (b : Bool) → g e.0 ≡ here_from e.0 e.1 → map g (picked pick more) ≡ listed pick more
-        → map g (one_of b e.0 ++ picked pick more) ≡ listed_by b e (listed pick more)
+    by : (b : Bool) → g e.0 ≡ here_from e.0 e.1 → map g (numbers_by pick more) ≡ listed pick more
+        → map g (one_of b e.0 ++ numbers_by pick more) ≡ listed_by b e (listed pick more)
     by true own rest = λ i. own i ∷ rest i
     by false own rest = rest
 
@@ -110,7 +116,7 @@ of_by : (user : List ℕ) → IsPick (is_of user) (is_users user)
 of_by user ls None each = refl
 of_by user ls (Some x) each = λ i. there_is x ls (each x refl) i && same_part x.address.local (Some user)
 
-abbrev is_any : SessionRecord → Bool
+abbrev pub is_any : SessionRecord → Bool
 is_any x = true
 
 there_by : IsPick is_there is_any
@@ -141,7 +147,7 @@ picked_is a test pick is tied rises =
     ∙ map_listed (here (seen a)) pick 0 t.made t.sessions rises (here_is a)
     )
 
-pub listed_is : (a : code.World) (user : List ℕ) → IsTied a.table → Rises 0 a.table.sessions a.table.made
+listed_is : (a : code.World) (user : List ℕ) → IsTied a.table → Rises 0 a.table.sessions a.table.made
     → listed (is_users user) a.table.sessions ≡ sessions_of (seen a) user
 listed_is a user tied rises = picked_is a (is_of user) (is_users user) (of_by user) tied rises
 
@@ -157,7 +163,7 @@ filter_listed p pick q (e ∷ more) same = by (pick e.1) (q e.1) (same e.0 e.1) 
     by true true is rest = λ i. if is i then here_from e.0 e.1 ∷ rest i else rest i
     by true false is rest = λ i. if is i then here_from e.0 e.1 ∷ rest i else rest i
 
-pub named_is : (a : code.World) (addresses : List Address) → IsTied a.table → Rises 0 a.table.sessions a.table.made
+named_is : (a : code.World) (addresses : List Address) → IsTied a.table → Rises 0 a.table.sessions a.table.made
     → listed (is_named addresses) a.table.sessions ≡ named (seen a) addresses
 named_is a addresses tied rises =
     sym (
@@ -173,60 +179,56 @@ available_is a user tied rises =
     ap (filter (λ h. h.available)) (sym (listed_is a user tied rises))
     ∙ filter_listed (λ h. h.available) (is_users user) (λ x. is_some x.presence) a.table.sessions (λ n x. refl)
 
-both_ways : (shown among same : Bool) → (same ≡ true → among ≡ true) → ((shown && among) && same) ≡ (same && shown)
-both_ways false among true is = refl
-both_ways false among false is = refl
-both_ways true true true is = refl
-both_ways true false true is = absurd (let z : false ≡ true = is refl in cc)
-both_ways true true false is = refl
-both_ways true false false is = refl
+-- the sessions of a user, as the table finds them
 
--- of the sessions of several users, those of one of them
-one_user : (users : List (List ℕ)) (user : List ℕ) (x : SessionRecord) → list_any (λ u. bytes_eq u user) users ≡ true
-    → (is_seen users x && same_part x.address.local (Some user)) ≡ (is_users user x && is_some x.presence)
-one_user users user x among = by (is_some x.presence) x.address.local
+and_true : (b : Bool) → (b && true) ≡ b
+and_true true = refl
+and_true false = refl
+
+user_listed : (user : List ℕ) (pick : SessionRecord → Bool) (es : List (ℕ × SessionRecord))
+    → listed pick (of_user (Some user) es) ≡ listed (λ x. is_users user x && pick x) es
+user_listed user pick [] = refl
+user_listed user pick (e ∷ more) = by (is_users user e.1) (user_listed user pick more)
   where
-    by : (shown : Bool) (local : Option (List ℕ))
-        → ((shown && is_among users local) && same_part local (Some user)) ≡ (same_part local (Some user) && shown)
-    by shown None = both_ways shown false false (λ e. absurd (cc))
-    by shown (Some name) =
-        both_ways shown (list_any (λ u. bytes_eq u name) users) (bytes_eq name user)
-        (λ e. ap (λ (n : List ℕ). list_any (λ u. bytes_eq u n) users) ((bytes_eq-Decides name user).0 e) ∙ among)
+    by : (b : Bool) → listed pick (of_user (Some user) more) ≡ listed (λ x. is_users user x && pick x) more
+        → listed pick (cond b (e ∷ of_user (Some user) more) (of_user (Some user) more))
+        ≡ listed_by (b && pick e.1) e (listed (λ x. is_users user x && pick x) more)
+    by true rest = ap (listed_by (pick e.1) e) rest
+    by false rest = rest
 
-or_right : (b c : Bool) → c ≡ true → (b || c) ≡ true
-or_right true c is = refl
-or_right false c is = is
+abbrev pub is_shown : SessionRecord → Bool
+is_shown x = is_some x.presence
 
-abbrev AreIn : List (List ℕ) → List (List ℕ) → Type 0
-AreIn users some = AllByRecursion (λ u. list_any (λ v. bytes_eq v u) users ≡ true) some
+pub users_sessions : (a : code.World) (user : List ℕ) → IsTied a.table → Rises 0 a.table.sessions a.table.made
+    → listed is_any (of_user (Some user) a.table.sessions) ≡ sessions_of (seen a) user
+users_sessions a user tied rises =
+    user_listed user is_any a.table.sessions
+    ∙ ((λ i. listed (λ x. and_true (is_users user x) i) a.table.sessions) ∙ listed_is a user tied rises)
 
-are_in_more : (w : List ℕ) (users some : List (List ℕ)) → AreIn users some → AreIn (w ∷ users) some
-are_in_more w users [] all = tt
-are_in_more w users (u ∷ some) all = (or_right (bytes_eq w u) (list_any (λ v. bytes_eq v u) users) all.0, are_in_more w users some all.1)
+pub users_available : (a : code.World) (user : List ℕ) → IsTied a.table → Rises 0 a.table.sessions a.table.made
+    → listed is_shown (of_user (Some user) a.table.sessions) ≡ available_of (seen a) user
+users_available a user tied rises = user_listed user is_shown a.table.sessions ∙ sym (available_is a user tied rises)
 
-are_in : (users : List (List ℕ)) → AreIn users users
-are_in [] = tt
-are_in (u ∷ users) =
-    (ap (λ (b : Bool). b || list_any (λ v. bytes_eq v u) users) ((bytes_eq-Decides u u).1 refl), are_in_more u users users (are_in users))
+pub listed_end : (found : List Here) (pick : SessionRecord → Bool) (rest : List (ℕ × SessionRecord)) (all : List Here) → rest ≡ []
+    → found ++ listed pick rest ≡ all → found ≡ all
+listed_end found pick rest all end done = sym (append-nil found) ∙ (sym (λ i. found ++ listed pick (end i)) ∙ done)
 
-module _ (a : code.World) (users : List (List ℕ)) (tied : IsTied a.table) (rises : Rises 0 a.table.sessions a.table.made) where
-  abbrev found : List Here
-  found = listed (is_seen users) a.table.sessions
+-- what is found of the numbers of those that pass
+found_listed : (find : ℕ → Option SessionRecord) (pick : SessionRecord → Bool) (last made : ℕ) (es : List (ℕ × SessionRecord))
+    → Rises last es made → ((s : ℕ) (x : SessionRecord) → lookup (nat_eq s) es ≡ Some x → find s ≡ Some x)
+    → flat_map (λ s. here_in s (find s)) (numbers_by pick es) ≡ listed pick es
+found_listed find pick last made [] rises are = refl
+found_listed find pick last made (e ∷ more) rises are =
+    by (pick e.1) (are e.0 e.1 (own_number e more))
+    (found_listed find pick e.0 made more rises.1 (λ s x at. are s x (later_found last made s e more x rises at)))
+  where
+    by : (b : Bool) → find e.0 ≡ Some e.1 → flat_map (λ s. here_in s (find s)) (numbers_by pick more) ≡ listed pick more
+        → flat_map (λ s. here_in s (find s)) (one_of b e.0 ++ numbers_by pick more) ≡ listed_by b e (listed pick more)
+    by true own rest = λ i. here_in e.0 (own i) ++ rest i
+    by false own rest = rest
 
-  those_are : (user : List ℕ) → list_any (λ u. bytes_eq u user) users ≡ true → those_of found user ≡ available_of (seen a) user
-  those_are user among =
-      filter_listed (λ h. same_part h.address.local (Some user)) (is_seen users) (λ x. same_part x.address.local (Some user)) a.table.sessions
-      (λ n x. refl)
-      ∙ ((λ i. listed (λ x. one_user users user x among i) a.table.sessions)
-      ∙ sym (available_is a user tied rises))
-
-  all_are : (some : List (List ℕ)) → AreIn users some → flat_map (those_of found) some ≡ flat_map (available_of (seen a)) some
-  all_are [] all = refl
-  all_are (u ∷ some) all = λ i. those_are u all.0 i ++ all_are some all.1 i
-
-  pub seen_is : arranged users found ≡ flat_map (available_of (seen a)) users
-  seen_is = all_are users (are_in users)
-
-pub listed_end : (found : List Here) (pick : SessionRecord → Bool) (rest es : List (ℕ × SessionRecord)) → rest ≡ []
-    → found ++ listed pick rest ≡ listed pick es → found ≡ listed pick es
-listed_end found pick rest es end all = sym (append-nil found) ∙ (sym (λ i. found ++ listed pick (end i)) ∙ all)
+pub named_found : (a : code.World) (addresses : List Address) → IsTied a.table → Rises 0 a.table.sessions a.table.made
+    → flat_map (λ s. here_in s (session_of s a.table)) (numbers_by (is_named addresses) a.table.sessions) ≡ named (seen a) addresses
+named_found a addresses tied rises =
+    found_listed (λ s. session_of s a.table) (is_named addresses) 0 a.table.made a.table.sessions rises (λ s x at. at)
+    ∙ named_is a addresses tied rises

@@ -1,13 +1,10 @@
--- The sessions of a user that go on, as the table has them, and what goes to one session.
-use Rattle.std.specs.Prelude.{ℕ, not, List, [], ◌∷◌, Bool, true, false, ◌&&◌, Option, Some, None, is_some, bytes_eq}
+-- Sessions as the rules on stanzas see them, and those that an address names.
+use Rattle.std.specs.Prelude.{ℕ, not, List, [], ◌∷◌, ◌++◌, Bool, Option, Some, None, is_some, if◌then◌else◌}
 use Rattle.std.specs.List.{list_any}
 use Rattle.jid_core.specs.Addresses.{Address, same_part}
 use Rattle.stanza_model.specs.declared.here.Here.{Here}
 use Rattle.session_table.specs.Sessions.{SessionRecord}
 use Rattle.house_model.specs.Presences.{names}
-
-abbrev pub is_users : List ℕ → SessionRecord → Bool
-is_users user x = same_part x.address.local (Some user)
 
 -- a session of this number as the rules on stanzas see it
 abbrev pub here_from : ℕ → SessionRecord → Here
@@ -20,24 +17,22 @@ here_from n x = record {
   pushes = x.pushes;
 }
 
+-- the session of a number, where it is there
+abbrev pub here_in : ℕ → Option SessionRecord → List Here
+here_in n None = []
+here_in n (Some x) = here_from n x ∷ []
+
+-- whether an address names a session, and whether one of several does
+abbrev pub is_named_by : Address → SessionRecord → Bool
+is_named_by address x = names (here_from 0 x) address
+
 abbrev pub is_named : List Address → SessionRecord → Bool
-is_named addresses x = list_any (names (here_from 0 x)) addresses
+is_named addresses x = list_any (λ a. is_named_by a x) addresses
 
-abbrev pub listed_by : Bool → ℕ × SessionRecord → List Here → List Here
-listed_by true e later = here_from e.0 e.1 ∷ later
-listed_by false e later = later
-
-abbrev pub listed : (SessionRecord → Bool) → List (ℕ × SessionRecord) → List Here
-listed pick [] = []
-listed pick (e ∷ more) = listed_by (pick e.1) e (listed pick more)
-
--- an available session of one of these users
-abbrev pub is_among : List (List ℕ) → Option (List ℕ) → Bool
-is_among users None = false
-is_among users (Some user) = list_any (λ x. bytes_eq x user) users
-
-abbrev pub is_seen : List (List ℕ) → SessionRecord → Bool
-is_seen users x = is_some x.presence && is_among users x.address.local
+-- the numbers of the sessions that pass a test
+abbrev pub numbers_by : (SessionRecord → Bool) → List (ℕ × SessionRecord) → List ℕ
+numbers_by test [] = []
+numbers_by test (e ∷ more) = (if test e.1 then e.0 ∷ [] else []) ++ numbers_by test more
 
 -- a session of another resource
 abbrev pub is_elsewhere : List ℕ → Here → Bool

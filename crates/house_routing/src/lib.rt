@@ -16,4 +16,4 @@ mod sight;
 mod users;
 
 pub use routing::{departure, effects_of};
-pub use users::place_among;
+pub use users::Users;

@@ -1,12 +1,12 @@
 //! The sessions that the rules on stanzas see, and how they see them.
-ghost use Rattle.std.specs.Prelude.{◌≡◌, flat_map, true, IfOk, IfSome, Some};
+ghost use Rattle.std.specs.Prelude.{◌≡◌, ◌++◌, flat_map, map, true, IfOk, IfSome, OnOk, Some};
 ghost use Rattle.std.specs.Option.{option_copied};
 ghost use Rattle.house_model.specs.Lookups.{goes_on, here, live_at, sessions_of};
 ghost use Rattle.contact_table.specs.Tables.{users_in};
 ghost use Rattle.house_model.specs.Presences.{available_of, directed_by, named, names};
 ghost use Rattle.house_model.specs.Routing.{live_for};
-ghost use Rattle.session_table.specs.Tables.{is_there};
-ghost use Rattle.house_routing.specs.Listings.{here_from, is_among, is_named, is_seen, is_users, listed};
+ghost use Rattle.session_table.specs.Tables.{is_there, session_of};
+ghost use Rattle.house_routing.specs.Listings.{here_from, here_in, is_named, is_named_by, numbers_by};
 ghost use Rattle.house_world.specs.Wholes.{IsTied};
 ghost use Rattle.house_world.specs.Worlds.{seen};
 
@@ -33,16 +33,6 @@ fn here_of(alloc: Global, number: u64, session: &Session) -> Result<Here, NoMemo
     })
 }
 
-/// Whether a session is the user's.
-fn is_users(user: &Part, session: &Session) -> bool
-    ensures { result ≡ is_users user.now session.now }
-{
-    match &session.address().local {
-        Some(local) => local.bytes() == user.bytes(),
-        None => false,
-    }
-}
-
 /// Whether an address names a session (RFC 6121, 4.6.4).
 fn names(session: &Session, address: &Jid) -> bool
     ensures { result ≡ names (here_from 0 session.now) address.now }
@@ -52,29 +42,6 @@ fn names(session: &Session, address: &Jid) -> bool
     } else {
         session.own.presence.is_some() && session.address().is_same_bare(address)
     }
-}
-
-/// Whether a session is named by one of these addresses.
-fn is_named(addresses: &[Jid], session: &Session) -> bool
-    ensures { result ≡ is_named addresses.now session.now }
-{
-    addresses.iter().any(|address| names(session, address))
-}
-
-fn is_among(users: &Order, session: &Session) -> bool
-    ensures { result ≡ is_among users.now.users session.now.address.local }
-{
-    match &session.address().local {
-        Some(user) => users.has(user),
-        None => false,
-    }
-}
-
-/// Whether a session is available, and is of one of these users.
-fn is_seen(users: &Order, session: &Session) -> bool
-    ensures { result ≡ is_seen users.now.users session.now }
-{
-    session.own.presence.is_some() && is_among(users, session)
 }
 
 /// Whether a session that is there goes on.
@@ -131,44 +98,40 @@ pub(crate) fn sessions_of(world: &World, alloc: Global, user: &Part) -> Result<V
 {
     let _ = world.table.session(0);
     let mut found = Vec::new(alloc);
-    for (number, session) in world.table.sessions() {
-        if is_users(user, session) {
-            found.push(here_of(alloc, *number, session)?)?;
-        }
+    for (number, session) in world.table.of_user(user) {
+        found.push(here_of(alloc, *number, session)?)?;
     }
     Ok(found)
 }
 
-/// The sessions that these addresses name. Costs a look at each address for each session.
-pub(crate) fn named(world: &World, alloc: Global, addresses: &[Jid]) -> Result<Vec<Here>, NoMemory>
+// Lists the available sessions of the user of a name.
+fn push_available(world: &World, name: &[u8], found: &mut Vec<Here>) -> Result<(), NoMemory>
     requires { IsTied world.now.table }
-    ensures { IfOk result (λ found. found.items ≡ named (seen world.now) addresses.now) }
+    ensures { OnOk result (found.new.items ≡ found.old.items ++ available_of (seen world.now) name.now) }
 {
     let _ = world.table.session(0);
-    let mut found = Vec::new(alloc);
-    for (number, session) in world.table.sessions() {
-        if is_named(addresses, session) {
+    let alloc = *found.allocator();
+    for (number, session) in world.table.of_name(name) {
+        if session.own.presence.is_some() {
             found.push(here_of(alloc, *number, session)?)?;
         }
     }
-    Ok(found)
+    Ok(())
 }
 
-// The available sessions of these users, by number.
-fn seen_among(world: &World, alloc: Global, users: &Order) -> Result<Vec<Here>, NoMemory>
+// The available sessions of the users of these names, user by user.
+fn available_by(world: &World, alloc: Global, names: &[Vec<u8>]) -> Result<Vec<Here>, NoMemory>
     requires { IsTied world.now.table }
-    ensures { IfOk result (λ found. found.items ≡ listed (is_seen users.now.users) world.now.table.sessions) }
+    ensures { IfOk result (λ found. found.items ≡ flat_map (available_of (seen world.now)) (map (λ k. k.items) names.now)) }
 {
     let mut found = Vec::new(alloc);
-    for (number, session) in world.table.sessions() {
-        if is_seen(users, session) {
-            found.push(here_of(alloc, *number, session)?)?;
-        }
+    for name in names {
+        push_available(world, name.as_slice(), &mut found)?;
     }
     Ok(found)
 }
 
-/// The available sessions of users, user by user. Costs a look at each session, and a sort of those that are found.
+/// The available sessions of users, user by user. Looks at no others' sessions.
 pub(crate) fn available_of(
     world: &World,
     alloc: Global,
@@ -177,11 +140,69 @@ pub(crate) fn available_of(
     requires { IsTied world.now.table }
     ensures { IfOk result (λ found. found.items ≡ flat_map (available_of (seen world.now)) (users_in (option_copied users.entry))) }
 {
-    let _ = world.table.session(0);
     match users {
-        Some(users) => users.arrange(seen_among(world, alloc, users)?),
+        Some(users) => available_by(world, alloc, users.names()),
         None => Ok(Vec::new(alloc)),
     }
+}
+
+// Lists the numbers of the sessions that an address names.
+fn push_named(world: &World, address: &Jid, numbers: &mut Vec<u64>) -> Result<(), NoMemory>
+    ensures { OnOk result (numbers.new.items ≡ numbers.old.items ++ numbers_by (is_named_by address.now) world.now.table.sessions) }
+{
+    for (number, session) in world.table.of_user_at(address) {
+        if names(session, address) {
+            numbers.push(*number)?;
+        }
+    }
+    Ok(())
+}
+
+// The numbers of the sessions that these addresses name, rising.
+fn numbers_named(world: &World, alloc: Global, addresses: &[Jid]) -> Result<Vec<u64>, NoMemory>
+    ensures { IfOk result (λ numbers. numbers.items ≡ numbers_by (is_named addresses.now) world.now.table.sessions) }
+{
+    let _ = world.table.session(0);
+    let mut numbers = Vec::new(alloc);
+    for address in addresses {
+        push_named(world, address, &mut numbers)?;
+    }
+    numbers.sort_unstable();
+    numbers.dedup();
+    Ok(numbers)
+}
+
+// Lists the session of a number, where it is there.
+fn push_here(world: &World, s: u64, found: &mut Vec<Here>) -> Result<(), NoMemory>
+    ensures { OnOk result (found.new.items ≡ found.old.items ++ here_in s (session_of s world.now.table)) }
+{
+    if let Some(session) = world.table.session(s) {
+        let alloc = *found.allocator();
+        found.push(here_of(alloc, s, session)?)?;
+    }
+    Ok(())
+}
+
+// Those of the sessions of these numbers that are there.
+fn all_here(world: &World, alloc: Global, numbers: &[u64]) -> Result<Vec<Here>, NoMemory>
+    ensures { IfOk result (λ found. found.items ≡ flat_map (λ s. here_in s (session_of s world.now.table)) numbers.now) }
+{
+    let mut found = Vec::new(alloc);
+    for number in numbers {
+        push_here(world, *number, &mut found)?;
+    }
+    Ok(found)
+}
+
+/// The sessions that these addresses name. Costs a look at the sessions of the addresses' users, and a sort of the numbers of
+/// those that are named.
+pub(crate) fn named(world: &World, alloc: Global, addresses: &[Jid]) -> Result<Vec<Here>, NoMemory>
+    requires { IsTied world.now.table }
+    ensures { IfOk result (λ found. found.items ≡ named (seen world.now) addresses.now) }
+{
+    let _ = world.table.session(0);
+    let numbers = numbers_named(world, alloc, addresses)?;
+    all_here(world, alloc, numbers.as_slice())
 }
 
 /// To whom a session sent presence alone.

@@ -15,7 +15,7 @@ ghost use Rattle.house_world.specs.Worlds.{seen};
 use crate::keeping::{keeping_for, keeping_in};
 use crate::listing::{live_for, sessions_of};
 use crate::rooms::{called, room_for};
-use crate::users::place_among;
+use crate::users::Users;
 use house_model::{MessageForm, Stanza};
 use house_world::World;
 use jid_core::Part;
@@ -152,14 +152,14 @@ pub(crate) fn user_in<'a>(own: &'a Part, place: &'a Place) -> Option<&'a Part>
 }
 
 /// Whether a place's user has an account, as one has whose session a stanza finds.
-pub(crate) fn has_account(users: &[Part], user: Option<&Part>, found: &[Here]) -> bool
+pub(crate) fn has_account(users: &Users, user: Option<&Part>, found: &[Here]) -> bool
     ensures { result ≡ has_account users.now (option_copied user.entry) found.now }
 {
     if !found.is_empty() {
         return true;
     }
     match user {
-        Some(user) => place_among(users, user).is_some(),
+        Some(user) => users.place_of(user).is_some(),
         None => false,
     }
 }
@@ -219,7 +219,7 @@ fn chosen(
 fn to_users(
     world: &World,
     alloc: Global,
-    users: &[Part],
+    users: &Users,
     who: &Here,
     stanza: &Stanza,
     form: MessageForm,
@@ -247,7 +247,7 @@ pub(crate) fn message(
     world: &World,
     alloc: Global,
     domain: &Part,
-    users: &[Part],
+    users: &Users,
     own: &Part,
     who: &Here,
     stanza: &Stanza,

@@ -15,6 +15,7 @@ use crate::requests::one;
 use crate::rooms::room_for;
 use crate::rosters::subscribed;
 use crate::sight::{shown, watchers};
+use crate::users::Users;
 use house_model::Stanza;
 use house_world::World;
 use jid_core::{Jid, Part};
@@ -90,7 +91,7 @@ fn broadcast(
     world: &World,
     alloc: Global,
     domain: &Part,
-    users: &[Part],
+    users: &Users,
     own: &Part,
     who: &Here,
     stanza: &Stanza,
@@ -126,7 +127,7 @@ fn directed_to(
     world: &World,
     alloc: Global,
     domain: &Part,
-    users: &[Part],
+    users: &Users,
     own: &Part,
     who: &Here,
     stanza: &Stanza,
@@ -177,7 +178,7 @@ fn directed_at(
     world: &World,
     alloc: Global,
     domain: &Part,
-    users: &[Part],
+    users: &Users,
     own: &Part,
     who: &Here,
     stanza: &Stanza,
@@ -208,7 +209,7 @@ fn to_user(
     world: &World,
     alloc: Global,
     domain: &Part,
-    users: &[Part],
+    users: &Users,
     own: &Part,
     who: &Here,
     stanza: &Stanza,
@@ -240,7 +241,7 @@ fn to_address(
     world: &World,
     alloc: Global,
     domain: &Part,
-    users: &[Part],
+    users: &Users,
     own: &Part,
     who: &Here,
     stanza: &Stanza,
@@ -274,7 +275,7 @@ fn presence_to(
     world: &World,
     alloc: Global,
     domain: &Part,
-    users: &[Part],
+    users: &Users,
     own: &Part,
     who: &Here,
     stanza: &Stanza,
@@ -304,7 +305,7 @@ pub(crate) fn presence(
     world: &World,
     alloc: Global,
     domain: &Part,
-    users: &[Part],
+    users: &Users,
     own: &Part,
     who: &Here,
     stanza: &Stanza,

@@ -14,7 +14,7 @@ use crate::archives::{ARCHIVE_SPACE, archived_of};
 use crate::listing::sessions_of;
 use crate::requests::{gets, queries, sets, to_server};
 use crate::sight::presence_of;
-use crate::users::place_among;
+use crate::users::Users;
 use contact_table::{bare_of, local_user};
 use house_model::Stanza;
 use house_world::World;
@@ -160,7 +160,7 @@ pub(crate) fn subscribed(
     world: &World,
     alloc: Global,
     domain: &Part,
-    users: &[Part],
+    users: &Users,
     own: &Part,
     who: &Here,
     stanza: &Stanza,
@@ -176,7 +176,7 @@ pub(crate) fn subscribed(
     let Some(user) = user else {
         return Ok(Vec::new(alloc));
     };
-    if place_among(users, user).is_none() {
+    if users.place_of(user).is_none() {
         return Ok(Vec::new(alloc));
     }
     let effects = between(world, alloc, domain, own, user, form)?;

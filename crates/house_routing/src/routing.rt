@@ -19,6 +19,7 @@ use crate::messages::message;
 use crate::presence::presence;
 use crate::requests::iq;
 use crate::sight::watchers;
+use crate::users::Users;
 use house_model::Stanza;
 use house_world::{Cast, World, know_part, know_to};
 use jid_core::Part;
@@ -33,7 +34,7 @@ fn effects_at(
     world: &World,
     alloc: Global,
     domain: &Part,
-    users: &[Part],
+    users: &Users,
     own: &Part,
     who: &Here,
     stanza: &Stanza,
@@ -89,7 +90,7 @@ fn effects_in(
     world: &World,
     alloc: Global,
     domain: &Part,
-    users: &[Part],
+    users: &Users,
     s: u64,
     stanza: &Stanza,
     moment: u64,
@@ -120,13 +121,13 @@ fn know_length(_length: usize)
 {}
 
 /// The effects of a stanza of a session at this moment, as they are queued, and the rooms after them. What they queue is short, and so is what
-/// is kept of the rooms and of messages. Costs the size of the stanza and of the effects, and a look at each session; and a copy of the rooms,
-/// where they change.
+/// is kept of the rooms and of messages. Costs the size of the stanza and of the effects, and a look at each session of the
+/// users whom it reaches; and a copy of the rooms, where they change.
 pub fn effects_of(
     world: &World,
     alloc: Global,
     domain: &Part,
-    users: &[Part],
+    users: &Users,
     s: u64,
     stanza: &Stanza,
     moment: u64,
@@ -187,7 +188,8 @@ fn departure_in(world: &World, alloc: Global, s: u64) -> Result<Vec<Effect>, NoM
 }
 
 /// What others are told of a session that departs, and leaves its rooms, as it is queued, and the rooms after it. It is short, and so is what is
-/// kept of the rooms. Costs a look at each session and at each room, and the size of what is told; and a copy of the rooms, where it leaves any.
+/// kept of the rooms. Costs a look at each session of those who see the user and at each room, and the size of what is told; and a copy of the rooms,
+/// where it leaves any.
 pub fn departure(world: &World, alloc: Global, s: u64) -> Result<Cast, NoMemory>
     requires tied { IsTied world.now.table }
     requires there { is_there s world.now.table ≡ true }

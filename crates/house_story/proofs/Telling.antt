@@ -111,7 +111,7 @@ told-so : turns run ≡ story
 told-so = refl
 
 pub starts : IsOpening her_house
-starts = (_, _, _, refl)
+starts = (_, _, _, _, refl)
 
 pub sent : AreSent
 sent = record { here = here-sent; to_there = to-desk-sent; to_phone = to-phone-sent; to_all = to-account-sent }

@@ -18,7 +18,7 @@ use Rattle.house_model.specs.Lookups.{goes_on}
 use Rattle.house_model.specs.Routing.{effects, effects_in}
 use Rattle.house_model.specs.Steps.{body, effect_of}
 use Rattle.house_model.specs.Traffic.{KeptTraffic}
-use Rattle.house_model.specs.States.{World, Kept}
+use Rattle.house_model.specs.States.{World, Kept, usual}
 use Rattle.house_model.specs.Effects.{On}
 use Rattle.house_model.specs.Gate as model
 use Rattle.house_world.specs.declared.world.World as code
@@ -106,7 +106,7 @@ goes_over a s x cause at over =
 -- a state that is seen so
 abbrev pub some_kept : World KeptTraffic → ℕ → Kept
 some_kept world moment = record {
-  head = record { domain = nobody; users = []; workers = 0; turns = 0; moment = moment };
+  head = record { domain = nobody; users = []; workers = 0; limits = usual; turns = 0; moment = moment };
   world = world;
 }
 

@@ -13,7 +13,7 @@ use Rattle.house_model.proofs.PutLemmas.{put_is}
 use Rattle.house_world.specs.declared.world.World as code
 use Rattle.house_world.specs.Views.{traffic_of, rest_of, session_by, sessions_of, lines_of}
 use Rattle.house_world.specs.Wholes.{IsHeldBy, IsTied}
-use Rattle.house_world.specs.declared.stirring.Stirred.{Stirred}
+use Rattle.mark_sets.specs.declared.marks.Marks.{Marks}
 use Rattle.house_world.specs.Worlds.{seen, Did, Stays}
 use Rattle.house_world.proofs.ReadLemmas.{held_is, seen_with}
 use Rattle.house_world.proofs.WorldLemmas.{few_later, moved_same}
@@ -87,7 +87,7 @@ tell_did a w s tied held =
 
 -- Which lines may have something to pull is seen by nothing.
 
-pub did_beside : (es : List Effect) (n : ℕ) (a b : code.World) (x : Stirred) → Did es n a b → Did es n a (record b { stirred = x })
+pub did_beside : (es : List Effect) (n : ℕ) (a b : code.World) (x : Marks) → Did es n a b → Did es n a (record b { stirred = x })
 did_beside es n a b x did = record {
   world = did.world;
   tied = did.tied;
@@ -98,5 +98,5 @@ did_beside es n a b x did = record {
   kept = did.kept;
 }
 
-pub stays_beside : (a b : code.World) (x : Stirred) → Stays a b → Stays a (record b { stirred = x })
+pub stays_beside : (a b : code.World) (x : Marks) → Stays a b → Stays a (record b { stirred = x })
 stays_beside a b x stays = record { logged = stays.logged; there = stays.there; over = stays.over; spare = stays.spare }

@@ -11,12 +11,10 @@ mod lengths;
 mod marking;
 mod parting;
 mod reserving;
-mod stirring;
 mod world;
 
 pub use answers::{Answers, MOST_ANSWERS, MOST_FRAME, push_request};
 pub use casting::Cast;
 pub use deeds::{given, inward};
 pub use lengths::{know_part, know_to};
-pub use stirring::{LINES_A_WORD, STIRRED_WORDS, Stirred};
 pub use world::World;

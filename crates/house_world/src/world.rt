@@ -8,10 +8,10 @@ ghost use Rattle.house_world.specs.Wholes.{AreUsers, IsFew, IsTied};
 ghost use Rattle.house_world.specs.Worlds.{Did, seen};
 
 use crate::answers::Answers;
-use crate::stirring::Stirred;
 use archive_table::Archives;
 use contact_table::Book;
 use house_model::Answer;
+use mark_sets::Marks;
 use muc_service::Rooms;
 use session_table::Table;
 
@@ -28,8 +28,8 @@ pub struct World {
     pub rooms: Rooms,
     /// The messages that are kept of users and of rooms.
     pub archives: Archives,
-    /// Lines that may have something to pull.
-    pub stirred: Stirred,
+    /// Lines that may have something to pull, because of an event of another line. Nothing is promised of it, and nothing else depends on it.
+    pub stirred: Marks,
 }
 
 impl World {

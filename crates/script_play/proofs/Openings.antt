@@ -2,7 +2,7 @@
 use Rattle.std.proofs.Common.{◌≡◌, ℕ, List, [], ◌∷◌, ◌++◌, arith, refl, sym, ap, subst, ◌∙◌, append-nil, inl, inr}
 use Rattle.std.specs.Prelude.{Option, Some, None}
 use Rattle.house_model.specs.Sessions.{nobody}
-use Rattle.house_model.specs.States.{State, Kept, opening}
+use Rattle.house_model.specs.States.{State, Kept, opening, usual}
 use Rattle.house_model.specs.Histories.{StandsFor}
 use Rattle.house_model.proofs.SafeLaws.{safe}
 use Rattle.replay_script.specs.Deeds.{no_framers}
@@ -18,7 +18,7 @@ unread-nil None = refl
 unread-nil (Some left) = refl
 
 none-played : IsPlayed [] (opening nobody [] 0) []
-none-played = record { starts = (nobody, [], 0, refl); legal = tt; spelt = refl; done = tt; within = tt }
+none-played = record { starts = (usual, nobody, [], 0, refl); legal = tt; spelt = refl; done = tt; within = tt }
 
 none-written : (took : Option (List ℕ)) (taken : List ℕ) → took ≡ Some taken → took ≡ Some (taken ++ [])
 none-written took taken told = told ∙ ap Some (sym (append-nil taken))

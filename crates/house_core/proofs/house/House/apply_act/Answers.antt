@@ -23,7 +23,7 @@ act_at-requires-clause-archived c =
 pub invariant_of-self-in_err-reply : goal.invariant_of-self-in_err-reply
 invariant_of-self-in_err-reply c =
     let h = c.self.inside in
-    whole_is h.users.items h.turns h.moment h.moment h.world c.act_at.new.world [] 0 c.self.invariant c.self.invariant.passed (omega arith)
+    whole_is h.users h.turns h.moment h.moment h.world c.act_at.new.world [] 0 c.self.invariant c.self.invariant.passed (omega arith)
     (λ world. (refl, refl, refl))
     c.in_err-reply.ensures.refused
 
@@ -32,8 +32,8 @@ invariant_of-self-2 c =
     let h = c.self.inside in
     let e = Act c.args.w c.args.stanza.now c.args.t in
     let now = c.later-moment.result in
-    let k = turn e (held (house h.domain h.users.items h.turns h.moment h.world)) in
-    whole_ends h.domain h.users.items h.turns h.moment now 1 h.world c.act_at.new.world e c.in_ok-reply.reply c.self.invariant
+    let k = turn e (held (house h.domain h.users h.limits h.turns h.moment h.world)) in
+    whole_ends h.domain h.users h.limits h.turns h.moment now 1 h.world c.act_at.new.world e c.in_ok-reply.reply c.self.invariant
     (later_passed h.moment c.args.t now c.self.invariant.passed c.later-moment.ensures) (omega arith)
-    (c.in_ok-reply.ensures.done k refl (sym c.later-moment.ensures) refl (sym c.as_slice-users.ensures.value) c.args.t) c.in_ok-reply.ensures.hosts
+    (c.in_ok-reply.ensures.done k refl (sym c.later-moment.ensures) refl refl c.args.t) c.in_ok-reply.ensures.hosts
     c.in_ok-reply.ensures.archives

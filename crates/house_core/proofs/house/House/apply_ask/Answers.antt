@@ -9,20 +9,21 @@ use Rattle.house_core.proofs.house.House.apply_ask.Goals as goal
 pub invariant_of-self : goal.invariant_of-self
 invariant_of-self c =
     let h = c.self.inside in
-    let k = turn (Ask c.args.w) (held (house h.domain h.users.items h.turns h.moment h.world)) in
-    whole_calm h.domain h.users.items h.turns h.moment h.moment 0 h.world c.ask.new.world (Ask c.args.w) c.ask.result
+    let k = turn (Ask c.args.w) (held (house h.domain h.users h.limits h.turns h.moment h.world)) in
+    whole_calm h.domain h.users h.limits h.turns h.moment h.moment 0 h.world c.ask.new.world (Ask c.args.w) c.ask.result
     c.self.invariant (c.self.invariant.passed) (omega arith) (c.ask.ensures k refl refl) tt
 
 pub returns-clause-state : goal.returns-clause-state
 returns-clause-state c =
     let h = c.self.inside in
-    let k = turn (Ask c.args.w) (held (house h.domain h.users.items h.turns h.moment h.world)) in
-    subst (λ (x : HouseRecord). held (house h.domain h.users.items (h.turns + 1) h.moment c.ask.new.world) ≡ (kept_step (held x) (Ask c.args.w)).state)
+    let k = turn (Ask c.args.w) (held (house h.domain h.users h.limits h.turns h.moment h.world)) in
+    subst (λ (x : HouseRecord). held (house h.domain h.users h.limits (h.turns + 1) h.moment c.ask.new.world) ≡ (kept_step (held x) (Ask c.args.w)).state)
     c.self.view_is
-    (state_ends h.domain h.users.items h.turns h.moment h.moment 0 h.world c.ask.new.world (Ask c.args.w) c.ask.result refl (c.ask.ensures k refl refl))
+    (state_ends h.domain h.users h.limits h.turns h.moment h.moment 0 h.world c.ask.new.world (Ask c.args.w) c.ask.result refl
+    (c.ask.ensures k refl refl))
 
 pub returns-clause-reply : goal.returns-clause-reply
 returns-clause-reply c =
     let h = c.self.inside in
-    let k = turn (Ask c.args.w) (held (house h.domain h.users.items h.turns h.moment h.world)) in
+    let k = turn (Ask c.args.w) (held (house h.domain h.users h.limits h.turns h.moment h.world)) in
     subst (λ (x : HouseRecord). c.ask.result ≡ (kept_step (held x) (Ask c.args.w)).reply) c.self.view_is (c.ask.ensures k refl refl).answer

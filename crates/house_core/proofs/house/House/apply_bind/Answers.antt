@@ -1,4 +1,4 @@
-use Rattle.std.proofs.Common.{rules, ◌≡◌, ◌+◌, [], refl, sym, ap, subst, arith, ◌∙◌}
+use Rattle.std.proofs.Common.{ℕ, ◌≡◌, ◌+◌, ◌<◌, List, length, get_or, [], refl, sym, ap, subst, arith, ◌∙◌}
 use Rattle.std.specs.Option.{option_copied}
 use Rattle.jid_core.specs.Preparation.{is_local}
 use Rattle.archive_table.specs.Archives.{Archives}
@@ -22,33 +22,35 @@ use Rattle.house_core.proofs.EndsLemmas.{stop_ends}
 use Rattle.house_world.proofs.WorldLemmas.{few_later}
 use Rattle.house_core.proofs.house.House.apply_bind.Goals as goal
 
-pub index-requires : goal.index-requires
-index-requires c =
+pub bounds-parts-user : goal.bounds-parts-user
+bounds-parts-user c =
     let h = c.self.inside in
     let k = turn (Bind c.args.w c.args.id.now (option_copied c.args.resource) c.args.t c.args.dice)
-    (held (house h.domain h.users.items h.turns h.moment h.world)) in
+    (held (house h.domain h.users h.limits h.turns h.moment h.world)) in
     let same = (c.in-Knows.ensures.passes k refl (sym c.later-moment.ensures)).1 in
     let low = c.self.invariant.known c.args.w c.in-Knows.conn c.in-Knows.user (ap (λ (x : code.World). line_of c.args.w x.table) (sym same)
     ∙ c.in-Knows.ensures.found.0) in
-    search (rules, low)
+    subst (λ (us : List (List ℕ)). c.in-Knows.user < length us) (sym c.parts.ensures) low
 
 pub make_address-requires : goal.make_address-requires
 make_address-requires c =
     let h = c.self.inside in
     let k = turn (Bind c.args.w c.args.id.now (option_copied c.args.resource) c.args.t c.args.dice)
-    (held (house h.domain h.users.items h.turns h.moment h.world)) in
+    (held (house h.domain h.users h.limits h.turns h.moment h.world)) in
     let same = (c.in-Knows.ensures.passes k refl (sym c.later-moment.ensures)).1 in
     let low = c.self.invariant.known c.args.w c.in-Knows.conn c.in-Knows.user (ap (λ (x : code.World). line_of c.args.w x.table) (sym same)
     ∙ c.in-Knows.ensures.found.0) in
-    ap is_local c.index.ensures ∙ all_at is_local h.users.items c.in-Knows.user c.index.result.now low c.self.invariant.prepared
+    let user = c.index-parts-user.result in
+    ap is_local (c.index-parts-user.is ∙ ap (λ (us : List (List ℕ)). get_or us c.in-Knows.user user) c.parts.ensures)
+    ∙ all_at is_local h.users c.in-Knows.user user low c.self.invariant.prepared
 
 pub invariant_of-self-in_err-address-in-Knows : goal.invariant_of-self-in_err-address-in-Knows
 invariant_of-self-in_err-address-in-Knows c =
     let h = c.self.inside in
     let k = turn (Bind c.args.w c.args.id.now (option_copied c.args.resource) c.args.t c.args.dice)
-    (held (house h.domain h.users.items h.turns h.moment h.world)) in
+    (held (house h.domain h.users h.limits h.turns h.moment h.world)) in
     let same = (c.in-Knows.ensures.passes k refl (sym c.later-moment.ensures)).1 in
-    whole_is h.users.items h.turns h.moment h.moment h.world c.check.new.world [] 0 c.self.invariant c.self.invariant.passed (omega arith)
+    whole_is h.users h.turns h.moment h.moment h.world c.check.new.world [] 0 c.self.invariant c.self.invariant.passed (omega arith)
     (λ world. (refl, refl, refl))
     (same_did h.world c.check.new.world c.check.ensures.tied same)
 
@@ -56,11 +58,11 @@ pub returns-in_err-address-in-Knows-clause-refused : goal.returns-in_err-address
 returns-in_err-address-in-Knows-clause-refused c =
     let h = c.self.inside in
     let k = turn (Bind c.args.w c.args.id.now (option_copied c.args.resource) c.args.t c.args.dice)
-    (held (house h.domain h.users.items h.turns h.moment h.world)) in
+    (held (house h.domain h.users h.limits h.turns h.moment h.world)) in
     let same = (c.in-Knows.ensures.passes k refl (sym c.later-moment.ensures)).1 in
     on_err c.from_residual.result
-    (subst (λ (x : HouseRecord). held (house h.domain h.users.items (h.turns + 1) h.moment c.check.new.world) ≡ passed (held x)) c.self.view_is
-    (passed_is h.domain h.users.items h.turns h.moment h.world c.check.new.world (same_did h.world c.check.new.world c.check.ensures.tied same)))
+    (subst (λ (x : HouseRecord). held (house h.domain h.users h.limits (h.turns + 1) h.moment c.check.new.world) ≡ passed (held x)) c.self.view_is
+    (passed_is h.domain h.users h.limits h.turns h.moment h.world c.check.new.world (same_did h.world c.check.new.world c.check.ensures.tied same)))
 
 pub bind-requires-clause-small : goal.bind-requires-clause-small
 bind-requires-clause-small c =
@@ -81,10 +83,10 @@ invariant_of-self-in_default c =
     let h = c.self.inside in
     let e = Bind c.args.w c.args.id.now (option_copied c.args.resource) c.args.t c.args.dice in
     let now = c.later-moment.result in
-    let k = turn e (held (house h.domain h.users.items h.turns h.moment h.world)) in
+    let k = turn e (held (house h.domain h.users h.limits h.turns h.moment h.world)) in
     let ends = other_ends k c.args.w c.args.t c.args.id.now (option_copied c.args.resource) c.args.dice c.check.result (gate k e) h.world c.check.new.world
     c.check.ensures.tied c.in_default.not-Stop c.in_default.not-Knows (c.check.ensures.passes k refl (sym c.later-moment.ensures)) in
-    whole_ends h.domain h.users.items h.turns h.moment now 0 h.world c.check.new.world e Unready c.self.invariant
+    whole_ends h.domain h.users h.limits h.turns h.moment now 0 h.world c.check.new.world e Unready c.self.invariant
     (later_passed h.moment c.args.t now c.self.invariant.passed c.later-moment.ensures) (omega arith) ends
     (hosts_same h.world.rooms c.check.new.world.rooms c.check.ensures.rooms)
     (archived_same (archives_of h.world.archives) (archives_of c.check.new.world.archives) c.check.ensures.archives)
@@ -94,17 +96,17 @@ returns-in_default-clause-state c =
     let h = c.self.inside in
     let e = Bind c.args.w c.args.id.now (option_copied c.args.resource) c.args.t c.args.dice in
     let now = c.later-moment.result in
-    let k = turn e (held (house h.domain h.users.items h.turns h.moment h.world)) in
+    let k = turn e (held (house h.domain h.users h.limits h.turns h.moment h.world)) in
     let ends = other_ends k c.args.w c.args.t c.args.id.now (option_copied c.args.resource) c.args.dice c.check.result (gate k e) h.world c.check.new.world
     c.check.ensures.tied c.in_default.not-Stop c.in_default.not-Knows (c.check.ensures.passes k refl (sym c.later-moment.ensures)) in
-    subst (λ (x : HouseRecord). held (house h.domain h.users.items (h.turns + 1) now c.check.new.world) ≡ (kept_step (held x) e).state) c.self.view_is
-    (state_ends h.domain h.users.items h.turns h.moment now 0 h.world c.check.new.world e Unready c.later-moment.ensures ends)
+    subst (λ (x : HouseRecord). held (house h.domain h.users h.limits (h.turns + 1) now c.check.new.world) ≡ (kept_step (held x) e).state) c.self.view_is
+    (state_ends h.domain h.users h.limits h.turns h.moment now 0 h.world c.check.new.world e Unready c.later-moment.ensures ends)
 
 pub returns-in_default-clause-reply : goal.returns-in_default-clause-reply
 returns-in_default-clause-reply c =
     let h = c.self.inside in
     let e = Bind c.args.w c.args.id.now (option_copied c.args.resource) c.args.t c.args.dice in
-    let k = turn e (held (house h.domain h.users.items h.turns h.moment h.world)) in
+    let k = turn e (held (house h.domain h.users h.limits h.turns h.moment h.world)) in
     let ends = other_ends k c.args.w c.args.t c.args.id.now (option_copied c.args.resource) c.args.dice c.check.result (gate k e) h.world c.check.new.world
     c.check.ensures.tied c.in_default.not-Stop c.in_default.not-Knows (c.check.ensures.passes k refl (sym c.later-moment.ensures)) in
     subst (λ (x : HouseRecord). Unready ≡ (kept_step (held x) e).reply) c.self.view_is ends.answer
@@ -114,9 +116,9 @@ invariant_of-self-in-Stop c =
     let h = c.self.inside in
     let e = Bind c.args.w c.args.id.now (option_copied c.args.resource) c.args.t c.args.dice in
     let now = c.later-moment.result in
-    let k = turn e (held (house h.domain h.users.items h.turns h.moment h.world)) in
+    let k = turn e (held (house h.domain h.users h.limits h.turns h.moment h.world)) in
     let ends = stop_ends k e (gate k e) c.in-Stop.reply h.world c.check.new.world (c.in-Stop.ensures.passes k refl (sym c.later-moment.ensures)) in
-    whole_ends h.domain h.users.items h.turns h.moment now 0 h.world c.check.new.world e c.in-Stop.reply c.self.invariant
+    whole_ends h.domain h.users h.limits h.turns h.moment now 0 h.world c.check.new.world e c.in-Stop.reply c.self.invariant
     (later_passed h.moment c.args.t now c.self.invariant.passed c.later-moment.ensures) (omega arith) ends
     (hosts_same h.world.rooms c.check.new.world.rooms c.check.ensures.rooms)
     (archived_same (archives_of h.world.archives) (archives_of c.check.new.world.archives) c.check.ensures.archives)
@@ -126,16 +128,16 @@ returns-in-Stop-clause-state c =
     let h = c.self.inside in
     let e = Bind c.args.w c.args.id.now (option_copied c.args.resource) c.args.t c.args.dice in
     let now = c.later-moment.result in
-    let k = turn e (held (house h.domain h.users.items h.turns h.moment h.world)) in
+    let k = turn e (held (house h.domain h.users h.limits h.turns h.moment h.world)) in
     let ends = stop_ends k e (gate k e) c.in-Stop.reply h.world c.check.new.world (c.in-Stop.ensures.passes k refl (sym c.later-moment.ensures)) in
-    subst (λ (x : HouseRecord). held (house h.domain h.users.items (h.turns + 1) now c.check.new.world) ≡ (kept_step (held x) e).state) c.self.view_is
-    (state_ends h.domain h.users.items h.turns h.moment now 0 h.world c.check.new.world e c.in-Stop.reply c.later-moment.ensures ends)
+    subst (λ (x : HouseRecord). held (house h.domain h.users h.limits (h.turns + 1) now c.check.new.world) ≡ (kept_step (held x) e).state) c.self.view_is
+    (state_ends h.domain h.users h.limits h.turns h.moment now 0 h.world c.check.new.world e c.in-Stop.reply c.later-moment.ensures ends)
 
 pub returns-in-Stop-clause-reply : goal.returns-in-Stop-clause-reply
 returns-in-Stop-clause-reply c =
     let h = c.self.inside in
     let e = Bind c.args.w c.args.id.now (option_copied c.args.resource) c.args.t c.args.dice in
-    let k = turn e (held (house h.domain h.users.items h.turns h.moment h.world)) in
+    let k = turn e (held (house h.domain h.users h.limits h.turns h.moment h.world)) in
     let ends = stop_ends k e (gate k e) c.in-Stop.reply h.world c.check.new.world (c.in-Stop.ensures.passes k refl (sym c.later-moment.ensures)) in
     subst (λ (x : HouseRecord). c.in-Stop.reply ≡ (kept_step (held x) e).reply) c.self.view_is ends.answer
 
@@ -143,9 +145,9 @@ pub invariant_of-self-in_err-reply-in-Knows : goal.invariant_of-self-in_err-repl
 invariant_of-self-in_err-reply-in-Knows c =
     let h = c.self.inside in
     let e = Bind c.args.w c.args.id.now (option_copied c.args.resource) c.args.t c.args.dice in
-    let k = turn e (held (house h.domain h.users.items h.turns h.moment h.world)) in
+    let k = turn e (held (house h.domain h.users h.limits h.turns h.moment h.world)) in
     let same = (c.in-Knows.ensures.passes k refl (sym c.later-moment.ensures)).1 in
-    whole_is h.users.items h.turns h.moment h.moment h.world c.bind.new.world [] 0 c.self.invariant c.self.invariant.passed (omega arith)
+    whole_is h.users h.turns h.moment h.moment h.world c.bind.new.world [] 0 c.self.invariant c.self.invariant.passed (omega arith)
     (λ world. (refl, refl, refl))
     (subst (λ (x : code.World). Did [] 0 x c.bind.new.world) same c.in_err-reply-in-Knows.ensures.refused)
 
@@ -153,12 +155,12 @@ pub returns-in_err-reply-in-Knows-clause-refused : goal.returns-in_err-reply-in-
 returns-in_err-reply-in-Knows-clause-refused c =
     let h = c.self.inside in
     let e = Bind c.args.w c.args.id.now (option_copied c.args.resource) c.args.t c.args.dice in
-    let k = turn e (held (house h.domain h.users.items h.turns h.moment h.world)) in
+    let k = turn e (held (house h.domain h.users h.limits h.turns h.moment h.world)) in
     let same = (c.in-Knows.ensures.passes k refl (sym c.later-moment.ensures)).1 in
     let did = subst (λ (x : code.World). Did [] 0 x c.bind.new.world) same c.in_err-reply-in-Knows.ensures.refused in
     on_err c.from_residual-in_err-reply-in-Knows.result
-    (subst (λ (x : HouseRecord). held (house h.domain h.users.items (h.turns + 1) h.moment c.bind.new.world) ≡ passed (held x)) c.self.view_is
-    (passed_is h.domain h.users.items h.turns h.moment h.world c.bind.new.world did))
+    (subst (λ (x : HouseRecord). held (house h.domain h.users h.limits (h.turns + 1) h.moment c.bind.new.world) ≡ passed (held x)) c.self.view_is
+    (passed_is h.domain h.users h.limits h.turns h.moment h.world c.bind.new.world did))
 
 pub invariant_of-self-in-Knows : goal.invariant_of-self-in-Knows
 invariant_of-self-in-Knows c =
@@ -169,15 +171,16 @@ invariant_of-self-in-Knows c =
     let address = c.in_ok-address-in-Knows.address in
     let e = Bind c.args.w c.args.id.now (option_copied c.args.resource) c.args.t c.args.dice in
     let now = c.later-moment.result in
-    let k = turn e (held (house h.domain h.users.items h.turns h.moment h.world)) in
+    let k = turn e (held (house h.domain h.users h.limits h.turns h.moment h.world)) in
     let passes = c.in-Knows.ensures.passes k refl (sym c.later-moment.ensures) in
     let low = c.self.invariant.known c.args.w c.in-Knows.conn c.in-Knows.user (ap (λ (x : code.World). line_of c.args.w x.table) (sym passes.1)
     ∙ c.in-Knows.ensures.found.0) in
-    let place = bound_is k c.in-Knows.user c.index.result.now (resource_or c.args.dice (option_copied c.args.resource)) low c.index.ensures in
+    let place = bound_is k c.in-Knows.user c.index-parts-user.result (resource_or c.args.dice (option_copied c.args.resource)) low
+    (c.index-parts-user.is ∙ ap (λ (us : List (List ℕ)). get_or us c.in-Knows.user c.index-parts-user.result) c.parts.ensures) in
     let ends = bind_ends k c.args.w c.args.t c.in-Knows.conn c.in-Knows.user c.args.id.now (option_copied c.args.resource) c.args.dice (gate k e) reply address
     h.world b d passes.0 passes.1 c.in-Knows.ensures.found.0 (c.in_ok-address-in-Knows.ensures ∙ place)
-    (c.in_ok-reply-in-Knows.ensures.done k (ap seen (sym passes.1))) in
-    whole_ends h.domain h.users.items h.turns h.moment now 1 h.world d e reply c.self.invariant
+    (c.in_ok-reply-in-Knows.ensures.done k (ap seen (sym passes.1)) refl) in
+    whole_ends h.domain h.users h.limits h.turns h.moment now 1 h.world d e reply c.self.invariant
     (later_passed h.moment c.args.t now c.self.invariant.passed c.later-moment.ensures) (omega arith) ends
     (subst (λ (r : Rooms). Hosts r d.rooms) c.check.ensures.rooms c.in_ok-reply-in-Knows.ensures.hosts)
     (subst (λ (x : Archives). Archived x (archives_of d.archives)) c.check.ensures.archives c.in_ok-reply-in-Knows.ensures.archives)
@@ -191,16 +194,17 @@ returns-in_ok-reply-in-Knows-clause-state c =
     let address = c.in_ok-address-in-Knows.address in
     let e = Bind c.args.w c.args.id.now (option_copied c.args.resource) c.args.t c.args.dice in
     let now = c.later-moment.result in
-    let k = turn e (held (house h.domain h.users.items h.turns h.moment h.world)) in
+    let k = turn e (held (house h.domain h.users h.limits h.turns h.moment h.world)) in
     let passes = c.in-Knows.ensures.passes k refl (sym c.later-moment.ensures) in
     let low = c.self.invariant.known c.args.w c.in-Knows.conn c.in-Knows.user (ap (λ (x : code.World). line_of c.args.w x.table) (sym passes.1)
     ∙ c.in-Knows.ensures.found.0) in
-    let place = bound_is k c.in-Knows.user c.index.result.now (resource_or c.args.dice (option_copied c.args.resource)) low c.index.ensures in
+    let place = bound_is k c.in-Knows.user c.index-parts-user.result (resource_or c.args.dice (option_copied c.args.resource)) low
+    (c.index-parts-user.is ∙ ap (λ (us : List (List ℕ)). get_or us c.in-Knows.user c.index-parts-user.result) c.parts.ensures) in
     let ends = bind_ends k c.args.w c.args.t c.in-Knows.conn c.in-Knows.user c.args.id.now (option_copied c.args.resource) c.args.dice (gate k e) reply address
     h.world b d passes.0 passes.1 c.in-Knows.ensures.found.0 (c.in_ok-address-in-Knows.ensures ∙ place)
-    (c.in_ok-reply-in-Knows.ensures.done k (ap seen (sym passes.1))) in
-    subst (λ (x : HouseRecord). held (house h.domain h.users.items (h.turns + 1) now d) ≡ (kept_step (held x) e).state) c.self.view_is
-    (state_ends h.domain h.users.items h.turns h.moment now 1 h.world d e reply c.later-moment.ensures ends)
+    (c.in_ok-reply-in-Knows.ensures.done k (ap seen (sym passes.1)) refl) in
+    subst (λ (x : HouseRecord). held (house h.domain h.users h.limits (h.turns + 1) now d) ≡ (kept_step (held x) e).state) c.self.view_is
+    (state_ends h.domain h.users h.limits h.turns h.moment now 1 h.world d e reply c.later-moment.ensures ends)
 
 pub returns-in_ok-reply-in-Knows-clause-reply : goal.returns-in_ok-reply-in-Knows-clause-reply
 returns-in_ok-reply-in-Knows-clause-reply c =
@@ -210,12 +214,13 @@ returns-in_ok-reply-in-Knows-clause-reply c =
     let reply = c.in_ok-reply-in-Knows.reply in
     let address = c.in_ok-address-in-Knows.address in
     let e = Bind c.args.w c.args.id.now (option_copied c.args.resource) c.args.t c.args.dice in
-    let k = turn e (held (house h.domain h.users.items h.turns h.moment h.world)) in
+    let k = turn e (held (house h.domain h.users h.limits h.turns h.moment h.world)) in
     let passes = c.in-Knows.ensures.passes k refl (sym c.later-moment.ensures) in
     let low = c.self.invariant.known c.args.w c.in-Knows.conn c.in-Knows.user (ap (λ (x : code.World). line_of c.args.w x.table) (sym passes.1)
     ∙ c.in-Knows.ensures.found.0) in
-    let place = bound_is k c.in-Knows.user c.index.result.now (resource_or c.args.dice (option_copied c.args.resource)) low c.index.ensures in
+    let place = bound_is k c.in-Knows.user c.index-parts-user.result (resource_or c.args.dice (option_copied c.args.resource)) low
+    (c.index-parts-user.is ∙ ap (λ (us : List (List ℕ)). get_or us c.in-Knows.user c.index-parts-user.result) c.parts.ensures) in
     let ends = bind_ends k c.args.w c.args.t c.in-Knows.conn c.in-Knows.user c.args.id.now (option_copied c.args.resource) c.args.dice (gate k e) reply address
     h.world b d passes.0 passes.1 c.in-Knows.ensures.found.0 (c.in_ok-address-in-Knows.ensures ∙ place)
-    (c.in_ok-reply-in-Knows.ensures.done k (ap seen (sym passes.1))) in
+    (c.in_ok-reply-in-Knows.ensures.done k (ap seen (sym passes.1)) refl) in
     subst (λ (x : HouseRecord). reply ≡ (kept_step (held x) e).reply) c.self.view_is ends.answer

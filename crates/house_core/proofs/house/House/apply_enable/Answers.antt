@@ -9,22 +9,24 @@ use Rattle.house_core.proofs.house.House.apply_enable.Goals as goal
 pub invariant_of-self : goal.invariant_of-self
 invariant_of-self c =
     let h = c.self.inside in
-    let k = turn (Enable c.args.w c.args.resume c.args.dice) (held (house h.domain h.users.items h.turns h.moment h.world)) in
-    whole_calm h.domain h.users.items h.turns h.moment h.moment 0 h.world c.manage.new.world (Enable c.args.w c.args.resume c.args.dice) c.manage.result
+    let k = turn (Enable c.args.w c.args.resume c.args.dice) (held (house h.domain h.users h.limits h.turns h.moment h.world)) in
+    whole_calm h.domain h.users h.limits h.turns h.moment h.moment 0 h.world c.manage.new.world (Enable c.args.w c.args.resume c.args.dice)
+    c.manage.result
     c.self.invariant (c.self.invariant.passed) (omega arith) (c.manage.ensures k refl refl) tt
 
 pub returns-clause-state : goal.returns-clause-state
 returns-clause-state c =
     let h = c.self.inside in
-    let k = turn (Enable c.args.w c.args.resume c.args.dice) (held (house h.domain h.users.items h.turns h.moment h.world)) in
-    subst (λ (x : HouseRecord). held (house h.domain h.users.items (h.turns + 1) h.moment c.manage.new.world)
+    let k = turn (Enable c.args.w c.args.resume c.args.dice) (held (house h.domain h.users h.limits h.turns h.moment h.world)) in
+    subst (λ (x : HouseRecord). held (house h.domain h.users h.limits (h.turns + 1) h.moment c.manage.new.world)
     ≡ (kept_step (held x) (Enable c.args.w c.args.resume c.args.dice)).state) c.self.view_is
-    (state_ends h.domain h.users.items h.turns h.moment h.moment 0 h.world c.manage.new.world (Enable c.args.w c.args.resume c.args.dice) c.manage.result refl
+    (state_ends h.domain h.users h.limits h.turns h.moment h.moment 0 h.world c.manage.new.world (Enable c.args.w c.args.resume c.args.dice)
+    c.manage.result refl
     (c.manage.ensures k refl refl))
 
 pub returns-clause-reply : goal.returns-clause-reply
 returns-clause-reply c =
     let h = c.self.inside in
-    let k = turn (Enable c.args.w c.args.resume c.args.dice) (held (house h.domain h.users.items h.turns h.moment h.world)) in
+    let k = turn (Enable c.args.w c.args.resume c.args.dice) (held (house h.domain h.users h.limits h.turns h.moment h.world)) in
     subst (λ (x : HouseRecord). c.manage.result ≡ (kept_step (held x) (Enable c.args.w c.args.resume c.args.dice)).reply) c.self.view_is
     (c.manage.ensures k refl refl).answer

@@ -8,7 +8,7 @@ use Rattle.house_core.proofs.house.House.apply_open.Goals as goal
 pub invariant_of-self : goal.invariant_of-self
 invariant_of-self c =
     let h = c.self.inside in
-    whole_is h.users.items h.turns h.moment h.moment h.world c.open.new.self
+    whole_is h.users h.turns h.moment h.moment h.world c.open.new.self
     (left_at (seen h.world) h.moment (line_of c.args.w h.world.table) ++ Open c.args.w ∷ []) 1
     c.self.invariant c.self.invariant.passed (omega arith)
     (left_then (seen h.world) h.moment (line_of c.args.w h.world.table) (Open c.args.w) (λ world. (refl, refl, refl))) c.open.ensures.did

@@ -17,7 +17,7 @@ sweep-requires-clause-hosted c =
 pub invariant_of-self-in_err-reply : goal.invariant_of-self-in_err-reply
 invariant_of-self-in_err-reply c =
     let h = c.self.inside in
-    whole_is h.users.items h.turns h.moment h.moment h.world c.sweep.new.world [] 0 c.self.invariant c.self.invariant.passed (omega arith)
+    whole_is h.users h.turns h.moment h.moment h.world c.sweep.new.world [] 0 c.self.invariant c.self.invariant.passed (omega arith)
     (λ world. (refl, refl, refl))
     c.in_err-reply.ensures.refused
 
@@ -25,16 +25,16 @@ pub returns-in_err-reply-clause-refused : goal.returns-in_err-reply-clause-refus
 returns-in_err-reply-clause-refused c =
     let h = c.self.inside in
     on_err c.from_residual.result
-    (subst (λ (x : HouseRecord). held (house h.domain h.users.items (h.turns + 1) h.moment c.sweep.new.world) ≡ passed (held x)) c.self.view_is
-    (passed_is h.domain h.users.items h.turns h.moment h.world c.sweep.new.world c.in_err-reply.ensures.refused))
+    (subst (λ (x : HouseRecord). held (house h.domain h.users h.limits (h.turns + 1) h.moment c.sweep.new.world) ≡ passed (held x)) c.self.view_is
+    (passed_is h.domain h.users h.limits h.turns h.moment h.world c.sweep.new.world c.in_err-reply.ensures.refused))
 
 pub invariant_of-self-2 : goal.invariant_of-self-2
 invariant_of-self-2 c =
     let h = c.self.inside in
     let e = Sweep c.args._w c.args.t in
     let now = c.later-moment.result in
-    let k = turn e (held (house h.domain h.users.items h.turns h.moment h.world)) in
-    whole_ends h.domain h.users.items h.turns h.moment now 0 h.world c.sweep.new.world e c.in_ok-reply.reply
+    let k = turn e (held (house h.domain h.users h.limits h.turns h.moment h.world)) in
+    whole_ends h.domain h.users h.limits h.turns h.moment now 0 h.world c.sweep.new.world e c.in_ok-reply.reply
     c.self.invariant (later_passed h.moment c.args.t now c.self.invariant.passed c.later-moment.ensures) (omega arith)
     (c.in_ok-reply.ensures.done k c.args._w c.args.t refl (sym c.later-moment.ensures)) c.in_ok-reply.ensures.hosts
     c.in_ok-reply.ensures.archives
@@ -44,15 +44,15 @@ returns-clause-state c =
     let h = c.self.inside in
     let e = Sweep c.args._w c.args.t in
     let now = c.later-moment.result in
-    let k = turn e (held (house h.domain h.users.items h.turns h.moment h.world)) in
-    subst (λ (x : HouseRecord). held (house h.domain h.users.items (h.turns + 1) now c.sweep.new.world) ≡ (kept_step (held x) e).state) c.self.view_is
-    (state_ends h.domain h.users.items h.turns h.moment now 0 h.world c.sweep.new.world e c.in_ok-reply.reply c.later-moment.ensures
+    let k = turn e (held (house h.domain h.users h.limits h.turns h.moment h.world)) in
+    subst (λ (x : HouseRecord). held (house h.domain h.users h.limits (h.turns + 1) now c.sweep.new.world) ≡ (kept_step (held x) e).state) c.self.view_is
+    (state_ends h.domain h.users h.limits h.turns h.moment now 0 h.world c.sweep.new.world e c.in_ok-reply.reply c.later-moment.ensures
     (c.in_ok-reply.ensures.done k c.args._w c.args.t refl (sym c.later-moment.ensures)))
 
 pub returns-clause-reply : goal.returns-clause-reply
 returns-clause-reply c =
     let h = c.self.inside in
     let e = Sweep c.args._w c.args.t in
-    let k = turn e (held (house h.domain h.users.items h.turns h.moment h.world)) in
+    let k = turn e (held (house h.domain h.users h.limits h.turns h.moment h.world)) in
     subst (λ (x : HouseRecord). c.in_ok-reply.reply ≡ (kept_step (held x) e).reply) c.self.view_is
     (c.in_ok-reply.ensures.done k c.args._w c.args.t refl (sym c.later-moment.ensures)).answer
