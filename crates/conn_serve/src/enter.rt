@@ -12,7 +12,7 @@ use outside::Link;
 use std::sync::Wait;
 
 /// The most lines that the house notes, and so how often it is asked for one.
-const MOST_LINES: u32 = 1024;
+const MOST_LINES: u32 = 16_384;
 
 /// Enters an event of the pass's line; the text of a frame that is pulled comes last in `out`.
 #[tactic(auto, using(crate::proofs::Entering::gives_none))]

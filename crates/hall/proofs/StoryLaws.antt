@@ -27,7 +27,7 @@ opening-after st [] = refl
 opening-after st (x ∷ more) = opening-after (next st x) more ∙ opening-next st x.event x.outcome
 
 opening-again : (o : State) → IsOpening o → opening_from (opening_of o) ≡ o
-opening-again o starts = ap (λ (st : State). opening_from (opening_of st)) starts.3 ∙ sym starts.3
+opening-again o starts = ap (λ (st : State). opening_from (opening_of st)) starts.4 ∙ sym starts.4
 
 opening-kept : (o : State) (h : List Turn) (k : Kept) → StandsFor o h k → opening_of k ≡ opening_of o
 opening-kept o h k stands = ap (λ (x : Kept). opening_of x) stands.kept ∙ opening-after o h

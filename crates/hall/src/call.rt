@@ -6,9 +6,9 @@ ghost use Rattle.house_core.specs.Houses.{HouseRecord, held};
 ghost use Rattle.hall.specs.Turns.{text_in};
 
 use crate::entry::HouseTurn;
-use crate::stirring::Stirring;
 use ghost_log::Tells;
 use house_core::House;
+use mark_sets::SharedMarks;
 use std::snapshot::Snapshot;
 
 /// One call of the house.
@@ -36,13 +36,25 @@ pub(crate) trait Call {
         ensures line { line_of (turn self.now w house.old result).event ≡ w };
 }
 
+/// Notes the lines that were stirred.
+fn note_stirred(house: &mut House, stirred: &SharedMarks)
+    ensures { house.new ≡ house.old }
+{
+    for _ in 0..house.workers() {
+        let Some(lines) = house.next_stirred() else {
+            return;
+        };
+        stirred.add_word(lines);
+    }
+}
+
 /// Makes a call, and notes the lines that it stirred.
 pub(crate) fn make_noted<C: Call>(
     call: &C,
     house: &mut House,
     w: u32,
     out: &mut Vec<u8>,
-    stirring: &Stirring,
+    stirred: &SharedMarks,
 ) -> C::Answer
     requires fits { C.fits call.now }
     requires room { vec_len out.old + C.room call.now ≤ vec_capacity out.old }
@@ -55,7 +67,7 @@ pub(crate) fn make_noted<C: Call>(
     ensures line { line_of (C.turn call.now w house.old result).event ≡ w }
 {
     let answer = call.make(house, w, out);
-    stirring.add(&house.take_stirred());
+    note_stirred(house, stirred);
     answer
 }
 

@@ -30,7 +30,7 @@ impl Hall {
         self.turn(rt, pass, &OpenLine, &mut Vec::new(self.alloc))
     }
 
-    /// The connection proved that it is this user's. Costs the number of users.
+    /// The connection proved that it is this user's. Costs one look in a hash table.
     #[tactic(auto, using(crate::proofs::AnswerLaws::answered))]
     pub fn login<W: Wait>(&self, rt: &W, pass: &mut Pass, user: &Part) -> Result<Reply, Spent>
         requires pass { CameFrom self.now pass.old }
@@ -41,7 +41,7 @@ impl Hall {
         self.turn(rt, pass, &Login { user }, &mut Vec::new(self.alloc))
     }
 
-    /// The connection asks for a session (RFC 6120, section 7). Costs the number of sessions.
+    /// The connection asks for a session (RFC 6120, section 7). Costs the number of the user's sessions, and time logarithmic in all.
     #[tactic(auto, using(crate::proofs::AnswerLaws::answered_or_short))]
     pub fn bind<W: Wait>(
         &self,

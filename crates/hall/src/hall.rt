@@ -10,10 +10,10 @@ ghost use Rattle.hall.specs.Stories.{line, root};
 
 use crate::call::{Call, Made, make_noted};
 use crate::recorded::Recorded;
-use crate::stirring::Stirring;
 use ghost_log::GhostLog;
 use house_core::House;
 use jid_core::Jid;
+use mark_sets::SharedMarks;
 use stanza_tree::NoMemory;
 use std::alloc::Global;
 use std::snapshot::Snapshot;
@@ -37,7 +37,7 @@ pub enum HallFault {
 pub struct Hall {
     pub(crate) lock: Turnstile<Recorded>,
     domain: Jid,
-    stirring: Stirring,
+    stirred: SharedMarks,
     pub(crate) alloc: Global,
     ghost agreed: { passes_of lock ≡ (root_of root lock).workers },
     ghost named: { domain ≡ (root_of root lock).domain },
@@ -65,7 +65,7 @@ impl Hall {
         ensures fresh { IfOk result (λ r. All (λ p. (seen p ≡ []) × (refused p ≡ false)) r.1.items) }
     {
         let domain = house.domain().copy(alloc)?;
-        let stirring = Stirring::new(alloc)?;
+        let stirred = SharedMarks::new(alloc, passes)?;
         let value = Recorded {
             house: Box::new(alloc, house)?,
             log: GhostLog::empty(),
@@ -74,7 +74,7 @@ impl Hall {
         let hall = Hall {
             lock,
             domain,
-            stirring,
+            stirred,
             alloc,
         };
         Ok((hall, all))
@@ -90,7 +90,7 @@ impl Hall {
     /// A line that may have something to pull, because of an event of another line, and of which that was not told since. No turn is taken,
     /// and nothing is promised of it.
     pub fn next_stirred(&self) -> Option<u32> {
-        self.stirring.next()
+        self.stirred.take()
     }
 
     // One turn, in which a call is made.
@@ -119,7 +119,7 @@ impl Hall {
         let line = pass.number();
         let lent = &mut *house;
         let before = Snapshot::of(lent);
-        let answer = make_noted(call, lent, line, out, &self.stirring);
+        let answer = make_noted(call, lent, line, out, &self.stirred);
         let made = Made {
             call: Snapshot::of(call),
             line,
@@ -156,7 +156,7 @@ impl Hall {
         let Hall {
             lock,
             domain: _,
-            stirring: _,
+            stirred: _,
             alloc: _,
         } = self;
         let Recorded { house, log: _ } = lock.close(passes);

@@ -155,7 +155,7 @@ impl Desk for Hall {
         unless_refused(Hall::sweep(self, rt, pass, t))
     }
 
-    ghost opens = { λ desk. ((opened desk).domain, (opened desk).users, (opened desk).workers, refl) };
+    ghost opens = { λ desk. ((opened desk).limits, (opened desk).domain, (opened desk).users, (opened desk).workers, refl) };
 
     ghost legal = { λ desk pass from. from.2 };
 }

@@ -9,7 +9,6 @@ mod events;
 mod hall;
 mod hall_desk;
 mod recorded;
-mod stirring;
 
 pub use desk::{Desk, DeskFault};
 pub use entry::{HouseTurn, Opening};

@@ -1,8 +1,9 @@
 //! How a worker that waits is woken for one of its places. No contract speaks of it: a place that nobody rings is looked at
 //! within ten seconds.
 
-use crate::marks::Marks;
+use mark_sets::{Marks, SharedMarks};
 use mio::{Poll, Token, Waker};
+use std::alloc::Global;
 use std::io;
 use std::sync::atomic::{AtomicU64, Ordering};
 
@@ -20,22 +21,17 @@ const RUNG: u64 = 2;
 #[derive(Drop)]
 pub(crate) struct Bell {
     state: AtomicU64,
-    // A bit for each place that was rung.
-    rung: [AtomicU64; 4],
+    // The places that were rung.
+    rung: SharedMarks,
     waker: Waker,
 }
 
 impl Bell {
-    /// A bell that ends the waits of this poll.
-    pub(crate) fn new(poll: &Poll) -> io::Result<Bell> {
+    /// A bell for so many places that ends the waits of this poll.
+    pub(crate) fn new(alloc: Global, poll: &Poll, places: u32) -> io::Result<Bell> {
         Ok(Bell {
             state: AtomicU64::new(BUSY),
-            rung: [
-                AtomicU64::new(0),
-                AtomicU64::new(0),
-                AtomicU64::new(0),
-                AtomicU64::new(0),
-            ],
+            rung: SharedMarks::new(alloc, places)?,
             waker: Waker::new(poll.registry(), BELL)?,
         })
     }
@@ -43,9 +39,7 @@ impl Bell {
     /// Rings for a place: ends the wait that is under way, or else the next one at its beginning. Where the worker was rung
     /// already, only notes the place.
     pub(crate) fn ring(&self, place: u32) {
-        if let Some(word) = self.rung.get((place / 64) as usize) {
-            word.fetch_or(1 << (place % 64), Ordering::SeqCst);
-        }
+        self.rung.add(place);
         if self.state.swap(RUNG, Ordering::SeqCst) == WAITING {
             // Where it fails, the wait ends by its own bound.
             let _woken = self.waker.wake();
@@ -62,10 +56,6 @@ impl Bell {
     /// The worker goes on, with the places that were rung until now.
     pub(crate) fn end_wait(&self, marks: &mut Marks) {
         self.state.store(BUSY, Ordering::SeqCst);
-        let mut index: usize = 0;
-        for word in &self.rung {
-            marks.add_word(index, word.swap(0, Ordering::SeqCst));
-            index = index.saturating_add(1);
-        }
+        self.rung.move_to(marks);
     }
 }

@@ -5,7 +5,6 @@
 mod beat;
 mod bell;
 mod gauge;
-mod marks;
 mod net_ports;
 mod open_fault;
 mod places;

@@ -208,7 +208,7 @@ fn make_bells<R: Net>(
     let mut bells = Vec::new(alloc);
     for _worker in 0..workers {
         let poll = Poll::new(rt)?;
-        bells.push(Bell::new(&poll)?)?;
+        bells.push(Bell::new(alloc, &poll, places)?)?;
         polls.push(poll)?;
     }
     Ok((polls, Bells { bells, places }))

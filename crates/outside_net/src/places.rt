@@ -19,6 +19,8 @@ pub(crate) struct Seat {
 #[derive(Drop)]
 pub(crate) struct Places {
     seats: Vec<Seat>,
+    // The places that are free. There is room for all.
+    free: Vec<u32>,
     links: u64,
     quota: u64,
 }
@@ -44,8 +46,13 @@ impl Places {
                 came: 0,
             },
         )?;
+        let mut free = Vec::with_capacity(alloc, places as usize)?;
+        for place in (0..places).rev() {
+            free.push(place)?;
+        }
         Ok(Places {
             seats,
+            free,
             links: 0,
             quota,
         })
@@ -79,7 +86,7 @@ impl Places {
         self.is_reached() && self.are_free()
     }
 
-    /// A place for one more link.
+    /// A place for one more link: the first of those that none came to, or the one that was given up last.
     pub(crate) fn vacant(&self) -> Option<u32>
         ensures more { IfSome result (λ k. reached self.now.quota self.now.links ≡ false) }
         ensures place { IfSome result (λ k. k < length self.now.seats) }
@@ -88,9 +95,7 @@ impl Places {
         if self.is_reached() {
             return None;
         }
-        let place = self.seats.iter().position(|seat| !seat.taken)?;
-        let k = u32::try_from(place).ok()?;
-        self.if_free(k)
+        self.if_free(*self.free.last()?)
     }
 
     fn if_free(&self, k: u32) -> Option<u32>
@@ -124,6 +129,9 @@ impl Places {
         let came = self.seats[k as usize].came.saturating_add(1);
         self.seats[k as usize] = Seat { taken: true, came };
         self.links = self.links.saturating_add(1);
+        if self.free.last().copied() == Some(k) {
+            self.free.pop();
+        }
     }
 
     /// The link of a place is gone.
@@ -136,6 +144,8 @@ impl Places {
         if (k as usize) < self.seats.len() {
             let came = self.seats[k as usize].came;
             self.seats[k as usize] = Seat { taken: false, came };
+            // There is room, so this doesn't fail.
+            let _kept = self.free.push(k);
         }
     }
 }

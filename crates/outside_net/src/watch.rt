@@ -3,8 +3,8 @@
 use crate::beat::Beat;
 use crate::bell::BELL;
 use crate::gauge::Gauge;
-use crate::marks::Marks;
 use crate::tcp_link::Bells;
+use mark_sets::Marks;
 use mio::event::{Event, Source};
 use mio::net::TcpStream;
 use mio::{Events, Interest, Poll, Token};
@@ -71,11 +71,11 @@ impl<R: Clock + Drop> Watch<R> {
         Ok(Watch {
             poll,
             events: Events::with_capacity(alloc, MOST_EVENTS)?,
-            bells,
             worker,
             seen,
-            ready: Marks::new(),
-            again: Marks::new(),
+            ready: Marks::new(alloc, bells.places)?,
+            again: Marks::new(alloc, bells.places)?,
+            bells,
             last: None,
             arrives: true,
             beat,
@@ -162,8 +162,7 @@ impl<R: Clock + Drop> Watch<R> {
 
     /// Waits until something is ready, at most until the next look; not at all where something is.
     pub(crate) fn wait(&mut self, is_ready: bool) -> io::Result<()> {
-        self.ready.add_all(&self.again);
-        self.again = Marks::new();
+        self.ready.take_all(&mut self.again);
         let longest = if is_ready || !self.ready.is_empty() {
             Duration::ZERO
         } else {
