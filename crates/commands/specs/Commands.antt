@@ -3,7 +3,8 @@ use Rattle.std.specs.Prelude.{◌≡◌, ◌<◌, ◌≤◌, ℕ, ◌-◌, ◌*�
 use Rattle.std.specs.Result.{result_ok}
 use Rattle.jid_core.specs.Preparation.{local_of}
 use Rattle.account_book.specs.Fields.{on, salt_in}
-use Rattle.serve_words.specs.Options.{IsRefusal, Wanted, is_value, number, wanted, wanted_of}
+use Rattle.serve_run.specs.declared.serving.Serving.{Serving}
+use Rattle.serve_words.specs.Options.{IsRefusal, is_value, number, wanted}
 use Rattle.commands.specs.declared.words.Command.{Command}
 use Rattle.commands.specs.declared.words.Command.TheVariants as command
 use Rattle.script_play.specs.declared.status.Status.{Status}
@@ -12,7 +13,7 @@ use Rattle.script_play.specs.declared.status.Status.{Status}
 pub data Task : Type 0 where
   Play : Task
   Make : (name salt : List ℕ) → Task
-  Serve : Wanted → Task
+  Serve : Serving → Task
   Drill : (n key : ℕ) → Task
 
 -- NAME: a local part, as it is prepared (RFC 7622, 3.3)
@@ -65,12 +66,12 @@ Reads seen read (Err s) = IsRefusal read s
 abbrev pub task : Command → Task
 task command.Replay = Play
 task (command.Account name salt) = Make name salt.items
-task (command.Serve serving) = Serve (wanted_of serving)
+task (command.Serve serving) = Serve serving
 task (command.Drill n key) = Drill n key
 
--- a server has a worker at least, each worker a place, and all together at most 1,024
+-- a server has a worker at least, each worker a place, and all together at most 16,384
 abbrev pub HasPlaces : Command → Type 0
 HasPlaces command.Replay = ⊤
 HasPlaces (command.Account name salt) = ⊤
-HasPlaces (command.Serve serving) = (0 < serving.workers) × (0 < serving.links) × (serving.workers * serving.links ≤ 1024)
+HasPlaces (command.Serve serving) = (0 < serving.workers) × (0 < serving.links) × (serving.workers * serving.links ≤ 16384)
 HasPlaces (command.Drill n key) = ⊤

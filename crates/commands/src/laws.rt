@@ -1,8 +1,9 @@
 //! What follows from the contract of [`run`].
 ghost use Rattle.std.specs.Prelude.{◌≡◌, ◌⊎◌, ◌≤◌, ℕ, List, [], ◌∷◌, Ok, Some, None, codes, length};
 ghost use Rattle.account_book.specs.Entries.{Entry};
-ghost use Rattle.account_book.specs.Lists.{entries_of};
-ghost use Rattle.serve_words.specs.Options.{Wanted};
+ghost use Rattle.serve_run.specs.declared.serving.Serving.{Serving};
+ghost use Rattle.serve_run.specs.Limits.{most_list};
+ghost use Rattle.serve_run.specs.Services.{entries_for};
 ghost use Rattle.commands.specs.Accounts.{Accounted, IsPasswordLine};
 ghost use Rattle.commands.specs.Commands.{Drill, Make, Serve, task_of};
 ghost use Rattle.drill_run.specs.Endings.{Ends};
@@ -61,9 +62,10 @@ pub fn valid_lists_are_served<R: Threads + Wait + Sync>(
     sink: &mut CleanSink,
     ports: &mut CleanPorts,
 ) -> Status
-    requires task { (w : Wanted) × (task_of words.now ≡ Some (Serve w)) }
-    requires short { length source.old ≤ 8388608 }
-    requires valid { (entries : List Entry) × (entries_of source.old ≡ Ok entries) }
+    requires task { (w : Serving) × (task_of words.now ≡ Some (Serve w)) }
+    requires short { (w : Serving) → task_of words.now ≡ Some (Serve w) → length source.old ≤ most_list w.sessions }
+    requires valid { (w : Serving) → task_of words.now ≡ Some (Serve w)
+        → (entries : List Entry) × (entries_for w.sessions source.old ≡ Ok entries) }
     ensures ends { (result ≡ Status.Done) ⊎ (result ≡ Status.NoMemory) }
 {
     run(rt, alloc, words, source, sink, ports)

@@ -2,8 +2,8 @@
 ghost use Rattle.std.specs.Prelude.{◌≡◌, ◌⊎◌, ◌≤◌, ℕ, List, [], ◌∷◌, Some, None, codes};
 ghost use Rattle.outside.specs.Devices.{Rose};
 ghost use Rattle.commands.specs.Accounts.{Accounted, ReadsAtMost};
+ghost use Rattle.serve_run.specs.declared.serving.Serving.{Serving};
 ghost use Rattle.serve_run.specs.Services.{tally};
-ghost use Rattle.serve_words.specs.Options.{Wanted};
 ghost use Rattle.commands.specs.Commands.{Drill, Make, Serve, task_of};
 ghost use Rattle.commands.specs.Servings.{Concluded};
 ghost use Rattle.drill_run.specs.Endings.{Ends};
@@ -41,7 +41,7 @@ where
     ensures accounted { (name salt : List ℕ) → task_of words.now ≡ Some (Make name salt)
         → Accounted K.took name salt (S.left source.old) (S.left source.new) sink.old sink.new result }
     ensures few { (name salt : List ℕ) → task_of words.now ≡ Some (Make name salt) → ReadsAtMost 258 (S.left source.old) (S.left source.new) }
-    ensures served { (w : Wanted) → task_of words.now ≡ Some (Serve w)
+    ensures served { (w : Serving) → task_of words.now ≡ Some (Serve w)
         → Concluded w (S.left source.old) (S.left source.new)
         (tally (P.tapes ports.old) (P.links ports.old) (P.dice_faults ports.old) (P.address ports.old))
         (tally (P.tapes ports.new) (P.links ports.new) (P.dice_faults ports.new) (P.address ports.new)) (K.took sink.old) (K.took sink.new) result }

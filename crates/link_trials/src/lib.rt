@@ -3,6 +3,10 @@
 #![tactic(auto)]
 
 #[cfg(test)]
+mod conflicts;
+#[cfg(test)]
+mod full;
+#[cfg(test)]
 mod places;
 #[cfg(test)]
 mod servers;

@@ -2,7 +2,7 @@
 
 ghost use Rattle.std.specs.Prelude.{◌≡◌, IfOk, Some, []};
 ghost use Rattle.outside.specs.Polls.{IsFresh, SeatState};
-ghost use Rattle.outside.specs.Posts.{Each, IsUnused};
+ghost use Rattle.outside.specs.Posts.{Each, IsUnused, MemPost};
 
 use jid_core::Jid;
 use outside::{
@@ -21,13 +21,13 @@ use std::thread::Threads;
 const ACCOUNT: &[u8] =
     b"user 4096 QSXCR+Q6sek8bf92 6dlGYMOdZcOPutkcNY8U2g7vK9Y= D+CSWLOshSulAsxiupA+qs2/fTE= FO+9jBb3MUukt6jJnzjPZOWc5ow/Pu6JtPyju0aqaE8= qxJ1SbmSAi5EcS0J5Ck/cKAm/+Ixa+Kwp63f4OHDgzo=\n";
 
-const HEADER: &[u8] =
+pub(crate) const HEADER: &[u8] =
     b"<stream:stream xmlns='jabber:client' xmlns:stream='http://etherx.jabber.org/streams' to='example.org' version='1.0'>";
 
-const HELLO: &[u8] =
+pub(crate) const HELLO: &[u8] =
     b"<auth xmlns='urn:ietf:params:xml:ns:xmpp-sasl' mechanism='SCRAM-SHA-1'>biwsbj11c2VyLHI9ZnlrbytkMmxiYkZnT05Sdjlxa3hkYXdM</auth>";
 
-const PROOF: &[u8] =
+pub(crate) const PROOF: &[u8] =
     b"<response xmlns='urn:ietf:params:xml:ns:xmpp-sasl'>Yz1iaXdzLHI9ZnlrbytkMmxiYkZnT05Sdjlxa3hkYXdMQUFBQUFBQUFBQUFBQUFBQUFBQUFBQUFBLHA9d3A3V3ZvQmNHeW53cWJmejRXZmtBNzU5R0xNPQ==</response>";
 
 const WORDS: &[u8] = b"<message to='user@example.org/q' type='chat'><body>hello</body></message>";
@@ -137,7 +137,7 @@ fn readings_of(alloc: Global, readings: &[&[u8]], most: usize) -> Result<Vec<Sev
     let mut left = most;
     for reading in readings {
         let (front, _) = reading.split_at(left.min(reading.len()));
-        if !front.is_empty() {
+        if !front.is_empty() || reading.is_empty() {
             script.push(Several::of(Vec::from_slice(alloc, front)?))?;
         }
         left = left.saturating_sub(reading.len());
@@ -145,7 +145,12 @@ fn readings_of(alloc: Global, readings: &[&[u8]], most: usize) -> Result<Vec<Sev
     Ok(script)
 }
 
-fn link_of(alloc: Global, readings: &[&[u8]], most: usize, fails: u64) -> Result<MemLink, Fail>
+pub(crate) fn link_of(
+    alloc: Global,
+    readings: &[&[u8]],
+    most: usize,
+    fails: u64,
+) -> Result<MemLink, Fail>
     ensures { IfOk result (λ l. l.tape.told ≡ Some []) }
 {
     let script = readings_of(alloc, readings, most)?;
@@ -196,7 +201,7 @@ fn poller_of(alloc: Global, change: Change) -> Result<MemPoller, Fail>
     Ok(MemPoller::new(alloc, 2, rings, links, Vec::new(alloc), 2, 50)?)
 }
 
-fn source_of(alloc: Global, fails: u64) -> Result<Sources<MemClock, MemDice>, Fail> {
+pub(crate) fn source_of(alloc: Global, fails: u64) -> Result<Sources<MemClock, MemDice>, Fail> {
     let dice = Vec::from_array(alloc, [0u8; 1000])?;
     let fails = Vec::from_array(alloc, [fails])?;
     Ok(Sources {
@@ -219,7 +224,7 @@ fn post_of(alloc: Global, change: Change) -> Result<PollPost<MemPoller, MemClock
     Ok(PollPost { poller, sources })
 }
 
-fn serving_of(alloc: Global) -> Result<Serving, Fail>
+fn serving_of(alloc: Global, connections: u64) -> Result<Serving, Fail>
     ensures { IfOk result (λ s. (s.workers ≡ 1) × (s.links ≡ 2)) }
 {
     Ok(Serving {
@@ -227,18 +232,21 @@ fn serving_of(alloc: Global) -> Result<Serving, Fail>
         port: 5222,
         workers: 1,
         links: 2,
-        connections: 3,
+        connections,
         quiet: true,
+        sessions: 512,
     })
 }
 
-/// The ports after a run.
-fn run<R: Threads + Wait + Sync>(
+/// The ports after so many connections came to these posts, where all went well.
+pub(crate) fn serve_posts<R: Threads + Wait + Sync>(
     rt: &R,
     alloc: Global,
-    change: Change,
-) -> Result<Option<MemPorts>, Fail> {
-    let posts = Vec::from_array(alloc, [post_of(alloc, change)?])?;
+    posts: Vec<PollPost<MemPoller, MemClock, MemDice>>,
+    connections: u64,
+) -> Result<Option<MemPorts>, Fail>
+    requires { Each MemPost IsUnused posts.items }
+{
     let secret = MemDice::new(
         alloc,
         Vec::from_array(alloc, [0u8; 32])?,
@@ -248,15 +256,25 @@ fn run<R: Threads + Wait + Sync>(
     let mut ports = MemPorts::new(alloc, posts, secret, Vec::new(alloc), 2)?;
     let mut source = MemSource::new(Vec::from_slice(alloc, ACCOUNT)?, 4096, Vec::new(alloc));
     let mut sink = MemSink::new(alloc, 100, 100, Vec::new(alloc))?;
-    let serving = serving_of(alloc)?;
+    let serving = serving_of(alloc, connections)?;
     match serve(rt, alloc, &serving, &mut source, &mut sink, &mut ports) {
         Status::Done => Ok(Some(ports)),
         _ => Ok(None),
     }
 }
 
+/// The ports after a run.
+fn run<R: Threads + Wait + Sync>(
+    rt: &R,
+    alloc: Global,
+    change: Change,
+) -> Result<Option<MemPorts>, Fail> {
+    let posts = Vec::from_array(alloc, [post_of(alloc, change)?])?;
+    serve_posts(rt, alloc, posts, 3)
+}
+
 /// The marks and the bytes of a place's link that came so many before.
-fn told_at(ports: &MemPorts, place: u32, link: usize) -> Option<(&[Kind], &[u8])> {
+pub(crate) fn told_at(ports: &MemPorts, place: u32, link: usize) -> Option<(&[Kind], &[u8])> {
     let poller = ports.pollers_back().first()?;
     let tape = poller.tapes(place).get(link)?;
     Some((tape.kinds(), tape.bytes()))

@@ -294,6 +294,7 @@ fn serving_of(alloc: Global, workers: u32, links: u32) -> Result<Serving, Fail>
         links,
         connections: links as u64,
         quiet: false,
+        sessions: 512,
     })
 }
 

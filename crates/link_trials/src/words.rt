@@ -8,45 +8,49 @@ use std::alloc::Global;
 use std::process::Abort;
 use std::test::Fail;
 
-/// Words; the domain, and the port, workers, links, connections and whether it is quiet.
+/// Words; the domain, and the port, workers, links, connections, whether it is quiet, and the sessions.
 type Taken = (
     &'static [&'static [u8]],
     &'static [u8],
-    (u16, u32, u32, u64, bool),
+    (u16, u32, u32, u64, bool, u32),
 );
 
-const TAKEN: [Taken; 9] = [
-    (&[], b"localhost", (5222, 4, 256, 0, false)),
+const TAKEN: [Taken; 15] = [
+    (&[], b"localhost", (5222, 4, 256, 0, false, 512)),
     (
         &[b"--port", b"15222"],
         b"localhost",
-        (15222, 4, 256, 0, false),
+        (15222, 4, 256, 0, false, 512),
     ),
     (
         &[b"--port=15222", b"--workers=2"],
         b"localhost",
-        (15222, 2, 256, 0, false),
+        (15222, 2, 256, 0, false, 512),
     ),
     (
         &[b"--connections", b"1000000", b"--domain=example.org"],
         b"example.org",
-        (5222, 4, 256, 1_000_000, false),
+        (5222, 4, 256, 1_000_000, false, 512),
     ),
     (
         &[b"--workers", b"064", b"--port=0000000000000000000000001"],
         b"localhost",
-        (1, 64, 16, 0, false),
+        (1, 64, 16, 0, false, 512),
     ),
-    (&[b"--workers=5"], b"localhost", (5222, 5, 204, 0, false)),
+    (
+        &[b"--workers=5"],
+        b"localhost",
+        (5222, 5, 204, 0, false, 512),
+    ),
     (
         &[b"--quiet", b"--links", b"1", b"--workers", b"64"],
         b"localhost",
-        (5222, 64, 1, 0, true),
+        (5222, 64, 1, 0, true, 512),
     ),
     (
         &[b"--links=256", b"--quiet"],
         b"localhost",
-        (5222, 4, 256, 0, true),
+        (5222, 4, 256, 0, true, 512),
     ),
     (
         &[
@@ -59,11 +63,41 @@ const TAKEN: [Taken; 9] = [
             b"65535",
         ],
         b"example.org",
-        (65535, 1, 256, 7, false),
+        (65535, 1, 256, 7, false, 512),
+    ),
+    (
+        &[b"--sessions", b"1"],
+        b"localhost",
+        (5222, 4, 256, 0, false, 1),
+    ),
+    (
+        &[b"--sessions=513", b"--workers=64"],
+        b"localhost",
+        (5222, 64, 16, 0, false, 513),
+    ),
+    (
+        &[b"--sessions=10000", b"--workers", b"1"],
+        b"localhost",
+        (5222, 1, 16384, 0, false, 10000),
+    ),
+    (
+        &[b"--sessions", b"16384"],
+        b"localhost",
+        (5222, 4, 4096, 0, false, 16384),
+    ),
+    (
+        &[b"--links=4096", b"--sessions=16384"],
+        b"localhost",
+        (5222, 4, 4096, 0, false, 16384),
+    ),
+    (
+        &[b"--links=257", b"--sessions=513"],
+        b"localhost",
+        (5222, 4, 257, 0, false, 513),
     ),
 ];
 
-const REFUSED: [&[&[u8]]; 25] = [
+const REFUSED: [&[&[u8]]; 33] = [
     &[b"5222"],
     &[b"--"],
     &[b"--port"],
@@ -89,6 +123,14 @@ const REFUSED: [&[&[u8]]; 25] = [
     &[b"--domain", b"alice@example.org"],
     &[b"--domain=[::1]"],
     &[b"--listen", b"1"],
+    &[b"--sessions"],
+    &[b"--sessions", b"0"],
+    &[b"--sessions=16385"],
+    &[b"--sessions=600", b"--sessions=600"],
+    &[b"--links=4096"],
+    &[b"--links", b"257", b"--sessions", b"512"],
+    &[b"--links=4097", b"--sessions=16384"],
+    &[b"--links=16385", b"--workers=1", b"--sessions=16384"],
 ];
 
 fn read(alloc: Global, words: &[&[u8]]) -> Result<Result<Serving, Status>, Fail> {
@@ -104,7 +146,7 @@ fn takes<R: Abort>(
     alloc: Global,
     words: &[&[u8]],
     domain: &[u8],
-    numbers: (u16, u32, u32, u64, bool),
+    numbers: (u16, u32, u32, u64, bool, u32),
 ) -> Result<(), Fail> {
     match read(alloc, words)? {
         Ok(serving) => {
@@ -115,7 +157,8 @@ fn takes<R: Abort>(
                     serving.workers,
                     serving.links,
                     serving.connections,
-                    serving.quiet
+                    serving.quiet,
+                    serving.sessions
                 ),
                 numbers
             );

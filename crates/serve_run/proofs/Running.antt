@@ -6,12 +6,11 @@ use Rattle.std.proofs.Props.{props}
 use Rattle.std.specs.List.{list_any}
 use Rattle.std.specs.Prelude.{◌≢◌, Option, Some, None}
 use Rattle.account_book.specs.Entries.{entry_of}
-use Rattle.account_book.specs.Lists.{Book, entries_of, names_of}
-use Rattle.jid_core.specs.Addresses.{Address}
+use Rattle.account_book.specs.Lists.{Book}
 use Rattle.house_core.specs.Houses.{HouseRecord, held}
 use Rattle.hall.specs.Stories.{Stands}
 use Rattle.house_model.specs.Histories.{StandsFor, Turn, openings}
-use Rattle.house_model.specs.States.{Kept, State, opening}
+use Rattle.house_model.specs.States.{Kept, State}
 use Rattle.outside.specs.Devices.{Front, Rose}
 use Rattle.outside.specs.Posts.{added, plus}
 use Rattle.script_play.specs.Runs as Run
@@ -21,8 +20,9 @@ use Rattle.conn_staff.specs.declared.roster.Worked.{Worked}
 use Rattle.conn_staff.specs.declared.roster.Worked.TheVariants.{PollFault, Shut}
 use Rattle.conn_staff.specs.Staffs.{AllEnded, PostTelling, Staffed, places_of, worked_by}
 use Rattle.serve_run.proofs.Pollers.{dice-counted, links-added, places-many, quotas-filled}
+use Rattle.serve_run.specs.declared.serving.Serving.{Serving}
 use Rattle.serve_run.specs.Services.{AllOpened, CameShort, Gathered, IsRefused, LeftUnserved, ListeningFailed, Ran, ReadsList, Refused}
-use Rattle.serve_run.specs.Services.{Served, ServedBy, SomeRose, Tally, Unserved, address_at, report}
+use Rattle.serve_run.specs.Services.{Served, ServedBy, SomeRose, Tally, Unserved, address_at, entries_for, opening_for, report}
 
 -- Workers: each poller shut, or one failed.
 
@@ -45,17 +45,17 @@ staff_failed o accounts before now worked k s failed = some_rose before now s.fa
 
 -- Over a list.
 
-pub served_over : (r : Result (HouseRecord × Worked) Status) (domain : Address) (lines : ℕ) (list : List ℕ) (accounts : Book) (before now : List PostTelling)
-    (k : Kept) → IfOk r (λ left. (o : State) → StandsFor o [] k → Staffed o accounts before now left.1 (held left.0))
-    → StandsFor (opening domain (names_of accounts.accounts) lines) [] k → entries_of list ≡ Ok (map entry_of accounts.accounts)
-    → IfOk r (λ left. ServedBy left.1 domain lines list before now (held left.0))
-served_over (Ok left) domain lines list accounts before now k served stands read =
-    (accounts, read, served (opening domain (names_of accounts.accounts) lines) stands)
-served_over (Err s) domain lines list accounts before now k served stands read = tt
+pub served_over : (r : Result (HouseRecord × Worked) Status) (asked : Serving) (list : List ℕ) (accounts : Book) (before now : List PostTelling) (k : Kept)
+    → IfOk r (λ left. (o : State) → StandsFor o [] k → Staffed o accounts before now left.1 (held left.0))
+    → StandsFor (opening_for asked accounts) [] k → entries_for asked.sessions list ≡ Ok (map entry_of accounts.accounts)
+    → IfOk r (λ left. ServedBy left.1 asked list before now (held left.0))
+served_over (Ok left) asked list accounts before now k served stands read = (accounts, read, served (opening_for asked accounts) stands)
+served_over (Err s) asked list accounts before now k served stands read = tt
 
-pub refused_over : (r : Result (HouseRecord × Worked) Status) (list : List ℕ) (X : Type 0) → IfErr r (λ s. s ≡ status.NoMemory) → IfErr r (λ s. Refused list s X)
-refused_over (Ok left) list X refused = tt
-refused_over (Err s) list X is = inl (subst (λ (t : Status). IsRefused (entries_of list) t) (sym is) tt)
+pub refused_over : (r : Result (HouseRecord × Worked) Status) (sessions : ℕ) (list : List ℕ) (X : Type 0) → IfErr r (λ s. s ≡ status.NoMemory)
+    → IfErr r (λ s. Refused sessions list s X)
+refused_over (Ok left) sessions list X refused = tt
+refused_over (Err s) sessions list X is = inl (subst (λ (t : Status). IsRefused (entries_for sessions list) t) (sym is) tt)
 
 -- Counts.
 
@@ -119,11 +119,10 @@ itself_least n = omega arith
 both_least : (a b c : ℕ) → a ≤ b → b ≤ c → a ≤ c
 both_least a b c h k = omega arith
 
-pub ran : (worked : Worked) (domain : Address) (port workers links quota : ℕ) → 0 < workers → 0 < links → (list : List ℕ) (ports ports' : Tally)
-    (before now : List PostTelling) (k : Kept) → length before ≡ workers → AllOpened links quota before
-    → ServedBy worked domain (workers * links) list before now k → ports'.address ≡ Some (address_at port) → Gathered ports now ports'
-    → Ran worked domain port workers links quota list ports ports'
-ran worked domain port workers links quota some places list ports ports' before now k many opened (accounts, read, staffed) listened gathers = record {
+pub ran : (worked : Worked) (asked : Serving) → 0 < asked.workers → 0 < asked.links → (list : List ℕ) (ports ports' : Tally)
+    (before now : List PostTelling) (k : Kept) → length before ≡ asked.workers → AllOpened asked.links asked.connections before
+    → ServedBy worked asked list before now k → ports'.address ≡ Some (address_at asked.port) → Gathered ports now ports' → Ran worked asked list ports ports'
+ran worked asked some places list ports ports' before now k many opened (accounts, read, staffed) listened gathers = record {
   accounts = accounts;
   read = read;
   before = before;
@@ -135,70 +134,72 @@ ran worked domain port workers links quota some places list ports ports' before 
   listened = listened;
   gathered = gathers;
   counted =
-      links-added (opening domain (names_of accounts.accounts) (workers * links)) accounts staffed.history k workers links quota ports.links ports'.links
-      before now staffed.failed some refl many staffed.stands staffed.each staffed.ended opened gathers.links;
+      links-added (opening_for asked accounts) accounts staffed.history k asked.workers asked.links asked.connections ports.links ports'.links before now
+      staffed.failed some refl many staffed.stands staffed.each staffed.ended opened gathers.links;
   filled = λ shut.
-      quotas-filled (opening domain (names_of accounts.accounts) (workers * links)) accounts staffed.history k workers links quota before now staffed.failed
-      refl many staffed.stands staffed.each staffed.ended (sym shut ∙ staffed.worked_is) opened;
+      quotas-filled (opening_for asked accounts) accounts staffed.history k asked.workers asked.links asked.connections before now staffed.failed refl many
+      staffed.stands staffed.each staffed.ended (sym shut ∙ staffed.worked_is) opened;
   dice_failed =
-      dice-counted (opening domain (names_of accounts.accounts) (workers * links)) accounts staffed.history ports.dice ports'.dice (places_of before)
-      (places_of now) staffed.each (some-places before many opened) gathers.dice;
+      dice-counted (opening_for asked accounts) accounts staffed.history ports.dice ports'.dice (places_of before) (places_of now) staffed.each
+      (some-places before many opened) gathers.dice;
 }
   where
     product : (m n : ℕ) → 0 < m → 0 < n → 0 < m * n
     product zero n h k = absurd (omega (arith, h))
     product (suc m) n h k = let e = suc-mul m n in omega (arith, e, k)
 
-    some-places : (before : List PostTelling) → length before ≡ workers → AllOpened links quota before → 0 < length (places_of before)
+    some-places : (before : List PostTelling) → length before ≡ asked.workers → AllOpened asked.links asked.connections before
+        → 0 < length (places_of before)
     some-places posts many all =
-        subst (λ (n : ℕ). 0 < n) (sym (places-many links quota posts all ∙ ap (λ (n : ℕ). n * links) many)) (product workers links some places)
+        subst (λ (n : ℕ). 0 < n) (sym (places-many asked.links asked.connections posts all ∙ ap (λ (n : ℕ). n * asked.links) many))
+        (product asked.workers asked.links some places)
 
-pub posts_ran : (r : Result (HouseRecord × Worked) Status) (domain : Address) (port workers links quota : ℕ) → 0 < workers → 0 < links → (list : List ℕ)
-    (ports ports' : Tally) (before now : List PostTelling) → IfOk r (λ left. ServedBy left.1 domain (workers * links) list before now (held left.0))
-    → length before ≡ workers → AllOpened links quota before → ports'.address ≡ Some (address_at port) → Gathered ports now ports'
-    → IfOk r (λ left. (x : Ran left.1 domain port workers links quota list ports ports') × (x.kept ≡ held left.0))
+pub posts_ran : (r : Result (HouseRecord × Worked) Status) (asked : Serving) → 0 < asked.workers → 0 < asked.links → (list : List ℕ)
+    (ports ports' : Tally) (before now : List PostTelling) → IfOk r (λ left. ServedBy left.1 asked list before now (held left.0))
+    → length before ≡ asked.workers → AllOpened asked.links asked.connections before → ports'.address ≡ Some (address_at asked.port)
+    → Gathered ports now ports' → IfOk r (λ left. (x : Ran left.1 asked list ports ports') × (x.kept ≡ held left.0))
 unfolding ran
-posts_ran (Ok left) domain port workers links quota some places list ports ports' before now served many opened listened gathers =
-    (ran left.1 domain port workers links quota some places list ports ports' before now (held left.0) many opened served listened gathers, refl)
-posts_ran (Err s) domain port workers links quota some places list ports ports' before now served many opened listened gathers = tt
+posts_ran (Ok left) asked some places list ports ports' before now served many opened listened gathers =
+    (ran left.1 asked some places list ports ports' before now (held left.0) many opened served listened gathers, refl)
+posts_ran (Err s) asked some places list ports ports' before now served many opened listened gathers = tt
 
-pub ports_failed : (r : Result (HouseRecord × Worked) Status) (domain : Address) (lines links quota : ℕ) (list : List ℕ) (f0 f1 f2 f3 : ℕ)
-    (before now : List PostTelling) → IfOk r (λ left. ServedBy left.1 domain lines list before now (held left.0)) → f0 ≤ f1 → f1 ≤ f2
-    → f3 ≡ added f2 (map (λ (a : PostTelling). a.poller.faults) now) → AllOpened links quota before
+pub ports_failed : (r : Result (HouseRecord × Worked) Status) (asked : Serving) (list : List ℕ) (f0 f1 f2 f3 : ℕ) (before now : List PostTelling)
+    → IfOk r (λ left. ServedBy left.1 asked list before now (held left.0)) → f0 ≤ f1 → f1 ≤ f2
+    → f3 ≡ added f2 (map (λ (a : PostTelling). a.poller.faults) now) → AllOpened asked.links asked.connections before
     → IfOk r (λ left. left.1 ≡ PollFault → Rose f0 f3)
-ports_failed (Ok left) domain lines links quota list f0 f1 f2 f3 before now (accounts, read, staffed) k0 k1 is opened = λ failed.
+ports_failed (Ok left) asked list f0 f1 f2 f3 before now (accounts, read, staffed) k0 k1 is opened = λ failed.
     rose_wider f0 f2 f3 f3 (both_least f0 f1 f2 k0 k1)
     (subst (λ (x : ℕ). Rose f2 x) (sym is)
-    (gathered_rose links quota f2 before now opened (staff_failed _ accounts before now left.1 (held left.0) staffed failed)))
+    (gathered_rose asked.links asked.connections f2 before now opened (staff_failed _ accounts before now left.1 (held left.0) staffed failed)))
     (itself_least f3)
-ports_failed (Err s) domain lines links quota list f0 f1 f2 f3 before now served k0 k1 is opened = tt
+ports_failed (Err s) asked list f0 f1 f2 f3 before now served k0 k1 is opened = tt
 
-pub ports_refused : (r : Result (HouseRecord × Worked) Status) (list : List ℕ) (f0 f1 f2 f3 : ℕ) → f0 ≤ f1 → f2 ≤ f3
-    → IfErr r (λ s. Refused list s (Rose f1 f2)) → IfErr r (λ s. Refused list s (Rose f0 f3))
-ports_refused (Ok left) list f0 f1 f2 f3 k0 k2 refused = tt
-ports_refused (Err s) list f0 f1 f2 f3 k0 k2 (inl refused) = inl refused
-ports_refused (Err s) list f0 f1 f2 f3 k0 k2 (inr (failed, rose)) = inr (failed, rose_wider f0 f1 f2 f3 k0 rose k2)
+pub ports_refused : (r : Result (HouseRecord × Worked) Status) (sessions : ℕ) (list : List ℕ) (f0 f1 f2 f3 : ℕ) → f0 ≤ f1 → f2 ≤ f3
+    → IfErr r (λ s. Refused sessions list s (Rose f1 f2)) → IfErr r (λ s. Refused sessions list s (Rose f0 f3))
+ports_refused (Ok left) sessions list f0 f1 f2 f3 k0 k2 refused = tt
+ports_refused (Err s) sessions list f0 f1 f2 f3 k0 k2 (inl refused) = inl refused
+ports_refused (Err s) sessions list f0 f1 f2 f3 k0 k2 (inr (failed, rose)) = inr (failed, rose_wider f0 f1 f2 f3 k0 rose k2)
 
-by_status : (port workers links quota : ℕ) (ports ports' : Tally) (s : Status) → Unserved port workers links quota ports ports'
-    → LeftUnserved port workers links quota ports ports' s
-by_status port workers links quota ports ports' (status.Accounts n) left = left
-by_status port workers links quota ports ports' s left = inr left
+by_status : (asked : Serving) (ports ports' : Tally) (s : Status) → Unserved asked ports ports' → LeftUnserved asked ports ports' s
+by_status asked ports ports' (status.Accounts n) left = left
+by_status asked ports ports' s left = inr left
 
 -- nothing listened
-pub never_listened : (port workers links quota : ℕ) (ports ports' : Tally) (s : Status) → (s ≡ status.ListenFault) ⊎ (s ≡ status.NoMemory)
-    → ports'.tapes ≡ ports.tapes → ports'.links ≡ ports.links → ports'.dice ≡ ports.dice → LeftUnserved port workers links quota ports ports' s
-never_listened port workers links quota ports ports' s (inl is) tapes came dice =
-    subst (λ (x : Status). LeftUnserved port workers links quota ports ports' x) (sym is) (inl (record { tapes = tapes; links = came; dice = dice }))
-never_listened port workers links quota ports ports' s (inr is) tapes came dice =
-    subst (λ (x : Status). LeftUnserved port workers links quota ports ports' x) (sym is) (inl (record { tapes = tapes; links = came; dice = dice }))
+pub never_listened : (asked : Serving) (ports ports' : Tally) (s : Status) → (s ≡ status.ListenFault) ⊎ (s ≡ status.NoMemory)
+    → ports'.tapes ≡ ports.tapes → ports'.links ≡ ports.links → ports'.dice ≡ ports.dice → LeftUnserved asked ports ports' s
+never_listened asked ports ports' s (inl is) tapes came dice =
+    subst (λ (x : Status). LeftUnserved asked ports ports' x) (sym is) (inl (record { tapes = tapes; links = came; dice = dice }))
+never_listened asked ports ports' s (inr is) tapes came dice =
+    subst (λ (x : Status). LeftUnserved asked ports ports' x) (sym is) (inl (record { tapes = tapes; links = came; dice = dice }))
 
 -- posts that came back as they were
-pub ports_unserved : (r : Result (HouseRecord × Worked) Status) (port workers links quota : ℕ) (ports ports' : Tally) (T : Type 0) (tell : T → PostTelling)
-    (posts back : List T) → IfErr r (λ s. back ≡ posts) → length (map tell posts) ≡ workers → AllOpened links quota (map tell posts)
-    → ports'.address ≡ Some (address_at port) → Gathered ports (map tell back) ports' → IfErr r (LeftUnserved port workers links quota ports ports')
-ports_unserved (Ok left) port workers links quota ports ports' T tell posts back same many opened listened gathers = tt
-ports_unserved (Err s) port workers links quota ports ports' T tell posts back same many opened listened gathers =
-    by_status port workers links quota ports ports' s (record {
+pub ports_unserved : (r : Result (HouseRecord × Worked) Status) (asked : Serving) (ports ports' : Tally) (T : Type 0) (tell : T → PostTelling)
+    (posts back : List T) → IfErr r (λ s. back ≡ posts) → length (map tell posts) ≡ asked.workers
+    → AllOpened asked.links asked.connections (map tell posts) → ports'.address ≡ Some (address_at asked.port) → Gathered ports (map tell back) ports'
+    → IfErr r (LeftUnserved asked ports ports')
+ports_unserved (Ok left) asked ports ports' T tell posts back same many opened listened gathers = tt
+ports_unserved (Err s) asked ports ports' T tell posts back same many opened listened gathers =
+    by_status asked ports ports' s (record {
       posts = map tell posts;
       as_many = many;
       opened = opened;
@@ -222,17 +223,17 @@ numbers_known house o h numbers known = (
 line_by : (links links' turns turns' : ℕ) → links ≡ links' → turns ≡ turns' → report links turns ≡ report links' turns'
 line_by links links' turns turns' a b = ap (λ (n : ℕ). report n turns) a ∙ ap (λ (n : ℕ). report links' n) b
 
-pub run_served : (domain : Address) (port workers links quota : ℕ) (list : List ℕ) (ports ports' : Tally) (house : HouseRecord) (worked : Worked)
-    → worked ≡ Shut → (x : Ran worked domain port workers links quota list ports ports') × (x.kept ≡ held house)
+pub run_served : (asked : Serving) (list : List ℕ) (ports ports' : Tally) (house : HouseRecord) (worked : Worked)
+    → worked ≡ Shut → (x : Ran worked asked list ports ports') × (x.kept ≡ held house)
     → ((o : State) (h : List Turn) → Stands o h (held house) → (house.table.opened ≡ openings h) × (house.turns ≡ length h))
-    → Served domain port workers links quota list ports ports' (report house.table.opened house.turns)
-run_served domain port workers links quota list ports ports' house worked shut known numbers =
-    at-shut (subst (λ (w : Worked). (x : Ran w domain port workers links quota list ports ports') × (x.kept ≡ held house)) shut known)
+    → Served asked list ports ports' (report house.table.opened house.turns)
+run_served asked list ports ports' house worked shut known numbers =
+    at-shut (subst (λ (w : Worked). (x : Ran w asked list ports ports') × (x.kept ≡ held house)) shut known)
   where
-    at-shut : (x : Ran Shut domain port workers links quota list ports ports') × (x.kept ≡ held house)
-        → Served domain port workers links quota list ports ports' (report house.table.opened house.turns)
+    at-shut : (x : Ran Shut asked list ports ports') × (x.kept ≡ held house)
+        → Served asked list ports ports' (report house.table.opened house.turns)
     at-shut (x, same) =
-        let o : State = opening domain (names_of x.accounts.accounts) (workers * links) in
+        let o : State = opening_for asked x.accounts in
         let stands : Stands o x.staffed.history (held house) = subst (λ (k : Kept). Stands o x.staffed.history k) same x.staffed.stands in
         let n : (house.table.opened ≡ openings x.staffed.history) × (house.turns ≡ length x.staffed.history) = numbers o x.staffed.history stands in
         record {
@@ -240,23 +241,23 @@ run_served domain port workers links quota list ports ports' house worked shut k
           line_is = line_by house.table.opened (openings x.staffed.history) house.turns (length x.staffed.history) n.0 n.1;
         }
 
-pub printed : (r : Result (Unit {0}) Status) (left left' : Option (List ℕ)) (domain : Address) (port workers links quota : ℕ) (list : List ℕ)
-    (ports ports' : Tally) (took took' : Option (List ℕ)) (line : List ℕ) → ReadsList left left' list
-    → Served domain port workers links quota list ports ports' line → ((taken : List ℕ) → took ≡ Some taken → OnOk r (took' ≡ Some (taken ++ line)))
-    → OnOk r ((l : List ℕ) × (said : List ℕ) × ReadsList left left' l × Served domain port workers links quota l ports ports' said
+pub printed : (r : Result (Unit {0}) Status) (left left' : Option (List ℕ)) (asked : Serving) (list : List ℕ)
+    (ports ports' : Tally) (took took' : Option (List ℕ)) (line : List ℕ) → ReadsList asked.sessions left left' list
+    → Served asked list ports ports' line → ((taken : List ℕ) → took ≡ Some taken → OnOk r (took' ≡ Some (taken ++ line)))
+    → OnOk r ((l : List ℕ) × (said : List ℕ) × ReadsList asked.sessions left left' l × Served asked l ports ports' said
     × ((taken : List ℕ) → took ≡ Some taken → took' ≡ Some (taken ++ said)))
-printed (Ok done) left left' domain port workers links quota list ports ports' took took' line reads served told = (list, line, reads, served, told)
-printed (Err s) left left' domain port workers links quota list ports ports' took took' line reads served told = tt
+printed (Ok done) left left' asked list ports ports' took took' line reads served told = (list, line, reads, served, told)
+printed (Err s) left left' asked list ports ports' took took' line reads served told = tt
 
 -- the sink failed, and took a front of the line
-pub printed_front : (r : Result (Unit {0}) Status) (left left' : Option (List ℕ)) (domain : Address) (port workers links quota : ℕ) (list : List ℕ)
-    (ports ports' : Tally) (took took' : Option (List ℕ)) (line : List ℕ) → ReadsList left left' list
-    → Served domain port workers links quota list ports ports' line
+pub printed_front : (r : Result (Unit {0}) Status) (left left' : Option (List ℕ)) (asked : Serving) (list : List ℕ)
+    (ports ports' : Tally) (took took' : Option (List ℕ)) (line : List ℕ) → ReadsList asked.sessions left left' list
+    → Served asked list ports ports' line
     → ((taken : List ℕ) → took ≡ Some taken → IfErr r (λ s. s ≡ status.WriteFault → Run.Front taken line took'))
-    → IfErr r (λ s. s ≡ status.WriteFault → (l : List ℕ) × (said : List ℕ) × ReadsList left left' l × Served domain port workers links quota l ports ports' said
+    → IfErr r (λ s. s ≡ status.WriteFault → (l : List ℕ) × (said : List ℕ) × ReadsList asked.sessions left left' l × Served asked l ports ports' said
     × ((taken : List ℕ) → took ≡ Some taken → Run.Front taken said took'))
-printed_front (Ok done) left left' domain port workers links quota list ports ports' took took' line reads served told = tt
-printed_front (Err s) left left' domain port workers links quota list ports ports' took took' line reads served told =
+printed_front (Ok done) left left' asked list ports ports' took took' line reads served told = tt
+printed_front (Err s) left left' asked list ports ports' took took' line reads served told =
     λ is. (list, line, reads, served, λ taken before. told taken before is)
 
 pub when_cut : (r : Result (Unit {0}) Status) (X : Type 0) → OnErr r X → IfErr r (λ s. s ≡ status.WriteFault → X)
@@ -329,27 +330,27 @@ by_printing (Err s) Y (inl is) fault memory = subst Y (sym is) fault
 by_printing (Err s) Y (inr is) fault memory = subst Y (sym is) memory
 
 -- where a poller failed
-pub run_failed : (domain : Address) (port workers links quota : ℕ) (list : List ℕ) (ports ports' : Tally) (house : HouseRecord) (worked : Worked)
-    → worked ≡ PollFault → (x : Ran worked domain port workers links quota list ports ports') × (x.kept ≡ held house)
-    → ListeningFailed domain port workers links quota list ports ports'
-run_failed domain port workers links quota list ports ports' house worked failed (x, same) =
-    inr (inr (subst (λ (w : Worked). Ran w domain port workers links quota list ports ports') failed x))
+pub run_failed : (asked : Serving) (list : List ℕ) (ports ports' : Tally) (house : HouseRecord) (worked : Worked)
+    → worked ≡ PollFault → (x : Ran worked asked list ports ports') × (x.kept ≡ held house)
+    → ListeningFailed asked list ports ports'
+run_failed asked list ports ports' house worked failed (x, same) =
+    inr (inr (subst (λ (w : Worked). Ran w asked list ports ports') failed x))
 
 -- where memory was wanting
 
-pub short_unserved : (left left' : Option (List ℕ)) (domain : Address) (port workers links quota : ℕ) (ports ports' : Tally) (s : Status)
-    → LeftUnserved port workers links quota ports ports' s → s ≡ status.NoMemory → CameShort left left' domain port workers links quota ports ports'
-short_unserved left left' domain port workers links quota ports ports' s unserved is =
-    elim (subst (λ (x : Status). LeftUnserved port workers links quota ports ports' x) is unserved) [ inl never ↦ inl never | inr back ↦ inr (inl back) ]
+pub short_unserved : (left left' : Option (List ℕ)) (asked : Serving) (ports ports' : Tally) (s : Status)
+    → LeftUnserved asked ports ports' s → s ≡ status.NoMemory → CameShort left left' asked ports ports'
+short_unserved left left' asked ports ports' s unserved is =
+    elim (subst (λ (x : Status). LeftUnserved asked ports ports' x) is unserved) [ inl never ↦ inl never | inr back ↦ inr (inl back) ]
 
-pub short_line : (left left' : Option (List ℕ)) (domain : Address) (port workers links quota : ℕ) (list : List ℕ) (ports ports' : Tally)
-    (house : HouseRecord) (worked : Worked) → worked ≡ Shut → (x : Ran worked domain port workers links quota list ports ports') × (x.kept ≡ held house)
-    → ReadsList left left' list → CameShort left left' domain port workers links quota ports ports'
-short_line left left' domain port workers links quota list ports ports' house worked shut (x, same) reads =
-    inr (inr (list, reads, subst (λ (w : Worked). Ran w domain port workers links quota list ports ports') shut x))
+pub short_line : (left left' : Option (List ℕ)) (asked : Serving) (list : List ℕ) (ports ports' : Tally)
+    (house : HouseRecord) (worked : Worked) → worked ≡ Shut → (x : Ran worked asked list ports ports') × (x.kept ≡ held house)
+    → ReadsList asked.sessions left left' list → CameShort left left' asked ports ports'
+short_line left left' asked list ports ports' house worked shut (x, same) reads =
+    inr (inr (list, reads, subst (λ (w : Worked). Ran w asked list ports ports') shut x))
 
 -- and what is refused is no fault of the source
-pub refused-read : (list : List ℕ) (s : Status) (X Y : Type 0) → Refused list s X → s ≡ status.ReadFault → Y
-refused-read list s X Y (inl refused) is = absurd (subst (λ (x : Status). IsRefused (entries_of list) x) is refused)
-refused-read list s X Y (inr (failed, rose)) is =
+pub refused-read : (sessions : ℕ) (list : List ℕ) (s : Status) (X Y : Type 0) → Refused sessions list s X → s ≡ status.ReadFault → Y
+refused-read sessions list s X Y (inl refused) is = absurd (subst (λ (x : Status). IsRefused (entries_for sessions list) x) is refused)
+refused-read sessions list s X Y (inr (failed, rose)) is =
     absurd (let k : status.ListenFault ≡ status.ReadFault = sym failed ∙ is in cc)

@@ -6,12 +6,11 @@ use Rattle.outside.specs.Devices.{Front, Rose}
 use Rattle.outside.specs.Doors.{Untold}
 use Rattle.outside.specs.Posts.{Each, Gathers, added, plus}
 use Rattle.outside.specs.Tapes.{Mark}
-use Rattle.jid_core.specs.Addresses.{Address}
 use Rattle.account_book.specs.Entries.{Entry, entry_of}
-use Rattle.account_book.specs.Lists.{Book, entries_of, names_of}
+use Rattle.account_book.specs.Lists.{Book, entries_within, names_of}
 use Rattle.account_book.specs.declared.fault.LineKind.{LineKind}
 use Rattle.house_model.specs.Histories.{Turn, openings}
-use Rattle.house_model.specs.States.{Kept, State, opening}
+use Rattle.house_model.specs.States.{Kept, State, opening_with}
 use Rattle.script_play.specs.declared.status.Status.{Status}
 use Rattle.script_play.specs.declared.status.Status.TheVariants as status
 use Rattle.conn_asks.specs.declared.ended.Ended.{Ended}
@@ -19,15 +18,25 @@ use Rattle.conn_asks.specs.declared.ended.Ended.TheVariants as ended
 use Rattle.conn_staff.specs.declared.roster.Worked.{Worked}
 use Rattle.conn_staff.specs.declared.roster.Worked.TheVariants.{PollFault, Shut}
 use Rattle.conn_staff.specs.Staffs.{Attended, PostTelling, Staffed, Telling, places_of}
+use Rattle.serve_run.specs.declared.serving.Serving.{Serving}
+use Rattle.serve_run.specs.Limits.{limits, most_lines, most_list}
 
--- nothing is left of it, or more was read than any list of accounts has
-abbrev pub IsEnough : Option (List ℕ) → List ℕ → Type 0
-IsEnough None list = Unit {0}
-IsEnough (Some rest) list = (rest ≡ []) ⊎ (8388608 < length list)
+-- the house of a server before its first event, for the users of these accounts
+abbrev pub opening_for : Serving → Book → State
+opening_for asked accounts = opening_with (limits asked.sessions) asked.domain (names_of accounts.accounts) (asked.workers * asked.links)
 
--- a list was read
-abbrev pub ReadsList : Option (List ℕ) → Option (List ℕ) → List ℕ → Type 0
-ReadsList old now list = Front old now list × IsEnough now list
+-- nothing is left of it, or more was read than a list may have
+abbrev pub IsEnough : (most : ℕ) → Option (List ℕ) → List ℕ → Type 0
+IsEnough most None list = Unit {0}
+IsEnough most (Some rest) list = (rest ≡ []) ⊎ (most < length list)
+
+-- a list was read for so many sessions
+abbrev pub ReadsList : (sessions : ℕ) → Option (List ℕ) → Option (List ℕ) → List ℕ → Type 0
+ReadsList sessions old now list = Front old now list × IsEnough (most_list sessions) now list
+
+-- what a list for so many sessions is read as: its accounts, or the first line at fault
+abbrev pub entries_for : (sessions : ℕ) → List ℕ → Result (List Entry) (ℕ × LineKind)
+entries_for sessions list = entries_within (most_lines sessions) list
 
 -- a line of a list is the first at fault
 abbrev pub IsRefused : Result (List Entry) (ℕ × LineKind) → Status → Type 0
@@ -90,28 +99,29 @@ dice_ends o accounts h n [] (b ∷ now) each = absurd each
 dice_ends o accounts h n (a ∷ before) [] each = absurd each
 
 -- The workers served over a list of accounts until each poller shut or failed: as many as were asked for, each with so many places, at the port. What they
--- did stands in one legal history from the opening of the domain with the names of the accounts, and the posts were given back to the ports. Where fewer
+-- did stands in one legal history from the opening of the house for the users of these accounts, and the posts were given back to the ports. Where fewer
 -- than 2^63 turns were taken, the ports count each connection that came in it; and where each poller shut these are as many as the quotas of all workers,
 -- where there is one. At least as many faults of dice are counted as links ended by one.
-pub record Ran (worked : Worked) (domain : Address) (port workers links quota : ℕ) (list : List ℕ) (ports now_ports : Tally) : Type 0 where
+pub record Ran (worked : Worked) (asked : Serving) (list : List ℕ) (ports now_ports : Tally) : Type 0 where
   pub accounts : Book
-  pub read : entries_of list ≡ Ok (map entry_of accounts.accounts)
+  pub read : entries_for asked.sessions list ≡ Ok (map entry_of accounts.accounts)
   pub before : List PostTelling
   pub now : List PostTelling
-  pub as_many : length before ≡ workers
-  pub opened : AllOpened links quota before
+  pub as_many : length before ≡ asked.workers
+  pub opened : AllOpened asked.links asked.connections before
   pub kept : Kept
-  pub staffed : Staffed (opening domain (names_of accounts.accounts) (workers * links)) accounts before now worked kept
-  pub listened : now_ports.address ≡ Some (address_at port)
+  pub staffed : Staffed (opening_for asked accounts) accounts before now worked kept
+  pub listened : now_ports.address ≡ Some (address_at asked.port)
   pub gathered : Gathered ports now now_ports
   pub counted : length staffed.history < 2 ^ 63 → now_ports.links ≡ plus ports.links (openings staffed.history)
-  pub filled : worked ≡ Shut → length staffed.history < 2 ^ 63 → quota ≢ 0 → openings staffed.history ≡ workers * quota
-  pub dice_failed : min (ports.dice + dice_ends (opening domain (names_of accounts.accounts) (workers * links)) accounts staffed.history 0
-      (places_of before) (places_of now) staffed.each) (2 ^ 64 - 1) ≤ now_ports.dice
+  pub filled : worked ≡ Shut → length staffed.history < 2 ^ 63 → asked.connections ≢ 0 → openings staffed.history ≡ asked.workers * asked.connections
+  pub dice_failed :
+      min (ports.dice + dice_ends (opening_for asked accounts) accounts staffed.history 0 (places_of before) (places_of now) staffed.each) (2 ^ 64 - 1)
+      ≤ now_ports.dice
 
 -- The server ran to its end: each poller shut. The line tells how many connections came and how many turns the history has.
-pub record Served (domain : Address) (port workers links quota : ℕ) (list : List ℕ) (ports now_ports : Tally) (line : List ℕ) : Type 0 where
-  pub ran : Ran Shut domain port workers links quota list ports now_ports
+pub record Served (asked : Serving) (list : List ℕ) (ports now_ports : Tally) (line : List ℕ) : Type 0 where
+  pub ran : Ran Shut asked list ports now_ports
   pub line_is : line ≡ report (openings ran.staffed.history) (length ran.staffed.history)
 
 -- nothing listened: the ports tell what they told
@@ -121,26 +131,24 @@ pub record NeverListened (ports now_ports : Tally) : Type 0 where
   pub dice : now_ports.dice ≡ ports.dice
 
 -- nothing was served: as many posts as workers were given back as they had been handed out at the port
-pub record Unserved (port workers links quota : ℕ) (ports now_ports : Tally) : Type 0 where
+pub record Unserved (asked : Serving) (ports now_ports : Tally) : Type 0 where
   pub posts : List PostTelling
-  pub as_many : length posts ≡ workers
-  pub opened : AllOpened links quota posts
-  pub listened : now_ports.address ≡ Some (address_at port)
+  pub as_many : length posts ≡ asked.workers
+  pub opened : AllOpened asked.links asked.connections posts
+  pub listened : now_ports.address ≡ Some (address_at asked.port)
   pub gathered : Gathered ports posts now_ports
 
 -- What failed, where what listens did: listening itself; or the draw of the secret, and nothing was served; or a poller, and the workers served until each
 -- poller shut or failed.
-abbrev pub ListeningFailed : Address → (port workers links quota : ℕ) → List ℕ → (ports now_ports : Tally) → Type 0
-ListeningFailed domain port workers links quota list ports now_ports =
-    NeverListened ports now_ports ⊎ Unserved port workers links quota ports now_ports
-    ⊎ Ran PollFault domain port workers links quota list ports now_ports
+abbrev pub ListeningFailed : Serving → List ℕ → (ports now_ports : Tally) → Type 0
+ListeningFailed asked list ports now_ports = NeverListened ports now_ports ⊎ Unserved asked ports now_ports ⊎ Ran PollFault asked list ports now_ports
 
 -- What was left where memory was wanting: for what listens, and nothing listened; for what serves, and nothing was served; or for the line, after each
 -- poller shut.
-abbrev pub CameShort : (left now : Option (List ℕ)) → Address → (port workers links quota : ℕ) → (ports now_ports : Tally) → Type 0
-CameShort left now domain port workers links quota ports now_ports =
-    NeverListened ports now_ports ⊎ Unserved port workers links quota ports now_ports
-    ⊎ ((list : List ℕ) × ReadsList left now list × Ran Shut domain port workers links quota list ports now_ports)
+abbrev pub CameShort : (left now : Option (List ℕ)) → Serving → (ports now_ports : Tally) → Type 0
+CameShort left now asked ports now_ports =
+    NeverListened ports now_ports ⊎ Unserved asked ports now_ports
+    ⊎ ((list : List ℕ) × ReadsList asked.sessions left now list × Ran Shut asked list ports now_ports)
 
 -- Parts of a run.
 
@@ -151,16 +159,16 @@ SomeRose (a ∷ before) (b ∷ now) = Rose a.poller.faults b.poller.faults ⊎ S
 SomeRose before now = ⊥
 
 -- the workers served over a list
-abbrev pub ServedBy : Worked → Address → (lines : ℕ) → List ℕ → (before now : List PostTelling) → Kept → Type 0
-ServedBy worked domain lines list before now k =
-    (accounts : Book) × (entries_of list ≡ Ok (map entry_of accounts.accounts))
-    × Staffed (opening domain (names_of accounts.accounts) lines) accounts before now worked k
+abbrev pub ServedBy : Worked → Serving → List ℕ → (before now : List PostTelling) → Kept → Type 0
+ServedBy worked asked list before now k =
+    (accounts : Book) × (entries_for asked.sessions list ≡ Ok (map entry_of accounts.accounts))
+    × Staffed (opening_for asked accounts) accounts before now worked k
 
 -- they didn't, since the list is at fault or memory was wanting, or the ports failed
-abbrev pub Refused : List ℕ → Status → Type 0 → Type 0
-Refused list s failed = IsRefused (entries_of list) s ⊎ ((s ≡ status.ListenFault) × failed)
+abbrev pub Refused : (sessions : ℕ) → List ℕ → Status → Type 0 → Type 0
+Refused sessions list s failed = IsRefused (entries_for sessions list) s ⊎ ((s ≡ status.ListenFault) × failed)
 
 -- what was left where nothing was served, by the status
-abbrev pub LeftUnserved : (port workers links quota : ℕ) → (ports now_ports : Tally) → Status → Type 0
-LeftUnserved port workers links quota ports now_ports (status.Accounts n) = Unserved port workers links quota ports now_ports
-LeftUnserved port workers links quota ports now_ports s = NeverListened ports now_ports ⊎ Unserved port workers links quota ports now_ports
+abbrev pub LeftUnserved : Serving → (ports now_ports : Tally) → Status → Type 0
+LeftUnserved asked ports now_ports (status.Accounts n) = Unserved asked ports now_ports
+LeftUnserved asked ports now_ports s = NeverListened ports now_ports ⊎ Unserved asked ports now_ports

@@ -2,7 +2,8 @@
 
 ghost use Rattle.std.specs.Prelude.{◌≡◌, ◌⊎◌, ◌<◌, ◌≤◌, ◌*◌, List, Ok, length};
 ghost use Rattle.account_book.specs.Entries.{Entry};
-ghost use Rattle.account_book.specs.Lists.{entries_of};
+ghost use Rattle.serve_run.specs.Limits.{most_list};
+ghost use Rattle.serve_run.specs.Services.{entries_for};
 
 use crate::serving::{Serving, serve};
 use outside::{CleanPorts, CleanSink, CleanSource};
@@ -21,9 +22,9 @@ pub fn valid_lists_are_served<R: Threads + Wait + Sync>(
     ports: &mut CleanPorts,
 ) -> Status
     requires some { (0 < serving.now.workers) × (0 < serving.now.links) }
-    requires few { serving.now.workers * serving.now.links ≤ 1024 }
-    requires short { length source.old ≤ 8388608 }
-    requires valid { (entries : List Entry) × (entries_of source.old ≡ Ok entries) }
+    requires few { serving.now.workers * serving.now.links ≤ 16384 }
+    requires short { length source.old ≤ most_list serving.now.sessions }
+    requires valid { (entries : List Entry) × (entries_for serving.now.sessions source.old ≡ Ok entries) }
     ensures ends { (result ≡ Status.Done) ⊎ (result ≡ Status.NoMemory) }
 {
     serve(rt, alloc, serving, source, sink, ports)

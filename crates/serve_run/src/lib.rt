@@ -2,6 +2,7 @@
 #![tactic(auto)]
 
 pub mod laws;
+mod limits;
 mod list;
 mod opening;
 mod report;

@@ -3,15 +3,17 @@
 ghost use Rattle.std.specs.Prelude.{◌≡◌, ◌⊎◌, ◌≤◌, [], IfErr, IfOk, Ok, length, map, true};
 ghost use Rattle.std.specs.List.{list_all};
 ghost use Rattle.account_book.specs.Entries.{entry_of};
-ghost use Rattle.account_book.specs.Lists.{entries_of, names_of};
+ghost use Rattle.account_book.specs.Lists.{names_of};
 ghost use Rattle.jid_core.specs.Names.{are_distinct};
 ghost use Rattle.jid_core.specs.Preparation.{is_local};
 ghost use Rattle.house_core.specs.Houses.{held};
 ghost use Rattle.house_model.specs.Histories.{StandsFor};
-ghost use Rattle.house_model.specs.States.{opening};
+ghost use Rattle.house_model.specs.States.{opening_with};
 ghost use Rattle.outside.specs.Devices.{Rose};
-ghost use Rattle.serve_run.specs.Services.{IsRefused, tally};
+ghost use Rattle.serve_run.specs.Limits.{limits};
+ghost use Rattle.serve_run.specs.Services.{IsRefused, entries_for, tally};
 
+use crate::limits::{limits_of, most_lines};
 use account_book::{Accounts, BookFault};
 use house_core::House;
 use jid_core::{Jid, Part};
@@ -20,12 +22,17 @@ use script_play::Status;
 use stanza_tree::NoMemory;
 use std::alloc::Global;
 
-/// The accounts of a list. The secret is the key of what is told to names without one.
-pub(crate) fn accounts_of(alloc: Global, list: &[u8], secret: [u8; 32]) -> Result<Accounts, Status>
-    ensures read { IfOk result (λ book. entries_of list.now ≡ Ok (map entry_of book.accounts)) }
-    ensures refused { IfErr result (IsRefused (entries_of list.now)) }
+/// The accounts of a list for so many sessions. The secret is the key of what is told to names without one.
+pub(crate) fn accounts_of(
+    alloc: Global,
+    list: &[u8],
+    secret: [u8; 32],
+    sessions: u32,
+) -> Result<Accounts, Status>
+    ensures read { IfOk result (λ book. entries_for sessions list.now ≡ Ok (map entry_of book.accounts)) }
+    ensures refused { IfErr result (IsRefused (entries_for sessions list.now)) }
 {
-    match Accounts::read(alloc, list, secret) {
+    match Accounts::read_most(alloc, list, secret, most_lines(sessions)) {
         Ok(accounts) => Ok(accounts),
         Err(BookFault::NoMemory) => Err(Status::NoMemory),
         Err(BookFault::Line { line, kind: _ }) => Err(Status::Accounts(line)),
@@ -37,7 +44,7 @@ fn users_of(alloc: Global, accounts: &Accounts) -> Result<Vec<Part>, NoMemory>
     ensures names { IfOk result (λ users. users.items ≡ names_of accounts.now.accounts) }
     ensures prepared { list_all is_local (names_of accounts.now.accounts) ≡ true }
     ensures differ { are_distinct (names_of accounts.now.accounts) ≡ true }
-    ensures few { length accounts.now.accounts ≤ 4096 }
+    ensures few { length accounts.now.accounts ≤ 65536 }
 {
     let mut users = Vec::new(alloc);
     for account in accounts.names() {
@@ -46,18 +53,19 @@ fn users_of(alloc: Global, accounts: &Accounts) -> Result<Vec<Part>, NoMemory>
     Ok(users)
 }
 
-/// A house with so many lines for the users of accounts, before its first event.
+/// A house with so many lines and sessions for the users of accounts, before its first event.
 pub(crate) fn house_of(
     alloc: Global,
     domain: &Jid,
     accounts: &Accounts,
     lines: u32,
+    sessions: u32,
 ) -> Result<House, NoMemory>
-    ensures new { IfOk result (λ h. StandsFor (opening domain.now (names_of accounts.now.accounts) lines) [] (held h)) }
+    ensures new { IfOk result (λ h. StandsFor (opening_with (limits sessions) domain.now (names_of accounts.now.accounts) lines) [] (held h)) }
     ensures lines { IfOk result (λ h. length h.table.lines ≡ lines) }
 {
     let users = users_of(alloc, accounts)?;
-    House::new(alloc, domain, users.as_slice(), lines)
+    House::with_limits(alloc, domain, users.as_slice(), lines, limits_of(sessions))
 }
 
 /// Random bytes that nobody else knows.

@@ -2,15 +2,15 @@
 
 ghost use Rattle.std.specs.Prelude.{◌≡◌, ◌≢◌, ◌⊎◌, ◌<◌, ◌≤◌, ◌*◌, ◌++◌, [], ℕ, List, All, Err, IfErr, IfOk, Ok, OnOk, Some, false, length, map};
 ghost use Rattle.account_book.specs.Entries.{entry_of};
-ghost use Rattle.account_book.specs.Lists.{entries_of, names_of};
 ghost use Rattle.account_book.specs.declared.fault.LineKind.{LineKind};
 ghost use Rattle.house_core.specs.Houses.{held};
 ghost use Rattle.house_model.specs.Histories.{StandsFor};
-ghost use Rattle.house_model.specs.States.{State, opening};
+ghost use Rattle.house_model.specs.States.{State};
 ghost use Rattle.outside.specs.Devices.{Rose};
 ghost use Rattle.conn_staff.specs.Staffs.{Staffed, post_told};
 ghost use Rattle.script_play.specs.Runs.{Front};
-ghost use Rattle.serve_run.specs.Services.{CameShort, IsRefused, LeftUnserved, ListeningFailed, Ran, ReadsList, Refused, Served, ServedBy, Unserved, address_at, tally};
+ghost use Rattle.serve_run.specs.Services.{CameShort, IsRefused, LeftUnserved, ListeningFailed, Ran, ReadsList, Refused, Served, ServedBy, Unserved};
+ghost use Rattle.serve_run.specs.Services.{address_at, entries_for, opening_for, tally};
 
 use crate::list::read_list;
 use crate::opening::{accounts_of, house_of, secret_of};
@@ -41,6 +41,8 @@ pub struct Serving {
     pub connections: u64,
     /// Whether nothing is to be noted of how connections end.
     pub quiet: bool,
+    /// How many sessions there may be in all, those among them whose connection was lost and that wait to be resumed.
+    pub sessions: u32,
 }
 
 /// Where the server listens.
@@ -57,19 +59,19 @@ fn open<P: Ports>(
     list: &[u8],
     ports: &mut P,
 ) -> Result<(Accounts, House), Status>
-    requires few { serving.now.workers * serving.now.links ≤ 1024 }
+    requires few { serving.now.workers * serving.now.links ≤ 16384 }
     ensures kept { P.faults ports.old ≤ P.faults ports.new }
     ensures same { tally (P.tapes ports.new) (P.links ports.new) (P.dice_faults ports.new) (P.address ports.new)
         ≡ tally (P.tapes ports.old) (P.links ports.old) (P.dice_faults ports.old) (P.address ports.old) }
-    ensures read { IfOk result (λ r. entries_of list.now ≡ Ok (map entry_of r.0.accounts)) }
-    ensures new { IfOk result (λ r. StandsFor (opening serving.now.domain (names_of r.0.accounts) (serving.now.workers * serving.now.links)) [] (held r.1)) }
+    ensures read { IfOk result (λ r. entries_for serving.now.sessions list.now ≡ Ok (map entry_of r.0.accounts)) }
+    ensures new { IfOk result (λ r. StandsFor (opening_for serving.now r.0) [] (held r.1)) }
     ensures lines { IfOk result (λ r. length r.1.table.lines ≡ serving.now.workers * serving.now.links) }
-    ensures refused { IfErr result (λ s. Refused list.now s (Rose (P.faults ports.old) (P.faults ports.new))) }
+    ensures refused { IfErr result (λ s. Refused serving.now.sessions list.now s (Rose (P.faults ports.old) (P.faults ports.new))) }
 {
     let secret = secret_of(ports)?;
-    let accounts = accounts_of(alloc, list, secret)?;
+    let accounts = accounts_of(alloc, list, secret, serving.sessions)?;
     let lines = serving.workers * serving.links;
-    let house = house_of(alloc, &serving.domain, &accounts, lines)?;
+    let house = house_of(alloc, &serving.domain, &accounts, lines, serving.sessions)?;
     Ok((accounts, house))
 }
 
@@ -90,7 +92,7 @@ fn attend<
 where
     P::Link: Send + Drop,
     requires some { (0 < serving.now.workers) × (0 < serving.now.links) }
-    requires few { serving.now.workers * serving.now.links ≤ 1024 }
+    requires few { serving.now.workers * serving.now.links ≤ 16384 }
     requires posts { length posts.items ≡ serving.now.workers }
     requires pollers { All (λ p. P.places p.poller ≡ serving.now.links) posts.items }
     requires sources { All (λ p. length p.sources.items ≡ serving.now.links) posts.items }
@@ -139,7 +141,7 @@ where
     P::Clock: Send + Drop,
     P::Dice: Send + Drop,
     requires some { (0 < serving.now.workers) × (0 < serving.now.links) }
-    requires few { serving.now.workers * serving.now.links ≤ 1024 }
+    requires few { serving.now.workers * serving.now.links ≤ 16384 }
     requires posts { length posts.items ≡ serving.now.workers }
     requires pollers { All (λ p. P.Poller.places p.poller ≡ serving.now.links) posts.items }
     requires sources { All (λ p. length p.sources.items ≡ serving.now.links) posts.items }
@@ -147,12 +149,12 @@ where
     ensures kept { P.faults ports.old ≤ P.faults ports.new }
     ensures same { tally (P.tapes ports.new) (P.links ports.new) (P.dice_faults ports.new) (P.address ports.new)
         ≡ tally (P.tapes ports.old) (P.links ports.old) (P.dice_faults ports.old) (P.address ports.old) }
-    ensures served { IfOk result.1 (λ left. ServedBy left.1 serving.now.domain (serving.now.workers * serving.now.links) list.now
+    ensures served { IfOk result.1 (λ left. ServedBy left.1 serving.now list.now
         (map (post_told P.Poller P.Clock P.Dice P.Poller.tapes P.Poller.came P.Poller.links P.Poller.faults P.Poller.quota P.Clock.told P.Dice.drawn P.Dice.faults)
         posts.items)
         (map (post_told P.Poller P.Clock P.Dice P.Poller.tapes P.Poller.came P.Poller.links P.Poller.faults P.Poller.quota P.Clock.told P.Dice.drawn P.Dice.faults)
         result.0.items) (held left.0)) }
-    ensures refused { IfErr result.1 (λ s. Refused list.now s (Rose (P.faults ports.old) (P.faults ports.new))) }
+    ensures refused { IfErr result.1 (λ s. Refused serving.now.sessions list.now s (Rose (P.faults ports.old) (P.faults ports.new))) }
     ensures back { IfErr result.1 (λ _. result.0.items ≡ posts.items) }
     ensures wide { All (λ p. P.Poller.places p.poller ≡ length p.sources.items) result.0.items }
 {
@@ -187,14 +189,14 @@ where
     P::Clock: Send + Drop,
     P::Dice: Send + Drop,
     requires some { (0 < serving.now.workers) × (0 < serving.now.links) }
-    requires few { serving.now.workers * serving.now.links ≤ 1024 }
+    requires few { serving.now.workers * serving.now.links ≤ 16384 }
     ensures kept { P.faults ports.old ≤ P.faults ports.new }
-    ensures served { IfOk result (λ left. (ran : Ran left.1 serving.now.domain serving.now.port serving.now.workers serving.now.links serving.now.connections list.now
+    ensures served { IfOk result (λ left. (ran : Ran left.1 serving.now list.now
         (tally (P.tapes ports.old) (P.links ports.old) (P.dice_faults ports.old) (P.address ports.old))
         (tally (P.tapes ports.new) (P.links ports.new) (P.dice_faults ports.new) (P.address ports.new))) × (ran.kept ≡ held left.0)) }
     ensures failed { IfOk result (λ left. left.1 ≡ Worked.PollFault → Rose (P.faults ports.old) (P.faults ports.new)) }
-    ensures refused { IfErr result (λ s. Refused list.now s (Rose (P.faults ports.old) (P.faults ports.new))) }
-    ensures unserved { IfErr result (LeftUnserved serving.now.port serving.now.workers serving.now.links serving.now.connections
+    ensures refused { IfErr result (λ s. Refused serving.now.sessions list.now s (Rose (P.faults ports.old) (P.faults ports.new))) }
+    ensures unserved { IfErr result (LeftUnserved serving.now
         (tally (P.tapes ports.old) (P.links ports.old) (P.dice_faults ports.old) (P.address ports.old))
         (tally (P.tapes ports.new) (P.links ports.new) (P.dice_faults ports.new) (P.address ports.new))) }
 {
@@ -225,29 +227,29 @@ where
     P::Clock: Send + Drop,
     P::Dice: Send + Drop,
     requires some { (0 < serving.now.workers) × (0 < serving.now.links) }
-    requires few { serving.now.workers * serving.now.links ≤ 1024 }
+    requires few { serving.now.workers * serving.now.links ≤ 16384 }
     ensures kept { P.faults ports.old ≤ P.faults ports.new }
-    ensures served { OnOk result ((list : List ℕ) × (line : List ℕ) × ReadsList (S.left source.old) (S.left source.new) list
-        × Served serving.now.domain serving.now.port serving.now.workers serving.now.links serving.now.connections list
+    ensures served { OnOk result ((list : List ℕ) × (line : List ℕ) × ReadsList serving.now.sessions (S.left source.old) (S.left source.new) list
+        × Served serving.now list
         (tally (P.tapes ports.old) (P.links ports.old) (P.dice_faults ports.old) (P.address ports.old))
         (tally (P.tapes ports.new) (P.links ports.new) (P.dice_faults ports.new) (P.address ports.new)) line
         × ((taken : List ℕ) → K.took sink.old ≡ Some taken → K.took sink.new ≡ Some (taken ++ line))) }
-    ensures cut { IfErr result (λ s. s ≡ Status.WriteFault → (list : List ℕ) × (line : List ℕ) × ReadsList (S.left source.old) (S.left source.new) list
-        × Served serving.now.domain serving.now.port serving.now.workers serving.now.links serving.now.connections list
+    ensures cut { IfErr result (λ s. s ≡ Status.WriteFault → (list : List ℕ) × (line : List ℕ) × ReadsList serving.now.sessions (S.left source.old) (S.left source.new) list
+        × Served serving.now list
         (tally (P.tapes ports.old) (P.links ports.old) (P.dice_faults ports.old) (P.address ports.old))
         (tally (P.tapes ports.new) (P.links ports.new) (P.dice_faults ports.new) (P.address ports.new)) line
         × ((taken : List ℕ) → K.took sink.old ≡ Some taken → Front taken line (K.took sink.new))) }
     ensures silent { IfErr result (λ s. s ≢ Status.WriteFault → sink.new ≡ sink.old) }
-    ensures accounts { IfErr result (λ s. (n : ℕ) → s ≡ Status.Accounts n → (list : List ℕ) × ReadsList (S.left source.old) (S.left source.new) list
-        × IsRefused (entries_of list) s × Unserved serving.now.port serving.now.workers serving.now.links serving.now.connections
+    ensures accounts { IfErr result (λ s. (n : ℕ) → s ≡ Status.Accounts n → (list : List ℕ) × ReadsList serving.now.sessions (S.left source.old) (S.left source.new) list
+        × IsRefused (entries_for serving.now.sessions list) s × Unserved serving.now
         (tally (P.tapes ports.old) (P.links ports.old) (P.dice_faults ports.old) (P.address ports.old))
         (tally (P.tapes ports.new) (P.links ports.new) (P.dice_faults ports.new) (P.address ports.new))) }
-    ensures failed { IfErr result (λ s. s ≡ Status.ListenFault → (list : List ℕ) × ReadsList (S.left source.old) (S.left source.new) list
-        × ListeningFailed serving.now.domain serving.now.port serving.now.workers serving.now.links serving.now.connections list
+    ensures failed { IfErr result (λ s. s ≡ Status.ListenFault → (list : List ℕ) × ReadsList serving.now.sessions (S.left source.old) (S.left source.new) list
+        × ListeningFailed serving.now list
         (tally (P.tapes ports.old) (P.links ports.old) (P.dice_faults ports.old) (P.address ports.old))
         (tally (P.tapes ports.new) (P.links ports.new) (P.dice_faults ports.new) (P.address ports.new))) }
     ensures short { IfErr result (λ s. s ≡ Status.NoMemory → CameShort (S.left source.old) (S.left source.new)
-        serving.now.domain serving.now.port serving.now.workers serving.now.links serving.now.connections
+        serving.now
         (tally (P.tapes ports.old) (P.links ports.old) (P.dice_faults ports.old) (P.address ports.old))
         (tally (P.tapes ports.new) (P.links ports.new) (P.dice_faults ports.new) (P.address ports.new))) }
     ensures unread { IfErr result (λ s. s ≡ Status.ReadFault → ports.new ≡ ports.old) }
@@ -256,7 +258,7 @@ where
     ensures listened { IfErr result (λ s. s ≡ Status.ListenFault → Rose (P.faults ports.old) (P.faults ports.new)) }
     ensures usage { IfErr result (λ s. (s ≢ Status.Usage) × (s ≢ Status.Done) × ((n : ℕ) → s ≢ Status.Script n)) }
 {
-    let list = read_list(alloc, source)?;
+    let list = read_list(alloc, source, serving.sessions)?;
     let (house, worked) = serve_ports(rt, alloc, serving, list.as_slice(), ports)?;
     match worked {
         Worked::Shut => print_report(alloc, &house, sink),
@@ -264,10 +266,12 @@ where
     }
 }
 
-/// Serves clients: reads the list of accounts from the source, to its end or past 8,388,608 bytes; opens the ports at 127.0.0.1; serves what comes, at
-/// each worker as many connections at once as it has places, until each poller handed out its connections or failed; and prints `links L turns T`: how
-/// many connections came, and how many turns the house took. Unless it is to be quiet, it is noted how each connection ended. Never returns if a poller
-/// hands out links for ever, or a link goes on for ever.
+/// Serves clients: reads the list of accounts from the source, to its end or past as many bytes as it may have; opens the ports at 127.0.0.1; serves what
+/// comes, at each worker as many connections at once as it has places, until each poller handed out its connections or failed; and prints
+/// `links L turns T`: how many connections came, and how many turns the house took. Unless it is to be quiet, it is noted how each connection ended. Never
+/// returns if a poller hands out links for ever, or a link goes on for ever.
+///
+/// With 512 sessions or fewer a list has at most 4,096 accounts and 8,388,608 bytes, and with more 65,536 and 33,554,432.
 ///
 /// `Accounts` tells the first line at fault. `ReadFault`, `WriteFault` and `ListenFault` come only where the source, the sink, or the ports and their
 /// pollers count a fault; what listens is given back to the ports in any case. At `WriteFault` the server ran to its end and a front of the line is
@@ -287,29 +291,29 @@ where
     P::Clock: Send + Drop,
     P::Dice: Send + Drop,
     requires some { (0 < serving.now.workers) × (0 < serving.now.links) }
-    requires few { serving.now.workers * serving.now.links ≤ 1024 }
+    requires few { serving.now.workers * serving.now.links ≤ 16384 }
     ensures kept { P.faults ports.old ≤ P.faults ports.new }
-    ensures served { result ≡ Status.Done → (list : List ℕ) × (line : List ℕ) × ReadsList (S.left source.old) (S.left source.new) list
-        × Served serving.now.domain serving.now.port serving.now.workers serving.now.links serving.now.connections list
+    ensures served { result ≡ Status.Done → (list : List ℕ) × (line : List ℕ) × ReadsList serving.now.sessions (S.left source.old) (S.left source.new) list
+        × Served serving.now list
         (tally (P.tapes ports.old) (P.links ports.old) (P.dice_faults ports.old) (P.address ports.old))
         (tally (P.tapes ports.new) (P.links ports.new) (P.dice_faults ports.new) (P.address ports.new)) line
         × ((taken : List ℕ) → K.took sink.old ≡ Some taken → K.took sink.new ≡ Some (taken ++ line)) }
-    ensures cut { result ≡ Status.WriteFault → (list : List ℕ) × (line : List ℕ) × ReadsList (S.left source.old) (S.left source.new) list
-        × Served serving.now.domain serving.now.port serving.now.workers serving.now.links serving.now.connections list
+    ensures cut { result ≡ Status.WriteFault → (list : List ℕ) × (line : List ℕ) × ReadsList serving.now.sessions (S.left source.old) (S.left source.new) list
+        × Served serving.now list
         (tally (P.tapes ports.old) (P.links ports.old) (P.dice_faults ports.old) (P.address ports.old))
         (tally (P.tapes ports.new) (P.links ports.new) (P.dice_faults ports.new) (P.address ports.new)) line
         × ((taken : List ℕ) → K.took sink.old ≡ Some taken → Front taken line (K.took sink.new)) }
     ensures silent { result ≢ Status.Done → result ≢ Status.WriteFault → sink.new ≡ sink.old }
-    ensures accounts { (n : ℕ) → result ≡ Status.Accounts n → (list : List ℕ) × ReadsList (S.left source.old) (S.left source.new) list
-        × ((kind : LineKind) × (entries_of list ≡ Err (n, kind))) × Unserved serving.now.port serving.now.workers serving.now.links serving.now.connections
+    ensures accounts { (n : ℕ) → result ≡ Status.Accounts n → (list : List ℕ) × ReadsList serving.now.sessions (S.left source.old) (S.left source.new) list
+        × ((kind : LineKind) × (entries_for serving.now.sessions list ≡ Err (n, kind))) × Unserved serving.now
         (tally (P.tapes ports.old) (P.links ports.old) (P.dice_faults ports.old) (P.address ports.old))
         (tally (P.tapes ports.new) (P.links ports.new) (P.dice_faults ports.new) (P.address ports.new)) }
-    ensures failed { result ≡ Status.ListenFault → (list : List ℕ) × ReadsList (S.left source.old) (S.left source.new) list
-        × ListeningFailed serving.now.domain serving.now.port serving.now.workers serving.now.links serving.now.connections list
+    ensures failed { result ≡ Status.ListenFault → (list : List ℕ) × ReadsList serving.now.sessions (S.left source.old) (S.left source.new) list
+        × ListeningFailed serving.now list
         (tally (P.tapes ports.old) (P.links ports.old) (P.dice_faults ports.old) (P.address ports.old))
         (tally (P.tapes ports.new) (P.links ports.new) (P.dice_faults ports.new) (P.address ports.new)) }
     ensures short { result ≡ Status.NoMemory → CameShort (S.left source.old) (S.left source.new)
-        serving.now.domain serving.now.port serving.now.workers serving.now.links serving.now.connections
+        serving.now
         (tally (P.tapes ports.old) (P.links ports.old) (P.dice_faults ports.old) (P.address ports.old))
         (tally (P.tapes ports.new) (P.links ports.new) (P.dice_faults ports.new) (P.address ports.new)) }
     ensures unread { result ≡ Status.ReadFault → ports.new ≡ ports.old }

@@ -1,4 +1,4 @@
--- What clap makes of six options, each in one word.
+-- What clap makes of seven options, each in one word.
 use Rattle.std.proofs.Common.{◌≡◌, ◌++◌, ℕ, List, [], ◌∷◌, true, Some, codes, refl}
 use Rattle.clap.specs.Words.{first_of, is_simple, matches_of, takes}
 use Rattle.clap.proofs.OnLiterals.{clap_on_literals}
@@ -8,35 +8,39 @@ pub is-simple : is_simple grammar ≡ true
 unfolding clap_on_literals
 is-simple = refl
 
-abbrev pub six : (d p w l c q : List ℕ) → List (List ℕ)
-six d p w l c q =
+abbrev pub seven : (d p w l c q n : List ℕ) → List (List ℕ)
+seven d p w l c q n =
     (codes "--domain=" ++ d) ∷ (codes "--port=" ++ p) ∷ (codes "--workers=" ++ w) ∷ (codes "--links=" ++ l) ∷ (codes "--connections=" ++ c)
-    ∷ (codes "--quiet=" ++ q) ∷ []
+    ∷ (codes "--quiet=" ++ q) ∷ (codes "--sessions=" ++ n) ∷ []
 
-pub are-taken : (d p w l c q : List ℕ) → takes grammar (six d p w l c q) ≡ true
+pub are-taken : (d p w l c q n : List ℕ) → takes grammar (seven d p w l c q n) ≡ true
 unfolding clap_on_literals
-are-taken d p w l c q = refl
+are-taken d p w l c q n = refl
 
-pub domain-is : (d p w l c q : List ℕ) → first_of (codes "domain") (matches_of grammar (six d p w l c q)) ≡ Some d
+pub domain-is : (d p w l c q n : List ℕ) → first_of (codes "domain") (matches_of grammar (seven d p w l c q n)) ≡ Some d
 unfolding clap_on_literals
-domain-is d p w l c q = refl
+domain-is d p w l c q n = refl
 
-pub port-is : (d p w l c q : List ℕ) → first_of (codes "port") (matches_of grammar (six d p w l c q)) ≡ Some p
+pub port-is : (d p w l c q n : List ℕ) → first_of (codes "port") (matches_of grammar (seven d p w l c q n)) ≡ Some p
 unfolding clap_on_literals
-port-is d p w l c q = refl
+port-is d p w l c q n = refl
 
-pub workers-are : (d p w l c q : List ℕ) → first_of (codes "workers") (matches_of grammar (six d p w l c q)) ≡ Some w
+pub workers-are : (d p w l c q n : List ℕ) → first_of (codes "workers") (matches_of grammar (seven d p w l c q n)) ≡ Some w
 unfolding clap_on_literals
-workers-are d p w l c q = refl
+workers-are d p w l c q n = refl
 
-pub links-are : (d p w l c q : List ℕ) → first_of (codes "links") (matches_of grammar (six d p w l c q)) ≡ Some l
+pub links-are : (d p w l c q n : List ℕ) → first_of (codes "links") (matches_of grammar (seven d p w l c q n)) ≡ Some l
 unfolding clap_on_literals
-links-are d p w l c q = refl
+links-are d p w l c q n = refl
 
-pub connections-are : (d p w l c q : List ℕ) → first_of (codes "connections") (matches_of grammar (six d p w l c q)) ≡ Some c
+pub connections-are : (d p w l c q n : List ℕ) → first_of (codes "connections") (matches_of grammar (seven d p w l c q n)) ≡ Some c
 unfolding clap_on_literals
-connections-are d p w l c q = refl
+connections-are d p w l c q n = refl
 
-pub quiet-is : (d p w l c q : List ℕ) → first_of (codes "quiet") (matches_of grammar (six d p w l c q)) ≡ Some q
+pub quiet-is : (d p w l c q n : List ℕ) → first_of (codes "quiet") (matches_of grammar (seven d p w l c q n)) ≡ Some q
 unfolding clap_on_literals
-quiet-is d p w l c q = refl
+quiet-is d p w l c q n = refl
+
+pub sessions-are : (d p w l c q n : List ℕ) → first_of (codes "sessions") (matches_of grammar (seven d p w l c q n)) ≡ Some n
+unfolding clap_on_literals
+sessions-are d p w l c q n = refl

@@ -18,8 +18,11 @@ bare name = let app = new_app name in record app { top = record app.top { no_bin
 abbrev pub first_grammar : App
 first_grammar = with_rule (with_rule (with_rule (bare (codes "serve")) (option (codes "domain"))) (option (codes "port"))) (option (codes "workers"))
 
+-- and how many connections and sessions there are, and whether anything is noted of them
 abbrev pub grammar : App
-grammar = with_rule (with_rule (with_rule first_grammar (option (codes "links"))) (option (codes "connections"))) (option (codes "quiet"))
+grammar =
+    with_rule (with_rule (with_rule (with_rule first_grammar (option (codes "links"))) (option (codes "connections"))) (option (codes "quiet")))
+    (option (codes "sessions"))
 
 -- the value that clap read of an option
 abbrev pub value_in : ArgMatches → List ℕ → Option (List ℕ)
@@ -29,7 +32,7 @@ value_in matches name = first_of name (rows_of (found_of matches))
 abbrev pub said_by : ArgMatches → Option Said
 said_by m =
     said_with (value_in m (codes "domain")) (value_in m (codes "port")) (value_in m (codes "workers")) (value_in m (codes "links"))
-    (value_in m (codes "connections")) (value_in m (codes "quiet"))
+    (value_in m (codes "connections")) (value_in m (codes "quiet")) (value_in m (codes "sessions"))
 
 -- the texts that stand for the options
 abbrev pub said_of : Texts → Said
@@ -40,4 +43,5 @@ said_of t = record {
   links = t.links.now;
   connections = t.connections.now;
   quiet = t.quiet.now;
+  sessions = t.sessions.now;
 }

@@ -1,5 +1,5 @@
 -- The words of `serve`: options anywhere, each at most once.
-use Rattle.std.specs.Prelude.{◌≡◌, ℕ, ◌*◌, ◌/◌, ◌==◌, min, nat_le, nat_lt, Bool, true, false, not, ◌&&◌, List, [], ◌∷◌, length}
+use Rattle.std.specs.Prelude.{◌≡◌, ℕ, ◌*◌, ◌==◌, nat_le, nat_lt, Bool, true, false, not, ◌&&◌, List, [], ◌∷◌, length}
 use Rattle.std.specs.Prelude.{Option, Some, None, ⊤, bytes_eq, codes, is_some, if◌then◌else◌}
 use Rattle.std.specs.Borrow.{Bor}
 use Rattle.std.specs.Fmt.{decimal}
@@ -14,8 +14,9 @@ use Rattle.jid_core.specs.Cuts.{after}
 use Rattle.script_play.specs.declared.status.Status.{Status}
 use Rattle.script_play.specs.declared.status.Status.TheVariants as status
 use Rattle.serve_run.specs.declared.serving.Serving.{Serving}
+use Rattle.serve_words.specs.Limits.{most_links, most_places, usual_links}
 use Rattle.serve_words.specs.declared.option.Name.{Name}
-use Rattle.serve_words.specs.declared.option.Name.TheVariants.{Domain, Port, Workers, Links, Connections, Quiet}
+use Rattle.serve_words.specs.declared.option.Name.TheVariants.{Domain, Port, Workers, Links, Connections, Quiet, Sessions}
 use Rattle.serve_words.specs.declared.option.Given.{Given}
 use Rattle.serve_words.specs.declared.option.Met.{Met}
 use Rattle.serve_words.specs.declared.option.Met.TheVariants.{Whole, Waits, Neither}
@@ -28,6 +29,7 @@ named text =
     else if bytes_eq text (codes "--workers") then Some Workers
     else if bytes_eq text (codes "--links") then Some Links
     else if bytes_eq text (codes "--connections") then Some Connections
+    else if bytes_eq text (codes "--sessions") then Some Sessions
     else None
 
 -- a value that stands as a word of its own: it is not empty, and begins with no `-`
@@ -70,6 +72,7 @@ is_same Workers Workers = true
 is_same Links Links = true
 is_same Connections Connections = true
 is_same Quiet Quiet = true
+is_same Sessions Sessions = true
 is_same _ _ = false
 
 -- the values of an option
@@ -85,6 +88,7 @@ default Workers = codes "4"
 default Links = codes "256"
 default Connections = codes "0"
 default Quiet = codes "no"
+default Sessions = codes "512"
 
 -- what stands before a value in one word with it
 abbrev pub spelled : Name → List ℕ
@@ -94,6 +98,7 @@ spelled Workers = codes "--workers="
 spelled Links = codes "--links="
 spelled Connections = codes "--connections="
 spelled Quiet = codes "--quiet="
+spelled Sessions = codes "--sessions="
 
 -- the only one, or what stands where there is none
 abbrev pub only : List ℕ → List (List ℕ) → Option (List ℕ)
@@ -130,14 +135,23 @@ alone text a = if not (is_some a.local) && not (is_some a.resource) && bytes_eq 
 abbrev pub domain : List ℕ → Option Address
 domain text = if nat_le (length text) 1017 then on (result_ok (address_of text)) (alone text) else None
 
--- how many connections a worker serves at once where that isn't said: 1,024 divided by the workers, at most 256
-abbrev pub links_for : Option ℕ → List ℕ
-links_for None = default Links
-links_for (Some workers) = decimal (min 256 (1024 / workers))
+-- how many workers there are: each has a thread
+abbrev pub workers_in : List ℕ → Option ℕ
+workers_in text = number 1 64 text
 
--- what stands for `--links` beside these workers
-abbrev pub links_by : List ℕ → List ℕ
-links_by workers = links_for (number 1 64 workers)
+-- how many sessions there may be
+abbrev pub sessions_in : List ℕ → Option ℕ
+sessions_in text = number 1 16384 text
+
+-- what stands for `--links` beside so many workers and sessions
+abbrev pub links_for : (workers sessions : Option ℕ) → List ℕ
+links_for None sessions = default Links
+links_for (Some workers) None = default Links
+links_for (Some workers) (Some sessions) = decimal (usual_links sessions workers)
+
+-- and beside these texts for them
+abbrev pub links_by : (workers sessions : List ℕ) → List ℕ
+links_by workers sessions = links_for (workers_in workers) (sessions_in sessions)
 
 -- what is said of each option
 pub record Said : Type 0 where
@@ -147,43 +161,54 @@ pub record Said : Type 0 where
   pub links : List ℕ
   pub connections : List ℕ
   pub quiet : List ℕ
+  pub sessions : List ℕ
 
-abbrev pub said_with : (domain port workers links connections quiet : Option (List ℕ)) → Option Said
-said_with d p w l c q =
-    on d (λ domain. on p (λ port. on w (λ workers. on l (λ links. on c (λ connections. on q (λ quiet.
-    Some (record { domain = domain; port = port; workers = workers; links = links; connections = connections; quiet = quiet })))))))
+abbrev pub said_with : (domain port workers links connections quiet sessions : Option (List ℕ)) → Option Said
+said_with d p w l c q n =
+    on d (λ domain. on p (λ port. on w (λ workers. on l (λ links. on c (λ connections. on q (λ quiet. on n (λ sessions.
+    Some (record {
+      domain = domain;
+      port = port;
+      workers = workers;
+      links = links;
+      connections = connections;
+      quiet = quiet;
+      sessions = sessions;
+    }))))))))
 
 abbrev pub links_of : List Set → Option (List ℕ)
-links_of given = on (value_of given Workers) (λ workers. only (links_by workers) (values_of Links given))
+links_of given =
+    on (value_of given Workers) (λ workers. on (value_of given Sessions) (λ sessions. only (links_by workers sessions) (values_of Links given)))
 
 abbrev pub said_in : List Set → Option Said
 said_in given =
     said_with (value_of given Domain) (value_of given Port) (value_of given Workers) (links_of given) (value_of given Connections) (value_of given Quiet)
+    (value_of given Sessions)
 
--- what the words ask for
-pub record Wanted : Type 0 where
-  pub domain : Address
-  pub port : ℕ
-  pub workers : ℕ
-  pub links : ℕ
-  pub connections : ℕ
-  pub quiet : Bool
+-- all workers together serve no more connections at once than they may
+abbrev pub if_few : Serving → Option Serving
+if_few asked = if nat_le (asked.workers * asked.links) (most_places asked.sessions) then Some asked else None
 
--- all workers together serve at most 1,024 connections at once
-abbrev pub if_few : Wanted → Option Wanted
-if_few w = if nat_le (w.workers * w.links) 1024 then Some w else None
-
--- what the values say
-abbrev pub wanted_by : Said → Option Wanted
+-- what the values ask for
+abbrev pub wanted_by : Said → Option Serving
 wanted_by s =
-    on (domain s.domain) (λ domain. on (number 1 65535 s.port) (λ port. on (number 1 64 s.workers) (λ workers. on (number 1 256 s.links) (λ links.
-    on (number 0 1000000 s.connections) (λ connections.
-    if_few (record { domain = domain; port = port; workers = workers; links = links; connections = connections; quiet = bytes_eq s.quiet (codes "yes") }))))))
+    on (domain s.domain) (λ domain. on (number 1 65535 s.port) (λ port. on (workers_in s.workers) (λ workers. on (sessions_in s.sessions) (λ sessions.
+    on (number 1 (most_links sessions) s.links) (λ links. on (number 0 1000000 s.connections) (λ connections.
+    if_few (record {
+      domain = domain;
+      port = port;
+      workers = workers;
+      links = links;
+      connections = connections;
+      quiet = bytes_eq s.quiet (codes "yes");
+      sessions = sessions;
+    })))))))
 
-abbrev pub wanted_in : List Set → Option Wanted
+abbrev pub wanted_in : List Set → Option Serving
 wanted_in given = on (said_in given) wanted_by
 
-abbrev pub wanted : List (List ℕ) → Option Wanted
+-- what the words ask for
+abbrev pub wanted : List (List ℕ) → Option Serving
 wanted words = on (options None words) wanted_in
 
 -- a value that may have been found
@@ -215,7 +240,3 @@ IsRefusal read (status.Script n) = ⊥
 IsRefusal read status.ReadFault = ⊥
 IsRefusal read status.WriteFault = ⊥
 IsRefusal read status.ListenFault = ⊥
-
--- what a server is to serve, as it was asked for
-abbrev pub wanted_of : Serving → Wanted
-wanted_of s = record { domain = s.domain; port = s.port; workers = s.workers; links = s.links; connections = s.connections; quiet = s.quiet }

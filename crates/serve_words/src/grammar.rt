@@ -41,7 +41,8 @@ fn grammar<'a>(alloc: Global) -> Result<Command<'a>, AllocError>
     let command = first_grammar(alloc)?;
     let command = with_option(alloc, command, "links")?;
     let command = with_option(alloc, command, "connections")?;
-    with_option(alloc, command, "quiet")
+    let command = with_option(alloc, command, "quiet")?;
+    with_option(alloc, command, "sessions")
 }
 
 /// What clap makes of the words.

@@ -2,6 +2,7 @@
 #![tactic(auto)]
 
 mod grammar;
+mod limits;
 pub mod number;
 mod option;
 mod words;

@@ -17,6 +17,7 @@ fn are_digits(text: &[u8]) -> bool
 pub fn number(text: &str, least: u64, most: u64) -> Option<u64>
     ensures number { result ≡ number least most text.now }
     ensures least { IfSome result (λ n. least ≤ n) }
+    ensures most { IfSome result (λ n. n ≤ most) }
 {
     if !are_digits(text.as_bytes()) {
         return None;

@@ -3,7 +3,7 @@
 ghost use Rattle.std.specs.Prelude.{◌≡◌, None, false};
 ghost use Rattle.std.specs.Option.{option_map};
 ghost use Rattle.jid_core.specs.Cuts.{after, before};
-ghost use Rattle.serve_words.specs.Options.{Finds, Meets, is_quiet, is_same, is_value, joined, named};
+ghost use Rattle.serve_words.specs.Options.{Finds, Meets, default, is_quiet, is_same, is_value, joined, named, spelled};
 
 /// An option of `serve`.
 #[derive(Clone, Copy)]
@@ -14,6 +14,7 @@ pub enum Name {
     Links,
     Connections,
     Quiet,
+    Sessions,
 }
 
 /// An option with its value.
@@ -37,6 +38,8 @@ pub(crate) fn named(text: &str) -> Option<Name>
         Some(Name::Links)
     } else if text == "--connections" {
         Some(Name::Connections)
+    } else if text == "--sessions" {
+        Some(Name::Sessions)
     } else {
         None
     }
@@ -136,6 +139,36 @@ fn meet_named(word: &str) -> Met<'_>
     }
 }
 
+/// What stands where an option isn't given.
+pub(crate) fn default(name: Name) -> &'static str
+    ensures { result.now ≡ default name }
+{
+    match name {
+        Name::Domain => "localhost",
+        Name::Port => "5222",
+        Name::Workers => "4",
+        Name::Links => "256",
+        Name::Connections => "0",
+        Name::Quiet => "no",
+        Name::Sessions => "512",
+    }
+}
+
+/// What stands before the value of an option, where both are one word.
+pub(crate) fn spelled(name: Name) -> &'static str
+    ensures { result.now ≡ spelled name }
+{
+    match name {
+        Name::Domain => "--domain=",
+        Name::Port => "--port=",
+        Name::Workers => "--workers=",
+        Name::Links => "--links=",
+        Name::Connections => "--connections=",
+        Name::Quiet => "--quiet=",
+        Name::Sessions => "--sessions=",
+    }
+}
+
 /// Whether both are the same option.
 pub(crate) fn is_same(one: Name, other: Name) -> bool
     ensures { result ≡ is_same one other }
@@ -147,6 +180,7 @@ pub(crate) fn is_same(one: Name, other: Name) -> bool
         (Name::Links, Name::Links) => true,
         (Name::Connections, Name::Connections) => true,
         (Name::Quiet, Name::Quiet) => true,
+        (Name::Sessions, Name::Sessions) => true,
         _ => false,
     }
 }

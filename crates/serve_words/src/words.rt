@@ -4,12 +4,13 @@ ghost use Rattle.std.specs.Prelude.{◌≡◌, ◌<◌, ◌≤◌, ◌*◌, ◌+
 ghost use Rattle.std.specs.Option.{option_map};
 ghost use Rattle.serve_words.specs.Grammars.{said_by, said_of};
 ghost use Rattle.account_book.specs.Fields.{on};
-ghost use Rattle.serve_words.specs.Options.{IsRefusal, default, domain, found_text, links_by, links_for, links_of, only, options, said_with, set_of, sole, spelled, value_of};
-ghost use Rattle.serve_words.specs.Options.{values_of, wanted, wanted_by, wanted_in, wanted_of};
+ghost use Rattle.serve_words.specs.Options.{IsRefusal, domain, found_text, links_of, only, options, said_with, set_of, sole, spelled, value_of};
+ghost use Rattle.serve_words.specs.Options.{values_of, wanted, wanted_by, wanted_in};
 
 use crate::grammar::{parse, value};
+use crate::limits::{MOST_SESSIONS, MOST_WORKERS, links_by, most_links, most_places};
 use crate::number::number;
-use crate::option::{Given, Met, Name, is_same, meet};
+use crate::option::{Given, Met, Name, default, is_same, meet, spelled};
 use clap::ArgMatches;
 use jid_core::{Jid, JidFault};
 use script_play::Status;
@@ -53,20 +54,6 @@ fn options(alloc: Global, words: &[Text]) -> Result<Vec<Given<'_>>, Status>
     }
 }
 
-/// What stands where an option isn't given.
-fn default(name: Name) -> &'static str
-    ensures { result.now ≡ default name }
-{
-    match name {
-        Name::Domain => "localhost",
-        Name::Port => "5222",
-        Name::Workers => "4",
-        Name::Links => "256",
-        Name::Connections => "0",
-        Name::Quiet => "no",
-    }
-}
-
 /// The value that is given of an option, if one is; none where several are.
 fn sole<'a>(given: &[Given<'a>], name: Name) -> Option<Option<&'a str>>
     ensures { option_map found_text result ≡ sole (values_of name (map set_of given.now)) }
@@ -102,20 +89,6 @@ fn value_of<'a>(given: &[Given<'a>], name: Name) -> Option<&'a str>
     only(given, name, default(name))
 }
 
-/// What stands before the value of an option, where both are one word.
-fn spelled(name: Name) -> &'static str
-    ensures { result.now ≡ spelled name }
-{
-    match name {
-        Name::Domain => "--domain=",
-        Name::Port => "--port=",
-        Name::Workers => "--workers=",
-        Name::Links => "--links=",
-        Name::Connections => "--connections=",
-        Name::Quiet => "--quiet=",
-    }
-}
-
 /// An option with its value as one word.
 fn word_of(alloc: Global, name: Name, value: &str) -> Result<String, AllocError>
     ensures { IfOk result (λ word. string_bytes word ≡ spelled name ++ value.now) }
@@ -149,35 +122,8 @@ fn domain_of(alloc: Global, text: &[u8]) -> Result<Jid, Status>
 /// The greatest port (RFC 9293, 3.1).
 const MOST_PORT: u64 = 65_535;
 
-/// How many workers there may be: each has a thread.
-const MOST_WORKERS: u64 = 64;
-
-/// How many connections a worker may serve at once.
-const MOST_LINKS: u64 = 256;
-
-/// How many connections all workers may serve at once.
-const MOST_PLACES: u64 = 1_024;
-
 /// How many connections a worker may be told to serve in all: more is for ever, which is what it does where it isn't told.
 const MOST_CONNECTIONS: u64 = 1_000_000;
-
-/// How many connections a worker serves at once where that isn't said.
-fn links_by(alloc: Global, workers: &str) -> Result<String, AllocError>
-    ensures { IfOk result (λ text. string_bytes text ≡ links_by workers.now) }
-{
-    match number(workers, 1, MOST_WORKERS) {
-        Some(workers) => links_for(alloc, workers),
-        None => String::from_str(alloc, default(Name::Links)),
-    }
-}
-
-fn links_for(alloc: Global, workers: u64) -> Result<String, AllocError>
-    requires { 0 < workers }
-    ensures { IfOk result (λ text. string_bytes text ≡ links_for (Some workers)) }
-{
-    let links = (MOST_PLACES / workers).min(MOST_LINKS);
-    format!(in alloc; "{}", links)
-}
 
 /// What is said of each option.
 #[derive(Clone, Copy)]
@@ -188,6 +134,7 @@ struct Texts<'a> {
     links: &'a str,
     connections: &'a str,
     quiet: &'a str,
+    sessions: &'a str,
 }
 
 /// The values that clap read.
@@ -201,15 +148,16 @@ fn said<'a>(matches: &ArgMatches<'a>) -> Option<Texts<'a>>
         links: value(matches, "links")?,
         connections: value(matches, "connections")?,
         quiet: value(matches, "quiet")?,
+        sessions: value(matches, "sessions")?,
     })
 }
 
 /// What the values ask for.
 fn serving_of(alloc: Global, said: &Texts<'_>) -> Result<Serving, Status>
-    ensures found { IfOk result (λ serving. wanted_by (said_of said.now) ≡ Some (wanted_of serving)) }
+    ensures found { IfOk result (λ serving. wanted_by (said_of said.now) ≡ Some serving) }
     ensures some { IfOk result (λ serving. 0 < serving.workers) }
     ensures each { IfOk result (λ serving. 0 < serving.links) }
-    ensures few { IfOk result (λ serving. serving.workers * serving.links ≤ 1024) }
+    ensures few { IfOk result (λ serving. serving.workers * serving.links ≤ 16384) }
     ensures refused { IfErr result (IsRefusal (wanted_by (said_of said.now))) }
 {
     let domain = domain_of(alloc, said.domain.as_bytes())?;
@@ -219,13 +167,16 @@ fn serving_of(alloc: Global, said: &Texts<'_>) -> Result<Serving, Status>
     let Some(workers) = number(said.workers, 1, MOST_WORKERS) else {
         return Err(Status::Usage);
     };
-    let Some(links) = number(said.links, 1, MOST_LINKS) else {
+    let Some(sessions) = number(said.sessions, 1, MOST_SESSIONS) else {
+        return Err(Status::Usage);
+    };
+    let Some(links) = number(said.links, 1, most_links(sessions)) else {
         return Err(Status::Usage);
     };
     let Some(connections) = number(said.connections, 0, MOST_CONNECTIONS) else {
         return Err(Status::Usage);
     };
-    if workers * links > MOST_PLACES {
+    if workers * links > most_places(sessions) {
         return Err(Status::Usage);
     }
     Ok(Serving {
@@ -235,15 +186,16 @@ fn serving_of(alloc: Global, said: &Texts<'_>) -> Result<Serving, Status>
         links: links as u32,
         connections,
         quiet: said.quiet == "yes",
+        sessions: sessions as u32,
     })
 }
 
 /// What clap makes of the texts, each in one word with its option.
 fn read_said(alloc: Global, given: &Texts<'_>) -> Result<Serving, Status>
-    ensures found { IfOk result (λ serving. wanted_by (said_of given.now) ≡ Some (wanted_of serving)) }
+    ensures found { IfOk result (λ serving. wanted_by (said_of given.now) ≡ Some serving) }
     ensures some { IfOk result (λ serving. 0 < serving.workers) }
     ensures each { IfOk result (λ serving. 0 < serving.links) }
-    ensures few { IfOk result (λ serving. serving.workers * serving.links ≤ 1024) }
+    ensures few { IfOk result (λ serving. serving.workers * serving.links ≤ 16384) }
     ensures refused { IfErr result (IsRefusal (wanted_by (said_of given.now))) }
 {
     let words = [
@@ -253,6 +205,7 @@ fn read_said(alloc: Global, given: &Texts<'_>) -> Result<Serving, Status>
         word_of(alloc, Name::Links, given.links)?,
         word_of(alloc, Name::Connections, given.connections)?,
         word_of(alloc, Name::Quiet, given.quiet)?,
+        word_of(alloc, Name::Sessions, given.sessions)?,
     ];
     match parse(alloc, words.as_slice()) {
         Ok(matches) => read_matches(alloc, &matches),
@@ -262,10 +215,10 @@ fn read_said(alloc: Global, given: &Texts<'_>) -> Result<Serving, Status>
 
 /// What the values ask for that clap read.
 fn read_matches(alloc: Global, matches: &ArgMatches<'_>) -> Result<Serving, Status>
-    ensures found { IfOk result (λ serving. on (said_by matches.now) wanted_by ≡ Some (wanted_of serving)) }
+    ensures found { IfOk result (λ serving. on (said_by matches.now) wanted_by ≡ Some serving) }
     ensures some { IfOk result (λ serving. 0 < serving.workers) }
     ensures each { IfOk result (λ serving. 0 < serving.links) }
-    ensures few { IfOk result (λ serving. serving.workers * serving.links ≤ 1024) }
+    ensures few { IfOk result (λ serving. serving.workers * serving.links ≤ 16384) }
     ensures refused { IfErr result (IsRefusal (on (said_by matches.now) wanted_by)) }
 {
     match said(matches) {
@@ -278,7 +231,7 @@ fn read_matches(alloc: Global, matches: &ArgMatches<'_>) -> Result<Serving, Stat
 fn texts_of<'a>(given: &[Given<'a>], links: &'a str) -> Option<Texts<'a>>
     ensures { option_map said_of result ≡ said_with (value_of (map set_of given.now) Name.Domain) (value_of (map set_of given.now) Name.Port)
         (value_of (map set_of given.now) Name.Workers) (Some links.now) (value_of (map set_of given.now) Name.Connections)
-        (value_of (map set_of given.now) Name.Quiet) }
+        (value_of (map set_of given.now) Name.Quiet) (value_of (map set_of given.now) Name.Sessions) }
 {
     Some(Texts {
         domain: value_of(given, Name::Domain)?,
@@ -287,16 +240,17 @@ fn texts_of<'a>(given: &[Given<'a>], links: &'a str) -> Option<Texts<'a>>
         links,
         connections: value_of(given, Name::Connections)?,
         quiet: value_of(given, Name::Quiet)?,
+        sessions: value_of(given, Name::Sessions)?,
     })
 }
 
 /// What the options ask for, where so many links stand for `--links`.
 fn read_with(alloc: Global, given: &[Given<'_>], links: &str) -> Result<Serving, Status>
     requires { links_of (map set_of given.now) ≡ Some links.now }
-    ensures found { IfOk result (λ serving. wanted_in (map set_of given.now) ≡ Some (wanted_of serving)) }
+    ensures found { IfOk result (λ serving. wanted_in (map set_of given.now) ≡ Some serving) }
     ensures some { IfOk result (λ serving. 0 < serving.workers) }
     ensures each { IfOk result (λ serving. 0 < serving.links) }
-    ensures few { IfOk result (λ serving. serving.workers * serving.links ≤ 1024) }
+    ensures few { IfOk result (λ serving. serving.workers * serving.links ≤ 16384) }
     ensures refused { IfErr result (IsRefusal (wanted_in (map set_of given.now))) }
 {
     match texts_of(given, links) {
@@ -306,22 +260,25 @@ fn read_with(alloc: Global, given: &[Given<'_>], links: &str) -> Result<Serving,
 }
 
 /// What the options ask for: clap reads their values.
-#[tactic(auto, using(crate::proofs::WantedLemmas::without_workers, crate::proofs::WantedLemmas::without_links, crate::proofs::WantedLemmas::given_links, crate::proofs::WantedLemmas::most_links))]
+#[tactic(auto, using(crate::proofs::WantedLemmas::without_workers, crate::proofs::WantedLemmas::without_sessions, crate::proofs::WantedLemmas::without_links, crate::proofs::WantedLemmas::given_links, crate::proofs::WantedLemmas::usual_text))]
 fn read_options(alloc: Global, given: &[Given<'_>]) -> Result<Serving, Status>
-    ensures found { IfOk result (λ serving. wanted_in (map set_of given.now) ≡ Some (wanted_of serving)) }
+    ensures found { IfOk result (λ serving. wanted_in (map set_of given.now) ≡ Some serving) }
     ensures some { IfOk result (λ serving. 0 < serving.workers) }
     ensures each { IfOk result (λ serving. 0 < serving.links) }
-    ensures few { IfOk result (λ serving. serving.workers * serving.links ≤ 1024) }
+    ensures few { IfOk result (λ serving. serving.workers * serving.links ≤ 16384) }
     ensures refused { IfErr result (IsRefusal (wanted_in (map set_of given.now))) }
 {
     let Some(workers) = value_of(given, Name::Workers) else {
         return Err(Status::Usage);
     };
+    let Some(sessions) = value_of(given, Name::Sessions) else {
+        return Err(Status::Usage);
+    };
     match sole(given, Name::Links) {
         Some(Some(links)) => read_with(alloc, given, links),
         Some(None) => {
-            let most = links_by(alloc, workers)?;
-            read_with(alloc, given, most.as_str())
+            let usual = links_by(alloc, workers, sessions)?;
+            read_with(alloc, given, usual.as_str())
         }
         None => Err(Status::Usage),
     }
@@ -329,10 +286,10 @@ fn read_options(alloc: Global, given: &[Given<'_>]) -> Result<Serving, Status>
 
 /// What the words after `serve` ask for. `Usage` comes exactly where they are none.
 pub fn read_serve(alloc: Global, words: &[Text]) -> Result<Serving, Status>
-    ensures found { IfOk result (λ serving. wanted words.now ≡ Some (wanted_of serving)) }
+    ensures found { IfOk result (λ serving. wanted words.now ≡ Some serving) }
     ensures some { IfOk result (λ serving. 0 < serving.workers) }
     ensures each { IfOk result (λ serving. 0 < serving.links) }
-    ensures few { IfOk result (λ serving. serving.workers * serving.links ≤ 1024) }
+    ensures few { IfOk result (λ serving. serving.workers * serving.links ≤ 16384) }
     ensures refused { IfErr result (IsRefusal (wanted words.now)) }
 {
     let given = options(alloc, words)?;

@@ -1,6 +1,5 @@
 use Rattle.std.proofs.Common.{ap, rules}
 use Rattle.serve_run.specs.Services.{tally}
-use Rattle.serve_words.specs.Options.{wanted_of}
 use Rattle.commands.specs.Commands.{task_of}
 use Rattle.commands.proofs.Drills.{drill_unread}
 use Rattle.commands.proofs.Endings.{replay_unread}
@@ -17,7 +16,7 @@ returns-in-Err-clause-served g c = λ w is. serve_unread (task_of c.args.words.n
 
 pub returns-in-Ok-Serve-clause-served : goal.returns-in-Ok-Serve-clause-served
 returns-in-Ok-Serve-clause-served g c = λ w asked.
-    as_asked (task_of c.args.words.now) (wanted_of c.in-Ok-Serve.serving) w _ _
+    as_asked (task_of c.args.words.now) c.in-Ok-Serve.serving w _ _
     (tally (g.P.Ports.tapes c.args.ports.now) (g.P.Ports.links c.args.ports.now) (g.P.Ports.dice_faults c.args.ports.now)
     (g.P.Ports.address c.args.ports.now))
     (tally (g.P.Ports.tapes c.serve.new.ports) (g.P.Ports.links c.serve.new.ports) (g.P.Ports.dice_faults c.serve.new.ports)

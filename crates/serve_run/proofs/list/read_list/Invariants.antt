@@ -1,4 +1,4 @@
-use Rattle.std.proofs.Common.{◌≡◌, ◌≤◌, ◌-◌, length}
+use Rattle.std.proofs.Common.{◌≡◌, ◌≤◌, ◌+◌, ◌-◌, length}
 use Rattle.outside.specs.Devices.{Front}
 use Rattle.serve_run.proofs.list.read_list.Given as goal
 
@@ -10,4 +10,4 @@ invariant-loop-buffer g l = record {
 }
 
 abbrev pub decreases-loop-buffer : goal.decreases-loop-buffer
-decreases-loop-buffer g l = 8388609 - length l.list.items
+decreases-loop-buffer g l = (l.most + 1) - length l.list.items

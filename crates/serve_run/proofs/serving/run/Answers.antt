@@ -8,11 +8,11 @@ pub returns-in-Shut-clause-served : goal.returns-in-Shut-clause-served
 returns-in-Shut-clause-served g c =
     let asked = c.args.serving.now in
     let ran = rw c.as_slice.ensures.value at c.in_ok-house.ensures.served in
-    printed c.print_report.result _ _ asked.domain asked.port asked.workers asked.links asked.connections c.in_ok-list.list.items
+    printed c.print_report.result _ _ asked c.in_ok-list.list.items
     (tally (g.P.Ports.tapes c.args.ports.now) (g.P.Ports.links c.args.ports.now) (g.P.Ports.dice_faults c.args.ports.now) (g.P.Ports.address c.args.ports.now))
     (tally (g.P.Ports.tapes c.serve_ports.new.ports) (g.P.Ports.links c.serve_ports.new.ports) (g.P.Ports.dice_faults c.serve_ports.new.ports)
     (g.P.Ports.address c.serve_ports.new.ports)) _ _ _ c.in_ok-list.ensures.read
-    (run_served asked.domain asked.port asked.workers asked.links asked.connections c.in_ok-list.list.items
+    (run_served asked c.in_ok-list.list.items
     (tally (g.P.Ports.tapes c.args.ports.now) (g.P.Ports.links c.args.ports.now) (g.P.Ports.dice_faults c.args.ports.now) (g.P.Ports.address c.args.ports.now))
     (tally (g.P.Ports.tapes c.serve_ports.new.ports) (g.P.Ports.links c.serve_ports.new.ports) (g.P.Ports.dice_faults c.serve_ports.new.ports)
     (g.P.Ports.address c.serve_ports.new.ports)) c.in_ok-house.house c.in_ok-house.worked
@@ -23,11 +23,11 @@ pub returns-in-Shut-clause-cut : goal.returns-in-Shut-clause-cut
 returns-in-Shut-clause-cut g c =
     let asked = c.args.serving.now in
     let ran = rw c.as_slice.ensures.value at c.in_ok-house.ensures.served in
-    printed_front c.print_report.result _ _ asked.domain asked.port asked.workers asked.links asked.connections c.in_ok-list.list.items
+    printed_front c.print_report.result _ _ asked c.in_ok-list.list.items
     (tally (g.P.Ports.tapes c.args.ports.now) (g.P.Ports.links c.args.ports.now) (g.P.Ports.dice_faults c.args.ports.now) (g.P.Ports.address c.args.ports.now))
     (tally (g.P.Ports.tapes c.serve_ports.new.ports) (g.P.Ports.links c.serve_ports.new.ports) (g.P.Ports.dice_faults c.serve_ports.new.ports)
     (g.P.Ports.address c.serve_ports.new.ports)) _ _ _ c.in_ok-list.ensures.read
-    (run_served asked.domain asked.port asked.workers asked.links asked.connections c.in_ok-list.list.items
+    (run_served asked c.in_ok-list.list.items
     (tally (g.P.Ports.tapes c.args.ports.now) (g.P.Ports.links c.args.ports.now) (g.P.Ports.dice_faults c.args.ports.now) (g.P.Ports.address c.args.ports.now))
     (tally (g.P.Ports.tapes c.serve_ports.new.ports) (g.P.Ports.links c.serve_ports.new.ports) (g.P.Ports.dice_faults c.serve_ports.new.ports)
     (g.P.Ports.address c.serve_ports.new.ports)) c.in_ok-house.house c.in_ok-house.worked
@@ -60,8 +60,7 @@ pub returns-in-Shut-clause-short : goal.returns-in-Shut-clause-short
 returns-in-Shut-clause-short g c =
     let asked = c.args.serving.now in
     let ran = rw c.as_slice.ensures.value at c.in_ok-house.ensures.served in
-    by_printing c.print_report.result _ c.print_report.ensures.others (λ e. absurd (write-memory e)) (λ e. short_line _ _ asked.domain asked.port
-    asked.workers asked.links asked.connections c.in_ok-list.list.items
+    by_printing c.print_report.result _ c.print_report.ensures.others (λ e. absurd (write-memory e)) (λ e. short_line _ _ asked c.in_ok-list.list.items
     (tally (g.P.Ports.tapes c.args.ports.now) (g.P.Ports.links c.args.ports.now) (g.P.Ports.dice_faults c.args.ports.now) (g.P.Ports.address c.args.ports.now))
     (tally (g.P.Ports.tapes c.serve_ports.new.ports) (g.P.Ports.links c.serve_ports.new.ports) (g.P.Ports.dice_faults c.serve_ports.new.ports)
     (g.P.Ports.address c.serve_ports.new.ports))
@@ -83,7 +82,7 @@ returns-clause-failed g c = λ is.
     let ran = rw c.as_slice.ensures.value at c.in_ok-house.ensures.served in (
       c.in_ok-list.list.items,
       c.in_ok-list.ensures.read,
-      run_failed asked.domain asked.port asked.workers asked.links asked.connections c.in_ok-list.list.items
+      run_failed asked c.in_ok-list.list.items
           (tally (g.P.Ports.tapes c.args.ports.now) (g.P.Ports.links c.args.ports.now) (g.P.Ports.dice_faults c.args.ports.now) (g.P.Ports.address c.args.ports.now))
           (tally (g.P.Ports.tapes c.serve_ports.new.ports) (g.P.Ports.links c.serve_ports.new.ports) (g.P.Ports.dice_faults c.serve_ports.new.ports)
           (g.P.Ports.address c.serve_ports.new.ports)) c.in_ok-house.house c.in_ok-house.worked c.in-PollFault.is ran,

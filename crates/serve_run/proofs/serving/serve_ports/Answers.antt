@@ -1,4 +1,4 @@
-use Rattle.std.proofs.Common.{ap, ◌*◌, ◌∙◌, Some}
+use Rattle.std.proofs.Common.{ap, ◌∙◌, Some}
 use Rattle.conn_staff.specs.Staffs.{post_told}
 use Rattle.serve_run.specs.Services.{tally}
 use Rattle.serve_run.proofs.Posts.{all_free, all_opened, all_placed, faults_told, given_told, length_told}
@@ -26,7 +26,7 @@ returns-in-Ok-clause-served g c =
     (g.P.Ports.address c.gather_pollers.new.self)) c.serve_list-posts.result.0.items
     (ap (λ t. t.tapes) same ∙ c.in-Ok.ensures.tapes) (ap (λ t. t.links) same ∙ c.in-Ok.ensures.links) (ap (λ t. t.dice) same ∙ c.in-Ok.ensures.dice)
     c.serve_list-posts.ensures.wide back.tapes back.links back.dice in
-    posts_ran c.serve_list-posts.result.1 asked.domain asked.port asked.workers asked.links asked.connections c.requires.some.0 c.requires.some.1
+    posts_ran c.serve_list-posts.result.1 asked c.requires.some.0 c.requires.some.1
     c.args.list.now (tally (g.P.Ports.tapes c.args.ports.now) (g.P.Ports.links c.args.ports.now) (g.P.Ports.dice_faults c.args.ports.now)
     (g.P.Ports.address c.args.ports.now))
     (tally (g.P.Ports.tapes c.gather_pollers.new.self) (g.P.Ports.links c.gather_pollers.new.self) (g.P.Ports.dice_faults c.gather_pollers.new.self)
@@ -35,7 +35,7 @@ returns-in-Ok-clause-served g c =
 pub returns-in-Ok-clause-failed : goal.returns-in-Ok-clause-failed
 returns-in-Ok-clause-failed g c =
     let asked = c.args.serving.now in
-    ports_failed c.serve_list-posts.result.1 asked.domain (asked.workers * asked.links) asked.links asked.connections c.args.list.now _ _ _ _ _ _
+    ports_failed c.serve_list-posts.result.1 asked c.args.list.now _ _ _ _ _ _
     c.serve_list-posts.ensures.served c.in-Ok.ensures.kept c.serve_list-posts.ensures.kept
     (faults_told _ _ _ g.P.Poller.Poller.places g.P.Poller.Poller.taken g.P.Poller.Poller.tapes g.P.Poller.Poller.came g.P.Poller.Poller.links
     g.P.Poller.Poller.faults g.P.Poller.Poller.quota g.P.Clock.Clock.told g.P.Dice.Dice.drawn g.P.Dice.Dice.faults _ _ c.serve_list-posts.result.0.items
@@ -46,7 +46,7 @@ returns-in-Ok-clause-failed g c =
 
 pub returns-in-Ok-clause-refused : goal.returns-in-Ok-clause-refused
 returns-in-Ok-clause-refused g c =
-    ports_refused c.serve_list-posts.result.1 c.args.list.now _ _ _ _ c.in-Ok.ensures.kept c.gather_pollers.ensures.faults_kept
+    ports_refused c.serve_list-posts.result.1 c.args.serving.now.sessions c.args.list.now _ _ _ _ c.in-Ok.ensures.kept c.gather_pollers.ensures.faults_kept
     c.serve_list-posts.ensures.refused
 
 pub returns-in-Ok-clause-unserved : goal.returns-in-Ok-clause-unserved
@@ -70,7 +70,7 @@ returns-in-Ok-clause-unserved g c =
     (g.P.Ports.address c.gather_pollers.new.self)) c.serve_list-posts.result.0.items
     (ap (λ t. t.tapes) same ∙ c.in-Ok.ensures.tapes) (ap (λ t. t.links) same ∙ c.in-Ok.ensures.links) (ap (λ t. t.dice) same ∙ c.in-Ok.ensures.dice)
     c.serve_list-posts.ensures.wide back.tapes back.links back.dice in
-    ports_unserved c.serve_list-posts.result.1 asked.port asked.workers asked.links asked.connections (tally (g.P.Ports.tapes c.args.ports.now)
+    ports_unserved c.serve_list-posts.result.1 asked (tally (g.P.Ports.tapes c.args.ports.now)
     (g.P.Ports.links c.args.ports.now) (g.P.Ports.dice_faults c.args.ports.now) (g.P.Ports.address c.args.ports.now))
     (tally (g.P.Ports.tapes c.gather_pollers.new.self) (g.P.Ports.links c.gather_pollers.new.self) (g.P.Ports.dice_faults c.gather_pollers.new.self)
     (g.P.Ports.address c.gather_pollers.new.self)) _
