@@ -15,6 +15,7 @@ use crate::account::Account;
 use crate::fault::{BookFault, LineFault, LineKind};
 use crate::line::read_line;
 use crate::lines::first_line;
+use hash_keys::HashKey;
 use hmac_kdf::hmac_sha256;
 use indexmap::IndexSet;
 use std::alloc::{AllocError, Global};
@@ -28,7 +29,7 @@ const MOST_ACCOUNTS: usize = 4096;
 pub struct Accounts {
     accounts: Vec<Account>,
     /// Their names, in the same order.
-    names: IndexSet<Vec<u8>>,
+    names: IndexSet<Vec<u8>, HashKey>,
     /// The key of what is told of unknown names.
     secret: [u8; 32],
 }
@@ -50,12 +51,12 @@ impl Model for Accounts {
 }
 
 impl Accounts {
-    fn new(alloc: Global, secret: [u8; 32]) -> Accounts
+    fn new(alloc: Global, secret: [u8; 32], key: HashKey) -> Accounts
         ensures { result ≡ record { accounts = []; secret = secret } }
     {
         Accounts {
             accounts: Vec::new(alloc),
-            names: IndexSet::new(alloc),
+            names: IndexSet::with_hasher(alloc, key),
             secret,
         }
     }
@@ -145,28 +146,34 @@ impl Accounts {
     }
 
     /// The accounts of a list of at most 4,096: see [`Accounts::read_most`].
-    pub fn read(alloc: Global, bytes: &[u8], secret: [u8; 32]) -> Result<Accounts, BookFault>
+    pub fn read(
+        alloc: Global,
+        bytes: &[u8],
+        secret: [u8; 32],
+        key: HashKey,
+    ) -> Result<Accounts, BookFault>
         ensures read { Gives (entries_of bytes.now) result }
         ensures secret { IfOk result (λ book. book.secret ≡ secret) }
     {
-        Accounts::read_most(alloc, bytes, secret, MOST_ACCOUNTS)
+        Accounts::read_most(alloc, bytes, secret, key, MOST_ACCOUNTS)
     }
 
     /// The accounts of a list of at most so many. Its bytes are read once, and each name is sought once.
     ///
     /// The first line at fault is told by its number, from 1, with the first [`LineKind`] that fits it. A list without lines has no
-    /// accounts. The secret is the key of [`Accounts::decoy`].
+    /// accounts. The secret is the key of [`Accounts::decoy`]; by the other key names are found.
     pub fn read_most(
         alloc: Global,
         bytes: &[u8],
         secret: [u8; 32],
+        key: HashKey,
         most: usize,
     ) -> Result<Accounts, BookFault>
         requires few { most ≤ 65536 }
         ensures read { Gives (entries_within most bytes.now) result }
         ensures secret { IfOk result (λ book. book.secret ≡ secret) }
     {
-        let mut book = Accounts::new(alloc, secret);
+        let mut book = Accounts::new(alloc, secret, key);
         let mut rest = bytes;
         while !rest.is_empty() {
             let (line, more) = first_line(rest);

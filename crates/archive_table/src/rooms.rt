@@ -9,6 +9,7 @@ ghost use Rattle.archive_table.specs.Entries.{rooms_of};
 ghost use Rattle.archive_table.specs.Tables.{rows_of, spare_in, room_archive, room_texts};
 
 use crate::adding::add_to;
+use hash_keys::HashKey;
 use indexmap::IndexMap;
 use jid_core::Jid;
 use mam_archive::Archive;
@@ -26,7 +27,7 @@ pub(crate) fn find<'a>(rooms: &'a Rooms, room: u64) -> Option<&'a Archive>
 }
 
 /// Makes the archive of a room, where there is none.
-fn open(alloc: Global, rooms: &mut Rooms, room: u64) -> Result<(), NoMemory>
+fn open(alloc: Global, hash_key: HashKey, rooms: &mut Rooms, room: u64) -> Result<(), NoMemory>
     ensures rows { (n : ℕ) → rows_of (room_archive n (rooms_of rooms.new.entries)) ≡ rows_of (room_archive n (rooms_of rooms.old.entries)) }
     ensures spare { (n : ℕ) (p : Address)
         → spare_in (room_archive n (rooms_of rooms.old.entries)) p ≤ spare_in (room_archive n (rooms_of rooms.new.entries)) p }
@@ -35,7 +36,7 @@ fn open(alloc: Global, rooms: &mut Rooms, room: u64) -> Result<(), NoMemory>
     if rooms.contains_key(&room) {
         return Ok(());
     }
-    rooms.insert(room, Archive::new(alloc))?;
+    rooms.insert(room, Archive::new(alloc, hash_key))?;
     Ok(())
 }
 
@@ -56,6 +57,7 @@ fn reserve_in(rooms: &mut Rooms, room: u64, peer: &Jid, many: usize) -> Result<(
 /// Takes the memory for so many rows more of a room, all of this peer.
 pub(crate) fn reserve(
     alloc: Global,
+    hash_key: HashKey,
     rooms: &mut Rooms,
     room: u64,
     peer: &Jid,
@@ -67,7 +69,7 @@ pub(crate) fn reserve(
         → spare_in (room_archive n (rooms_of rooms.old.entries)) p ≤ spare_in (room_archive n (rooms_of rooms.new.entries)) p }
     ensures texts { room_texts (rooms_of rooms.new.entries) ≡ room_texts (rooms_of rooms.old.entries) }
 {
-    open(alloc, rooms, room)?;
+    open(alloc, hash_key, rooms, room)?;
     reserve_in(rooms, room, peer, many)
 }
 

@@ -10,6 +10,7 @@ ghost use Rattle.archive_table.specs.Tables.{room_rows, room_spare, text_length,
 use crate::filing::Filing;
 use crate::rooms::{self, Rooms};
 use crate::users::{self, Users};
+use hash_keys::HashKey;
 use indexmap::IndexMap;
 use jid_core::{Jid, Part};
 use mam_archive::Archive;
@@ -26,6 +27,7 @@ pub struct Archives {
     users: Users,
     rooms: Rooms,
     bytes: u64,
+    hash_key: HashKey,
     alloc: Global,
 }
 
@@ -42,14 +44,15 @@ impl Model for Archives {
 }
 
 impl Archives {
-    /// No archive has a row. Takes no memory.
-    pub fn new(alloc: Global) -> Archives
+    /// No archive has a row. Users and peers are found by this key. Takes no memory.
+    pub fn new(alloc: Global, hash_key: HashKey) -> Archives
         ensures { archives_of result ≡ no_archives }
     {
         Archives {
-            users: IndexMap::new(alloc),
+            users: IndexMap::with_hasher(alloc, hash_key),
             rooms: IndexMap::new(alloc),
             bytes: 0,
+            hash_key,
             alloc,
         }
     }
@@ -101,7 +104,7 @@ impl Archives {
         ensures rooms { (n : ℕ) (p : Address) → room_spare n p self.old ≤ room_spare n p self.new }
         ensures users { self.new.users ≡ self.old.users }
     {
-        rooms::reserve(self.alloc, &mut self.rooms, room, peer, many)
+        rooms::reserve(self.alloc, self.hash_key, &mut self.rooms, room, peer, many)
     }
 
     fn add_user(&mut self, user: &Part, peer: Jid, text: Text, moment: u64)

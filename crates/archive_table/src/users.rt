@@ -7,6 +7,7 @@ ghost use Rattle.archive_table.specs.Entries.{users_of};
 ghost use Rattle.archive_table.specs.Tables.{rows_of, spare_in, user_archive, user_texts};
 
 use crate::adding::add_to;
+use hash_keys::HashKey;
 use indexmap::IndexMap;
 use jid_core::{Jid, Part};
 use mam_archive::Archive;
@@ -14,7 +15,7 @@ use stanza_tree::{NoMemory, Text};
 use std::alloc::Global;
 
 /// The archives of users, by the local parts of their addresses.
-pub(crate) type Users = IndexMap<Vec<u8>, Archive>;
+pub(crate) type Users = IndexMap<Vec<u8>, Archive, HashKey>;
 
 /// The archive of a user, where it has one.
 pub(crate) fn find<'a>(users: &'a Users, user: &Part) -> Option<&'a Archive>
@@ -33,7 +34,8 @@ fn open(alloc: Global, users: &mut Users, user: &Part) -> Result<(), NoMemory>
     if users.contains_key(user.bytes()) {
         return Ok(());
     }
-    users.insert(user.bytes().to_vec(alloc)?, Archive::new(alloc))?;
+    let archive = Archive::new(alloc, *users.hasher());
+    users.insert(user.bytes().to_vec(alloc)?, archive)?;
     Ok(())
 }
 

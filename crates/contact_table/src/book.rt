@@ -8,6 +8,7 @@ use crate::changes::note;
 use crate::folders::{Folders, addresses, open, reserve};
 use crate::order::Order;
 use ghost_log::{GhostLog, Tells};
+use hash_keys::HashKey;
 use indexmap::IndexMap;
 use jid_core::{Jid, Part};
 use stanza_model::{Change, Roster};
@@ -48,14 +49,14 @@ impl Tells<Change> for Told {
 }
 
 impl Book {
-    /// The book of a domain in which nothing is noted.
-    pub fn new(alloc: Global, domain: Part) -> Book
+    /// The book of a domain in which nothing is noted. Users are found by this key.
+    pub fn new(alloc: Global, domain: Part, key: HashKey) -> Book
         ensures domain { result.domain ≡ domain }
         ensures book { result.book ≡ empty_book }
     {
         Book {
             domain,
-            folders: IndexMap::new(alloc),
+            folders: IndexMap::with_hasher(alloc, key),
             log: GhostLog::empty(),
         }
     }

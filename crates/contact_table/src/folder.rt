@@ -7,6 +7,7 @@ ghost use Rattle.contact_table.specs.Folders.{IsNamed, places, sheet};
 use crate::contacts::{put, take_out};
 use crate::flag::{Flag, mark};
 use crate::order::Order;
+use hash_keys::HashKey;
 use jid_core::{Jid, Part};
 use stanza_model::{Contact, Roster};
 use stanza_tree::NoMemory;
@@ -48,7 +49,7 @@ fn fill(alloc: Global, names: &mut Vec<Vec<u8>>, user: &Part, count: usize) -> R
 }
 
 impl Folder {
-    pub(crate) fn new(alloc: Global, owner: Jid) -> Folder
+    pub(crate) fn new(alloc: Global, key: HashKey, owner: Jid) -> Folder
         ensures owner { result.roster.owner ≡ owner }
         ensures sheet { sheet result ≡ empty_sheet }
         ensures names { result.names.items ≡ [] }
@@ -58,9 +59,9 @@ impl Folder {
                 owner,
                 contacts: Vec::new(alloc),
             },
-            who_sees: Order::new(alloc),
-            whom_sees: Order::new(alloc),
-            who_asked: Order::new(alloc),
+            who_sees: Order::new(alloc, key),
+            whom_sees: Order::new(alloc, key),
+            who_asked: Order::new(alloc, key),
             names: Vec::new(alloc),
         }
     }

@@ -9,6 +9,7 @@ use crate::address::{bare_of, local_user};
 use crate::flag::state_by;
 use crate::folder::Folder;
 use crate::order::Order;
+use hash_keys::HashKey;
 use indexmap::IndexMap;
 use jid_core::{Jid, Part};
 use stanza_model::{Contact, Subscription};
@@ -16,7 +17,7 @@ use stanza_tree::NoMemory;
 use std::alloc::Global;
 
 /// What is kept of each user, by its name. What was made of a user stays.
-pub(crate) type Folders = IndexMap<Vec<u8>, Folder>;
+pub(crate) type Folders = IndexMap<Vec<u8>, Folder, HashKey>;
 
 /// Makes the folder of a user, where there is none.
 pub(crate) fn open(
@@ -33,7 +34,8 @@ pub(crate) fn open(
         return Ok(());
     }
     let owner = bare_of(alloc, domain, user)?;
-    folders.insert(user.bytes().to_vec(alloc)?, Folder::new(alloc, owner))?;
+    let folder = Folder::new(alloc, *folders.hasher(), owner);
+    folders.insert(user.bytes().to_vec(alloc)?, folder)?;
     Ok(())
 }
 

@@ -3,6 +3,7 @@ ghost use Rattle.std.specs.Prelude.{◌≡◌, ◌<◌, ◌≤◌, ◌+◌, [], 
 ghost use Rattle.std.specs.List.{list_any};
 ghost use Rattle.contact_table.specs.Orders.{with_user};
 
+use hash_keys::HashKey;
 use indexmap::IndexSet;
 use jid_core::Part;
 use stanza_tree::NoMemory;
@@ -12,7 +13,7 @@ use std::marker::Model;
 /// The users in one of the lists of a user, by the local parts of their addresses. None is there twice.
 #[derive(Drop)]
 pub struct Order {
-    users: IndexSet<Vec<u8>>,
+    users: IndexSet<Vec<u8>, HashKey>,
 }
 
 impl Model for Order {
@@ -29,11 +30,12 @@ impl Model for Order {
 }
 
 impl Order {
-    pub(crate) fn new(alloc: Global) -> Order
+    /// Takes no memory. Names are found by this key.
+    pub(crate) fn new(alloc: Global, key: HashKey) -> Order
         ensures { result.users ≡ [] }
     {
         Order {
-            users: IndexSet::new(alloc),
+            users: IndexSet::with_hasher(alloc, key),
         }
     }
 

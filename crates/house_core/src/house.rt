@@ -10,6 +10,7 @@ ghost use Rattle.house_core.specs.Houses.{held};
 
 use archive_table::Archives;
 use contact_table::Book;
+use hash_keys::HashKey;
 use house_model::Limits;
 use house_routing::Users;
 use house_world::{Answers, World};
@@ -67,16 +68,19 @@ impl House {
         ensures held { IfOk result (λ h. held h ≡ keep (opening domain.now users.now workers)) }
         ensures history { IfOk result (λ h. StandsFor (opening domain.now users.now workers) [] (held h)) }
     {
-        House::with_limits(alloc, domain, users, workers, Limits::usual())
+        let (limits, key) = (Limits::usual(), HashKey::fixed());
+        House::with_limits(alloc, domain, users, workers, limits, key)
     }
 
-    /// The same with other limits than the usual ones.
+    /// The same with other limits than the usual ones, and with a key by which names are hashed: where clients choose names, one that
+    /// they don't know.
     pub fn with_limits(
         alloc: Global,
         domain: &Jid,
         users: &[Part],
         workers: u32,
         limits: Limits,
+        key: HashKey,
     ) -> Result<House, NoMemory>
         requires prepared { list_all is_local users.now ≡ true }
         requires differ { are_distinct users.now ≡ true }
@@ -85,17 +89,17 @@ impl House {
         ensures history { IfOk result (λ h. StandsFor (opening_with limits domain.now users.now workers) [] (held h)) }
     {
         let stirred = Marks::new(alloc, workers)?;
-        let book = Book::new(alloc, domain.domain.copy(alloc)?);
+        let book = Book::new(alloc, domain.domain.copy(alloc)?, key);
         let rooms = Rooms::new(alloc);
-        let archives = Archives::new(alloc);
+        let archives = Archives::new(alloc, key);
         Ok(House {
             domain: domain.copy(alloc)?,
-            users: Users::of(alloc, users)?,
+            users: Users::of(alloc, users, key)?,
             limits,
             turns: 0,
             moment: 0,
             world: World {
-                table: Table::new(alloc, workers)?,
+                table: Table::new(alloc, workers, key)?,
                 answers: no_answers(alloc, workers)?,
                 book,
                 rooms,

@@ -4,6 +4,7 @@ ghost use Rattle.std.specs.List.{list_any};
 ghost use Rattle.jid_core.specs.Names.{are_distinct};
 ghost use Rattle.house_model.specs.Lookups.{user_place};
 
+use hash_keys::HashKey;
 use indexmap::IndexSet;
 use jid_core::Part;
 use stanza_tree::NoMemory;
@@ -15,7 +16,7 @@ use std::marker::Model;
 pub struct Users {
     parts: Vec<Part>,
     // Their names, in the same order.
-    names: IndexSet<Vec<u8>>,
+    names: IndexSet<Vec<u8>, HashKey>,
 }
 
 impl Model for Users {
@@ -29,14 +30,14 @@ impl Model for Users {
 }
 
 impl Users {
-    /// These users. Costs their names twice.
-    pub fn of(alloc: Global, parts: &[Part]) -> Result<Users, NoMemory>
+    /// These users, whose names are hashed by a key. Costs their names twice.
+    pub fn of(alloc: Global, parts: &[Part], key: HashKey) -> Result<Users, NoMemory>
         requires { are_distinct parts.now ≡ true }
         ensures { IfOk result (λ users. users ≡ parts.now) }
     {
         let mut users = Users {
             parts: Vec::new(alloc),
-            names: IndexSet::new(alloc),
+            names: IndexSet::with_hasher(alloc, key),
         };
         for part in parts {
             users.add(alloc, part)?;

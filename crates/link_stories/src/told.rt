@@ -4,6 +4,7 @@ use crate::lines::{after_word, first_line, number_of, split_before};
 use crate::play::{Trial, play};
 use crate::shown::Shown;
 use account_book::{Accounts, BookFault};
+use hash_keys::HashKey;
 use stanza_tree::NoMemory;
 use std::alloc::Global;
 use std::sync::Wait;
@@ -64,7 +65,7 @@ pub(crate) fn tell_all<W: Wait>(
 ) -> Result<(), NoMemory> {
     let (head, stories) = split_before(text, TITLE);
     let list = list_of(alloc, head)?;
-    match Accounts::read(alloc, list.as_slice(), [0; 32]) {
+    match Accounts::read(alloc, list.as_slice(), [0; 32], HashKey::fixed()) {
         Ok(accounts) => { tell_stories(rt, alloc, &accounts, head, stories, out) }
         Err(BookFault::Line { line, kind: _ }) => tell_number(alloc, b"accounts line", line, out),
         Err(BookFault::NoMemory) => Err(NoMemory),

@@ -2,6 +2,7 @@
 //! decoy, are values of python3's `hashlib` and `hmac`.
 
 use account_book::*;
+use hash_keys::HashKey;
 use jid_core::Part;
 use scram_core::{Found, Hello, Mechanism};
 use std::alloc::Global;
@@ -65,7 +66,7 @@ const LOGINS: [Login; 2] = [
 
 fn expect_login<R: Abort>(rt: &R, alloc: Global, login: &Login) -> Result<(), Fail> {
     let (list, mechanism, first, last, want) = login;
-    let accounts = Accounts::read(alloc, list, SECRET)?;
+    let accounts = Accounts::read(alloc, list, SECRET, HashKey::fixed())?;
     let hello = Hello::read(alloc, first, b"example.org")?;
     let Some(account) = accounts.find(hello.name()) else {
         panic!(rt; "no account");
@@ -115,7 +116,7 @@ fn push_line(line: &mut Vec<u8>, place: usize, text: &[u8]) -> Result<(), Fail> 
 type Fault = Option<(u64, LineKind)>;
 
 fn fault_of(alloc: Global, list: &[u8]) -> Result<Fault, Fail> {
-    match Accounts::read(alloc, list, SECRET) {
+    match Accounts::read(alloc, list, SECRET, HashKey::fixed()) {
         Ok(_) => Ok(None),
         Err(BookFault::Line { line, kind }) => Ok(Some((line, kind))),
         Err(BookFault::NoMemory) => Err(NoMemory.into()),
@@ -326,7 +327,7 @@ const SOUGHT: [(&[u8], bool); 6] = [
 #[test]
 fn accounts_are_found_by_name(rt: HostRuntime) -> Result<(), Fail> {
     let list = full_list(rt.alloc())?;
-    let accounts = Accounts::read(rt.alloc(), list.as_slice(), SECRET)?;
+    let accounts = Accounts::read(rt.alloc(), list.as_slice(), SECRET, HashKey::fixed())?;
     assert_eq!(rt; accounts.names().len(), 4096);
     for (i, (name, known)) in SOUGHT.iter().enumerate() {
         let found = match accounts.find(name) {
@@ -340,7 +341,7 @@ fn accounts_are_found_by_name(rt: HostRuntime) -> Result<(), Fail> {
 
 #[test]
 fn decoys_are_of_the_secret(rt: HostRuntime) -> Result<(), Fail> {
-    let accounts = Accounts::read(rt.alloc(), b"", SECRET)?;
+    let accounts = Accounts::read(rt.alloc(), b"", SECRET, HashKey::fixed())?;
     assert!(rt; accounts.names().is_empty());
     let salt: &[u8] = b"\x81\x06\x41\xe3\xc3\x1c\x71\xc9\x75\x87\xb0\x5f\xb9\xdb\x25\xb7";
     assert!(rt; accounts.decoy(b"carol").as_slice() == salt);

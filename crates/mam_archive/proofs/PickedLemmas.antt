@@ -4,6 +4,7 @@ use Rattle.std.specs.Prelude.{Option, Some, None, is_some}
 use Rattle.std.specs.List.{filter}
 use Rattle.std.proofs.lemmas.Bool.{and_parts}
 use Rattle.std.proofs.lemmas.Slice.Eq.{bytes_eq-Decides}
+use Rattle.hash_keys.specs.declared.key.HashKey.{HashKey}
 use Rattle.jid_core.specs.Addresses.{Address, bare, same_address, same_bare, same_part}
 use Rattle.jid_core.proofs.AddressLemmas.{same_address-equal}
 use Rattle.rsm_paging.specs.Pages.{id_of, is_of}
@@ -57,37 +58,38 @@ of-face asked other same = by (is_some asked.resource) same where
   by true same = ap (same_address asked) same ∙ address-same asked
   by false same = ap (same_bare asked) same ∙ bare-same asked
 
-key-of : (e : Extent) (a b : Address) → face e a ≡ face e b → key e a ≡ key e b
-key-of Bare a b same = ap (key Bare) same
-key-of Full a b same = ap (key Full) same
+module _ (hash_key : HashKey) where
+  key-of : (e : Extent) (a b : Address) → face e a ≡ face e b → key hash_key e a ≡ key hash_key e b
+  key-of Bare a b same = ap (key hash_key Bare) same
+  key-of Full a b same = ap (key hash_key Full) same
 
--- rows of one key that are all of the peer are those of the peer
+  -- rows of one key that are all of the peer are those of the peer
 
-all-of : (asked : Address) (rows : List Row)
-    → AreOf (extent_of asked) (face (extent_of asked) asked) (rows_with (extent_of asked) (key (extent_of asked) asked) rows)
-    → rows_with (extent_of asked) (key (extent_of asked) asked) rows ≡ filter (λ row. is_of asked row.peer) rows
-all-of asked [] all = refl
-all-of asked (r ∷ rows) all = by (nat_eq (key e asked) (key e r.peer)) refl all (all-of asked rows) where
-  e : Extent
-  e = extent_of asked
+  all-of : (asked : Address) (rows : List Row)
+      → AreOf (extent_of asked) (face (extent_of asked) asked) (rows_with hash_key (extent_of asked) (key hash_key (extent_of asked) asked) rows)
+      → rows_with hash_key (extent_of asked) (key hash_key (extent_of asked) asked) rows ≡ filter (λ row. is_of asked row.peer) rows
+  all-of asked [] all = refl
+  all-of asked (r ∷ rows) all = by (nat_eq (key hash_key e asked) (key hash_key e r.peer)) refl all (all-of asked rows) where
+    e : Extent
+    e = extent_of asked
 
-  rest : List Row
-  rest = rows_with e (key e asked) rows
+    rest : List Row
+    rest = rows_with hash_key e (key hash_key e asked) rows
 
-  not-of : nat_eq (key e asked) (key e r.peer) ≡ false → (b : Bool) → is_of asked r.peer ≡ b → b ≡ false
-  not-of apart false is = refl
-  not-of apart true is =
-      let same = key-of e r.peer asked (face-of asked r.peer is) in
-      absurd (let z : true ≡ false = sym (nat_eq-same (key e asked)) ∙ ap (nat_eq (key e asked)) (sym same) ∙ apart in cc)
+    not-of : nat_eq (key hash_key e asked) (key hash_key e r.peer) ≡ false → (b : Bool) → is_of asked r.peer ≡ b → b ≡ false
+    not-of apart false is = refl
+    not-of apart true is =
+        let same = key-of e r.peer asked (face-of asked r.peer is) in
+        absurd (let z : true ≡ false = sym (nat_eq-same (key hash_key e asked)) ∙ ap (nat_eq (key hash_key e asked)) (sym same) ∙ apart in cc)
 
-  by : (b : Bool) → nat_eq (key e asked) (key e r.peer) ≡ b → AreOf e (face e asked) (if b then r ∷ rest else rest)
-      → (AreOf e (face e asked) rest → rest ≡ filter (λ row. is_of asked row.peer) rows)
-      → (if b then r ∷ rest else rest)
-      ≡ (if is_of asked r.peer then r ∷ filter (λ row. is_of asked row.peer) rows else filter (λ row. is_of asked row.peer) rows)
-  by true is all later = rw (of-face asked r.peer all.0) (ap (λ (l : List Row). r ∷ l) (later all.1))
-  by false is all later = rw (not-of is (is_of asked r.peer) refl) (later all)
+    by : (b : Bool) → nat_eq (key hash_key e asked) (key hash_key e r.peer) ≡ b → AreOf e (face e asked) (if b then r ∷ rest else rest)
+        → (AreOf e (face e asked) rest → rest ≡ filter (λ row. is_of asked row.peer) rows)
+        → (if b then r ∷ rest else rest)
+        ≡ (if is_of asked r.peer then r ∷ filter (λ row. is_of asked row.peer) rows else filter (λ row. is_of asked row.peer) rows)
+    by true is all later = rw (of-face asked r.peer all.0) (ap (λ (l : List Row). r ∷ l) (later all.1))
+    by false is all later = rw (not-of is (is_of asked r.peer) refl) (later all)
 
-pub picked-is : (asked : Address) (rows : List Row) (made : ℕ) (es : Entries) → IsListed (extent_of asked) rows made es
-    → AreOf (extent_of asked) (face (extent_of asked) asked) (rows_with (extent_of asked) (key (extent_of asked) asked) rows)
-    → (list_at (key (extent_of asked) asked) es).ids ≡ map id_of (filter (λ row. is_of asked row.peer) rows)
-picked-is asked rows made es was all = was.ids (key (extent_of asked) asked) ∙ ap (map id_of) (all-of asked rows all)
+  pub picked-is : (asked : Address) (rows : List Row) (made : ℕ) (es : Entries) → IsListed hash_key (extent_of asked) rows made es
+      → AreOf (extent_of asked) (face (extent_of asked) asked) (rows_with hash_key (extent_of asked) (key hash_key (extent_of asked) asked) rows)
+      → (list_at (key hash_key (extent_of asked) asked) es).ids ≡ map id_of (filter (λ row. is_of asked row.peer) rows)
+  picked-is asked rows made es was all = was.ids (key hash_key (extent_of asked) asked) ∙ ap (map id_of) (all-of asked rows all)

@@ -1,5 +1,6 @@
 -- An archive of messages (XEP-0313, 2).
 use Rattle.std.specs.Prelude.{ℕ, ◌+◌, ◌-◌, nat_eq, nat_lt, min, max, List, [], ◌∷◌, ◌++◌, drop, take, length, slice_get, Option, Some, None, if◌then◌else◌}
+use Rattle.hash_keys.specs.declared.key.HashKey.{HashKey}
 use Rattle.jid_core.specs.Addresses.{Address}
 use Rattle.rsm_paging.specs.declared.ask.Row.{Row}
 use Rattle.mam_archive.specs.Peers.{key}
@@ -14,6 +15,7 @@ pub record Archive : Type 0 where
   pub kept : List Row  -- the rows that are kept, the oldest first
   pub made : ℕ  -- how many rows were ever added
   pub spare : ℕ  -- how many rows more the memory holds that is taken
+  pub hash_key : HashKey  -- by which peers are hashed
   pub bare : List Place  -- the places that the index of bare peers holds
   pub full : List Place  -- and those of the index of full peers
 
@@ -60,7 +62,7 @@ until_at k (place ∷ more) = if nat_eq k place.key then place.until else until_
 
 -- how many rows more of a peer have their places in the index
 abbrev pub room : Address → Archive → ℕ
-room peer a = min (until_at (key Bare peer) a.bare) (until_at (key Full peer) a.full) - a.made
+room peer a = min (until_at (key a.hash_key Bare peer) a.bare) (until_at (key a.hash_key Full peer) a.full) - a.made
 
 -- how long the text is that the next row displaces
 abbrev pub freed : Archive → ℕ

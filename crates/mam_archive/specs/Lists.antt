@@ -2,6 +2,7 @@
 use Rattle.std.specs.Prelude.{ℕ, ◌+◌, ◌≡◌, ◌≤◌, List, [], map, Bool, false, Option, Some, None, nat_eq}
 use Rattle.std.specs.List.{AllByRecursion, filter}
 use Rattle.std.specs.Map.{lookup}
+use Rattle.hash_keys.specs.declared.key.HashKey.{HashKey}
 use Rattle.jid_core.specs.Addresses.{Address}
 use Rattle.rsm_paging.specs.Pages.{id_of}
 use Rattle.rsm_paging.specs.declared.ask.Row.{Row}
@@ -34,8 +35,8 @@ abbrev pub KeepsOthers : ℕ → Entries → Entries → Type 0
 KeepsOthers k old new = (q : ℕ) → nat_eq k q ≡ false → list_at q new ≡ list_at q old
 
 -- the rows whose peers have this key
-abbrev pub rows_with : Extent → ℕ → List Row → List Row
-rows_with e k rows = filter (λ row. nat_eq k (key e row.peer)) rows
+abbrev pub rows_with : HashKey → Extent → ℕ → List Row → List Row
+rows_with hash_key e k rows = filter (λ row. nat_eq k (key hash_key e row.peer)) rows
 
 -- the rows are of one peer
 abbrev pub AreOf : Extent → Address → List Row → Type 0
@@ -45,10 +46,10 @@ abbrev pub AreAlike : Extent → List Row → Type 0
 AreAlike e rows = (a : Address) × AreOf e a rows
 
 -- the lists are those of these rows, of so many that were made
-pub record IsListed (e : Extent) (rows : List Row) (made : ℕ) (es : Entries) : Type 0 where
-  pub ids : (k : ℕ) → (list_at k es).ids ≡ map id_of (rows_with e k rows)
+pub record IsListed (hash_key : HashKey) (e : Extent) (rows : List Row) (made : ℕ) (es : Entries) : Type 0 where
+  pub ids : (k : ℕ) → (list_at k es).ids ≡ map id_of (rows_with hash_key e k rows)
   pub room : (k : ℕ) → (list_at k es).until ≤ made + (list_at k es).free
-  pub alike : (k : ℕ) → (list_at k es).mixed ≡ false → AreAlike e (rows_with e k rows)
+  pub alike : (k : ℕ) → (list_at k es).mixed ≡ false → AreAlike e (rows_with hash_key e k rows)
 
 -- the places that the lists hold
 abbrev pub places : Entries → List Place

@@ -1,5 +1,6 @@
 -- What stands in an archive.
 use Rattle.std.specs.Prelude.{ℕ, ◌+◌, ◌^◌, ◌≡◌, ◌<◌, ◌≤◌, List, [], ◌∷◌, drop, length, ⊤}
+use Rattle.hash_keys.specs.declared.key.HashKey.{HashKey}
 use Rattle.rsm_paging.specs.Pages.{StampsRise}
 use Rattle.rsm_paging.specs.declared.ask.Row.{Row}
 use Rattle.mam_archive.specs.Archives.{most_kept, texts_length}
@@ -22,10 +23,10 @@ pub record IsSound (rows : List Row) (gone made bytes : ℕ) : Type 0 where
   pub texts : bytes ≡ texts_length (drop gone rows)
 
 -- the index is that of these rows, of so many that were made
-pub record IsIndexed (rows : List Row) (made : ℕ) (index : Index) : Type 0 where
-  pub bare : IsListed Bare rows made index.bare.entries
-  pub full : IsListed Full rows made index.full.entries
+pub record IsIndexed (hash_key : HashKey) (rows : List Row) (made : ℕ) (index : Index) : Type 0 where
+  pub bare : IsListed hash_key Bare rows made index.bare.entries
+  pub full : IsListed hash_key Full rows made index.full.entries
 
-pub record IsWhole (rows : List Row) (gone made bytes : ℕ) (index : Index) : Type 0 where
+pub record IsWhole (hash_key : HashKey) (rows : List Row) (gone made bytes : ℕ) (index : Index) : Type 0 where
   pub sound : IsSound rows gone made bytes
-  pub indexed : IsIndexed (drop gone rows) made index
+  pub indexed : IsIndexed hash_key (drop gone rows) made index

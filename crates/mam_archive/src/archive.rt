@@ -10,6 +10,7 @@ use crate::ids::{forget, make_room};
 use crate::index::Index;
 use crate::lists::{holds_only, ids_at};
 use crate::peers::{extent_of, key_of};
+use hash_keys::HashKey;
 use jid_core::Jid;
 use rsm_paging::{Filter, Page, PageAsk, PageFault, Row, page, page_of, page_of_all};
 use stanza_tree::{NoMemory, Text};
@@ -33,6 +34,7 @@ pub struct Archive {
     gone: usize,
     made: u64,
     bytes: u128,
+    hash_key: HashKey,
     index: Index,
     alloc: Global,
 }
@@ -94,23 +96,25 @@ impl Model for Archive {
       kept = drop a.gone a.rows.items;
       made = a.made;
       spare = vec_capacity a.rows - length a.rows.items;
+      hash_key = a.hash_key;
       bare = places a.index.bare.entries;
       full = places a.index.full.entries;
     } };
 
-    ghost invariant = { λ a. IsWhole a.rows.items a.gone a.made a.bytes a.index };
+    ghost invariant = { λ a. IsWhole a.hash_key a.rows.items a.gone a.made a.bytes a.index };
 }
 
 impl Archive {
-    /// An empty archive. Takes no memory.
-    pub fn new(alloc: Global) -> Archive
-        ensures { result ≡ record { kept = []; made = 0; spare = 0; bare = []; full = [] } }
+    /// An empty archive, whose peers are found by this key. Takes no memory.
+    pub fn new(alloc: Global, hash_key: HashKey) -> Archive
+        ensures { result ≡ record { kept = []; made = 0; spare = 0; hash_key = hash_key; bare = []; full = [] } }
     {
         Archive {
             rows: Vec::new(alloc),
             gone: 0,
             made: 0,
             bytes: 0,
+            hash_key,
             index: Index::new(alloc),
             alloc,
         }
@@ -140,7 +144,7 @@ impl Archive {
     {
         let extent = extent_of(asked);
         let lists = self.index.lists(extent);
-        let key = key_of(extent, asked);
+        let key = key_of(self.hash_key, extent, asked);
         if holds_only(self.rows(), lists, key, extent, asked) {
             Some(ids_at(lists, key))
         } else {
@@ -195,7 +199,8 @@ impl Archive {
             return Err(NoMemory);
         };
         make_room(&mut self.rows, many)?;
-        self.index.reserve(self.alloc, peer, many, until)
+        self.index
+            .reserve(self.alloc, self.hash_key, peer, many, until)
     }
 
     /// The oldest row isn't kept any more, and gives up its text.
@@ -206,8 +211,11 @@ impl Archive {
         ensures spare { self.old.spare ≤ self.new.spare }
         ensures room { (p : Address) → room p self.old ≤ room p self.new }
     {
-        self.index
-            .drop_first(later(self.rows.as_slice(), self.gone), self.made);
+        self.index.drop_first(
+            later(self.rows.as_slice(), self.gone),
+            self.hash_key,
+            self.made,
+        );
         let length = lose_text(self.alloc, &mut self.rows, self.gone);
         self.bytes -= length as u128;
         self.gone += 1;
@@ -255,8 +263,12 @@ impl Archive {
         let length = length_of(&text);
         self.make_place();
         let id = self.made + 1;
-        self.index
-            .add(later(self.rows.as_slice(), self.gone), &peer, id);
+        self.index.add(
+            later(self.rows.as_slice(), self.gone),
+            self.hash_key,
+            &peer,
+            id,
+        );
         self.made = id;
         self.bytes += length as u128;
         self.rows.push_reserved(Row {

@@ -2,6 +2,7 @@
 ghost use Rattle.std.specs.Prelude.{◌≡◌, ◌+◌, ◌-◌, ◌<◌, ◌≤◌, ◌++◌, ◌∷◌, [], ℕ, List, None, drop, length, max, nat_eq, not, true, false, IfOk, IfSome, OnOk};
 ghost use Rattle.std.specs.Map.{lookup};
 ghost use Rattle.std.specs.Option.{option_copied};
+ghost use Rattle.hash_keys.specs.declared.key.HashKey.{HashKey};
 ghost use Rattle.rsm_paging.specs.Pages.{Follow};
 ghost use Rattle.rsm_paging.specs.declared.ask.Row.{Row};
 ghost use Rattle.mam_archive.specs.Lists.{AreOf, IsBlank, IsListed, KeepsOthers, held, list_at, rows_with};
@@ -10,6 +11,7 @@ ghost use Rattle.mam_archive.specs.declared.peers.Extent.{Extent};
 
 use crate::ids::Ids;
 use crate::peers::{Extent, is_alike, key_of};
+use hash_keys::HashKey;
 use indexmap::IndexMap;
 use jid_core::Jid;
 use rsm_paging::{Row, row_of};
@@ -92,7 +94,8 @@ fn drop_at(lists: &mut Lists, key: u64, made: u64) -> bool
 fn take_out(lists: &mut Lists, key: u64, made: u64)
     requires { IsBlank made (list_at key lists.old.entries) }
     ensures until { (k : ℕ) → (list_at k lists.old.entries).until ≤ max made (list_at k lists.new.entries).until }
-    ensures listed { (e : Extent) (rows : List Row) → IsListed e rows made lists.old.entries → IsListed e rows made lists.new.entries }
+    ensures listed { (hash_key : HashKey) (e : Extent) (rows : List Row) → IsListed hash_key e rows made lists.old.entries
+        → IsListed hash_key e rows made lists.new.entries }
 {
     remove_at(lists, key);
 }
@@ -107,9 +110,8 @@ fn remove_at(lists: &mut Lists, key: u64)
 /// Whether all rows of the key of a peer are of this peer.
 pub(crate) fn holds_only(rows: &[Row], lists: &Lists, at: u64, extent: Extent, peer: &Jid) -> bool
     requires ids { (n : ℕ) × Follow n rows.now }
-    requires at { at ≡ key extent peer.now }
-    ensures { (made : ℕ) → IsListed extent rows.now made lists.now.entries → result ≡ true
-        → AreOf extent (face extent peer.now) (rows_with extent (key extent peer.now) rows.now) }
+    ensures { (hash_key : HashKey) (made : ℕ) → at ≡ key hash_key extent peer.now → IsListed hash_key extent rows.now made lists.now.entries
+        → result ≡ true → AreOf extent (face extent peer.now) (rows_with hash_key extent at rows.now) }
 {
     let Some(list) = lists.get(&at) else {
         return true;
@@ -133,33 +135,46 @@ pub(crate) fn reserve(
 ) -> Result<(), NoMemory>
     ensures ok { OnOk result (until ≤ (list_at key lists.new.entries).until) }
     ensures keeps { (k : ℕ) → (list_at k lists.old.entries).until ≤ (list_at k lists.new.entries).until }
-    ensures listed { (e : Extent) (rows : List Row) (made : ℕ) → until ≤ made + many
-        → IsListed e rows made lists.old.entries → IsListed e rows made lists.new.entries }
+    ensures listed { (hash_key : HashKey) (e : Extent) (rows : List Row) (made : ℕ) → until ≤ made + many
+        → IsListed hash_key e rows made lists.old.entries → IsListed hash_key e rows made lists.new.entries }
 {
     reserve_at(lists, alloc, key, many, until)
 }
 
 /// Notes a row that comes behind these, in room that was reserved.
-pub(crate) fn add(lists: &mut Lists, rows: &[Row], extent: Extent, peer: &Jid, id: u64)
+pub(crate) fn add(
+    lists: &mut Lists,
+    rows: &[Row],
+    hash_key: HashKey,
+    extent: Extent,
+    peer: &Jid,
+    id: u64,
+)
     requires ids { (n : ℕ) × Follow n rows.now }
-    requires room { 0 < (list_at (key extent peer.now) lists.old.entries).free }
+    requires room { 0 < (list_at (key hash_key extent peer.now) lists.old.entries).free }
     ensures until { (k : ℕ) → (list_at k lists.new.entries).until ≡ (list_at k lists.old.entries).until }
-    ensures listed { (made : ℕ) (row : Row) → IsListed extent rows.now made lists.old.entries → row.peer ≡ peer.now → row.id ≡ id
-        → IsListed extent (rows.now ++ row ∷ []) (made + 1) lists.new.entries }
+    ensures listed { (made : ℕ) (row : Row) → IsListed hash_key extent rows.now made lists.old.entries → row.peer ≡ peer.now → row.id ≡ id
+        → IsListed hash_key extent (rows.now ++ row ∷ []) (made + 1) lists.new.entries }
 {
-    let key = key_of(extent, peer);
+    let key = key_of(hash_key, extent, peer);
     let only = holds_only(rows, lists, key, extent, peer);
     push_at(lists, key, id, !only);
 }
 
 /// The first of the rows is there no more, which is of this peer.
-pub(crate) fn drop_first(lists: &mut Lists, extent: Extent, peer: &Jid, made: u64)
-    requires { 0 < length (list_at (key extent peer.now) lists.old.entries).ids }
+pub(crate) fn drop_first(
+    lists: &mut Lists,
+    hash_key: HashKey,
+    extent: Extent,
+    peer: &Jid,
+    made: u64,
+)
+    requires { 0 < length (list_at (key hash_key extent peer.now) lists.old.entries).ids }
     ensures until { (k : ℕ) → (list_at k lists.old.entries).until ≤ max made (list_at k lists.new.entries).until }
-    ensures listed { (first : Row) (more : List Row) → IsListed extent (first ∷ more) made lists.old.entries → first.peer ≡ peer.now
-        → IsListed extent more made lists.new.entries }
+    ensures listed { (first : Row) (more : List Row) → IsListed hash_key extent (first ∷ more) made lists.old.entries
+        → first.peer ≡ peer.now → IsListed hash_key extent more made lists.new.entries }
 {
-    let key = key_of(extent, peer);
+    let key = key_of(hash_key, extent, peer);
     if drop_at(lists, key, made) {
         take_out(lists, key, made);
     }
@@ -182,7 +197,8 @@ fn blank_key(lists: &Lists, place: u64, made: u64) -> Option<u64>
 /// Looks at one list, another with each row that is made: one that is blank leaves.
 pub(crate) fn sweep(lists: &mut Lists, made: u64)
     ensures until { (k : ℕ) → (list_at k lists.old.entries).until ≤ max made (list_at k lists.new.entries).until }
-    ensures listed { (e : Extent) (rows : List Row) → IsListed e rows made lists.old.entries → IsListed e rows made lists.new.entries }
+    ensures listed { (hash_key : HashKey) (e : Extent) (rows : List Row) → IsListed hash_key e rows made lists.old.entries
+        → IsListed hash_key e rows made lists.new.entries }
 {
     if let Some(key) = blank_key(lists, made, made) {
         take_out(lists, key, made);

@@ -1,10 +1,10 @@
 //! By what of their addresses peers are told apart.
 ghost use Rattle.std.specs.Prelude.{◌≡◌, ◌↔◌, [], IsTrue, unwrap_or, is_some};
-ghost use Rattle.std.specs.Hash.DefaultHasher as sip;
 ghost use Rattle.mam_archive.specs.Peers.{address_hash, extent_of, face, key};
 
+use hash_keys::HashKey;
 use jid_core::{Jid, Part};
-use std::hash::{DefaultHasher, Hasher};
+use std::hash::{BuildHasher, Hasher};
 
 /// What of an address counts.
 #[derive(Clone, Copy)]
@@ -47,10 +47,10 @@ fn bytes_of(part: &Option<Part>) -> &[u8]
 }
 
 #[tactic(auto, unfolding(crate::specs::Peers::address_hash))]
-fn hash_of(peer: &Jid, resource: &[u8]) -> u64
-    ensures { result ≡ address_hash peer.now.local peer.now.domain resource.now }
+fn hash_of(hash_key: HashKey, peer: &Jid, resource: &[u8]) -> u64
+    ensures { result ≡ address_hash hash_key peer.now.local peer.now.domain resource.now }
 {
-    let mut hasher = DefaultHasher::new();
+    let mut hasher = hash_key.build_hasher();
     hasher.write(bytes_of(&peer.local));
     hasher.write(b"/");
     hasher.write(peer.domain.bytes());
@@ -60,11 +60,11 @@ fn hash_of(peer: &Jid, resource: &[u8]) -> u64
 }
 
 /// The hash of what counts of an address.
-pub(crate) fn key_of(extent: Extent, peer: &Jid) -> u64
-    ensures { result ≡ key extent peer.now }
+pub(crate) fn key_of(hash_key: HashKey, extent: Extent, peer: &Jid) -> u64
+    ensures { result ≡ key hash_key extent peer.now }
 {
     match extent {
-        Extent::Bare => hash_of(peer, &[]),
-        Extent::Full => hash_of(peer, bytes_of(&peer.resource)),
+        Extent::Bare => hash_of(hash_key, peer, &[]),
+        Extent::Full => hash_of(hash_key, peer, bytes_of(&peer.resource)),
     }
 }

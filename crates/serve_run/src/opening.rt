@@ -15,6 +15,8 @@ ghost use Rattle.serve_run.specs.Services.{IsRefused, entries_for, tally};
 
 use crate::limits::{limits_of, most_lines};
 use account_book::{Accounts, BookFault};
+use hash_keys::HashKey;
+use hmac_kdf::hmac_sha256;
 use house_core::House;
 use jid_core::{Jid, Part};
 use outside::{Filled, Ports};
@@ -27,12 +29,13 @@ pub(crate) fn accounts_of(
     alloc: Global,
     list: &[u8],
     secret: [u8; 32],
+    key: HashKey,
     sessions: u32,
 ) -> Result<Accounts, Status>
     ensures read { IfOk result (λ book. entries_for sessions list.now ≡ Ok (map entry_of book.accounts)) }
     ensures refused { IfErr result (IsRefused (entries_for sessions list.now)) }
 {
-    match Accounts::read_most(alloc, list, secret, most_lines(sessions)) {
+    match Accounts::read_most(alloc, list, secret, key, most_lines(sessions)) {
         Ok(accounts) => Ok(accounts),
         Err(BookFault::NoMemory) => Err(Status::NoMemory),
         Err(BookFault::Line { line, kind: _ }) => Err(Status::Accounts(line)),
@@ -53,19 +56,21 @@ fn users_of(alloc: Global, accounts: &Accounts) -> Result<Vec<Part>, NoMemory>
     Ok(users)
 }
 
-/// A house with so many lines and sessions for the users of accounts, before its first event.
+/// A house with so many lines and sessions for the users of accounts, before its first event. Names are hashed by the key.
 pub(crate) fn house_of(
     alloc: Global,
     domain: &Jid,
     accounts: &Accounts,
     lines: u32,
     sessions: u32,
+    key: HashKey,
 ) -> Result<House, NoMemory>
     ensures new { IfOk result (λ h. StandsFor (opening_with (limits sessions) domain.now (names_of accounts.now.accounts) lines) [] (held h)) }
     ensures lines { IfOk result (λ h. length h.table.lines ≡ lines) }
 {
     let users = users_of(alloc, accounts)?;
-    House::with_limits(alloc, domain, users.as_slice(), lines, limits_of(sessions))
+    let limits = limits_of(sessions);
+    House::with_limits(alloc, domain, users.as_slice(), lines, limits, key)
 }
 
 /// Random bytes that nobody else knows.
@@ -80,4 +85,12 @@ pub(crate) fn secret_of<P: Ports>(ports: &mut P) -> Result<[u8; 32], Status>
         Filled::Full => Ok(secret),
         Filled::Failed => Err(Status::ListenFault),
     }
+}
+
+/// The key by which names are hashed, made of bytes that nobody else knows, of which it tells nothing (RFC 5869, 2.3, with one block).
+pub(crate) fn hash_key(secret: &[u8; 32]) -> HashKey {
+    let mac = hmac_sha256(secret, b"names\x01");
+    let mut bytes = [0u8; 16];
+    bytes.copy_from_slice(&mac[..16]);
+    HashKey::of(bytes)
 }

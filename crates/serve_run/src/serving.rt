@@ -13,7 +13,7 @@ ghost use Rattle.serve_run.specs.Services.{CameShort, IsRefused, LeftUnserved, L
 ghost use Rattle.serve_run.specs.Services.{address_at, entries_for, opening_for, tally};
 
 use crate::list::read_list;
-use crate::opening::{accounts_of, house_of, secret_of};
+use crate::opening::{accounts_of, hash_key, house_of, secret_of};
 use crate::report::print_report;
 use account_book::Accounts;
 use conn_staff::{Worked, serve_posts};
@@ -69,9 +69,17 @@ fn open<P: Ports>(
     ensures refused { IfErr result (λ s. Refused serving.now.sessions list.now s (Rose (P.faults ports.old) (P.faults ports.new))) }
 {
     let secret = secret_of(ports)?;
-    let accounts = accounts_of(alloc, list, secret, serving.sessions)?;
+    let key = hash_key(&secret);
+    let accounts = accounts_of(alloc, list, secret, key, serving.sessions)?;
     let lines = serving.workers * serving.links;
-    let house = house_of(alloc, &serving.domain, &accounts, lines, serving.sessions)?;
+    let house = house_of(
+        alloc,
+        &serving.domain,
+        &accounts,
+        lines,
+        serving.sessions,
+        key,
+    )?;
     Ok((accounts, house))
 }
 

@@ -7,6 +7,7 @@ use Rattle.std.proofs.lemmas.List.Quantifiers.{position-Some}
 use Rattle.std.specs.Map.{keys_of, lookup, values_of}
 use Rattle.std.specs.Option.{option_eq, option_map}
 use Rattle.indexmap.specs.IndexMap.{set_value_at}
+use Rattle.hash_keys.specs.declared.key.HashKey.{HashKey}
 use Rattle.jid_core.specs.Addresses.{Address}
 use Rattle.session_table.specs.declared.session.Change.{Change}
 use Rattle.session_table.specs.declared.session.Change.TheVariants.{Held, Left, Ended}
@@ -77,10 +78,10 @@ lookup_new n last made (e ∷ more) climbs new =
     ap (λ b. cond b (Some e.1) (lookup (nat_eq n) more)) other ∙ lookup_new n e.0 made more climbs.1 new
 
 -- what the owner changes, and what the table does, leaves the hash
-pub hash_changed : (f : SessionRecord → SessionRecord) → ((x : SessionRecord) → (f x).address ≡ x.address) → (h : ℕ)
-    → (s : Option SessionRecord) → has_hash h (option_map f s) ≡ has_hash h s
-hash_changed f stays h None = refl
-hash_changed f stays h (Some s) = ap (λ (a : Address). nat_eq h (user_hash a.local)) (stays s)
+pub hash_changed : (key : HashKey) (f : SessionRecord → SessionRecord) → ((x : SessionRecord) → (f x).address ≡ x.address) → (h : ℕ)
+    → (s : Option SessionRecord) → has_hash key h (option_map f s) ≡ has_hash key h s
+hash_changed key f stays h None = refl
+hash_changed key f stays h (Some s) = ap (λ (a : Address). nat_eq h (user_hash key a.local)) (stays s)
 
 pub address_stays : (change : Change) (x : SessionRecord) → (change_of change x).address ≡ x.address
 address_stays (Held w) x = refl

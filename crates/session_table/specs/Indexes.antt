@@ -4,6 +4,7 @@
 use Rattle.std.specs.Prelude.{◌≡◌, ◌<◌, ◌≤◌, ◌+◌, ℕ, zero, suc, nat_eq, nat_le, Bool, true, false, is_some, length, List, [], ◌∷◌, Option, Some, None, option_map}
 use Rattle.std.specs.Prelude.{if◌then◌else◌, ⊤, ◌≢◌}
 use Rattle.std.specs.Map.{lookup}
+use Rattle.hash_keys.specs.declared.key.HashKey.{HashKey}
 use Rattle.session_table.specs.declared.slots.Slot.{Slot}
 use Rattle.session_table.specs.Hashes.{user_hash}
 use Rattle.session_table.specs.Sessions.{SessionRecord}
@@ -70,47 +71,47 @@ AreWakes (e ∷ more) [] = ⊥
 AreWakes (e ∷ more) (m ∷ ms) = (m ≡ wake_in e.1.session) × AreWakes more ms
 
 -- whether a session of this hash is at a place
-abbrev pub has_hash : ℕ → Option SessionRecord → Bool
-has_hash hash None = false
-has_hash hash (Some s) = nat_eq hash (user_hash s.address.local)
+abbrev pub has_hash : HashKey → ℕ → Option SessionRecord → Bool
+has_hash key hash None = false
+has_hash key hash (Some s) = nat_eq hash (user_hash key s.address.local)
 
 -- the first session of a hash
-abbrev pub first_of : ℕ → Slots → Option ℕ
-first_of hash [] = None
-first_of hash (e ∷ more) = if has_hash hash e.1.session then Some e.0 else first_of hash more
+abbrev pub first_of : HashKey → ℕ → Slots → Option ℕ
+first_of key hash [] = None
+first_of key hash (e ∷ more) = if has_hash key hash e.1.session then Some e.0 else first_of key hash more
 
 -- each session leads to the next one of its hash
-abbrev pub AreLinked : Slots → Type 0
-AreLinked [] = ⊤
-AreLinked (e ∷ more) = ((hash : ℕ) → has_hash hash e.1.session ≡ true → e.1.next ≡ first_of hash more) × AreLinked more
+abbrev pub AreLinked : HashKey → Slots → Type 0
+AreLinked key [] = ⊤
+AreLinked key (e ∷ more) = ((hash : ℕ) → has_hash key hash e.1.session ≡ true → e.1.next ≡ first_of key hash more) × AreLinked key more
 
 -- the heads are the first sessions of the hashes, and the sessions of a hash can be gone through from there
-pub record AreChained (slots : Slots) (heads : List (ℕ × ℕ)) (made : ℕ) : Type 0 where
+pub record AreChained (key : HashKey) (slots : Slots) (heads : List (ℕ × ℕ)) (made : ℕ) : Type 0 where
   pub climbs : Climbs 0 slots made
-  pub linked : AreLinked slots
-  pub firsts : (hash : ℕ) → lookup (nat_eq hash) heads ≡ first_of hash slots
+  pub linked : AreLinked key slots
+  pub firsts : (hash : ℕ) → lookup (nat_eq hash) heads ≡ first_of key hash slots
 
 -- what is true of every table
-pub record IsIndexed (slots : Slots) (wakes : List (Option ℕ)) (heads : List (ℕ × ℕ)) (made there : ℕ) : Type 0 where
-  pub chained : AreChained slots heads made
+pub record IsIndexed (key : HashKey) (slots : Slots) (wakes : List (Option ℕ)) (heads : List (ℕ × ℕ)) (made there : ℕ) : Type 0 where
+  pub chained : AreChained key slots heads made
   pub moments : AreWakes slots wakes
   pub counted : there ≡ length (present slots)
 
 -- the last of the sessions of a hash, or one that is not the first of them
-abbrev pub EndsAt : ℕ → Option ℕ → Slots → Type 0
-EndsAt hash None slots = ⊤
-EndsAt hash (Some number) slots =
-    (place : ℕ) × (slot : Slot) × IsAt place number slot slots × (has_hash hash slot.session ≡ true) × (first_of hash slots ≢ Some number)
+abbrev pub EndsAt : HashKey → ℕ → Option ℕ → Slots → Type 0
+EndsAt key hash None slots = ⊤
+EndsAt key hash (Some number) slots =
+    (place : ℕ) × (slot : Slot) × IsAt place number slot slots × (has_hash key hash slot.session ≡ true) × (first_of key hash slots ≢ Some number)
 
 -- the place of the session of a hash that leads there
-abbrev pub IsLink : ℕ → Option ℕ → Slots → ℕ → Type 0
-IsLink hash next slots place =
-    (number : ℕ) × (slot : Slot) × IsAt place number slot slots × (has_hash hash slot.session ≡ true) × (slot.next ≡ next)
+abbrev pub IsLink : HashKey → ℕ → Option ℕ → Slots → ℕ → Type 0
+IsLink key hash next slots place =
+    (number : ℕ) × (slot : Slot) × IsAt place number slot slots × (has_hash key hash slot.session ≡ true) × (slot.next ≡ next)
 
 -- it, or none where no session has the hash
-abbrev pub IsLinkOrNone : ℕ → Option ℕ → Slots → Option ℕ → Type 0
-IsLinkOrNone hash next slots None = first_of hash slots ≡ None
-IsLinkOrNone hash next slots (Some place) = IsLink hash next slots place
+abbrev pub IsLinkOrNone : HashKey → ℕ → Option ℕ → Slots → Option ℕ → Type 0
+IsLinkOrNone key hash next slots None = first_of key hash slots ≡ None
+IsLinkOrNone key hash next slots (Some place) = IsLink key hash next slots place
 
 -- the places from a number on
 abbrev pub from_number : ℕ → Slots → Slots
@@ -130,16 +131,17 @@ AreRelinked (e ∷ more) [] = ⊥
 AreRelinked (e ∷ more) (f ∷ rest) = (f.0 ≡ e.0) × (f.1.session ≡ e.1.session) × AreRelinked more rest
 
 -- the next session of a hash is there, or none is left
-abbrev pub IsNext : ℕ → Slots → Option ℕ → Type 0
-IsNext hash slots None = ⊤
-IsNext hash slots (Some number) = (place : ℕ) × (slot : Slot) × IsAt place number slot slots × (has_hash hash slot.session ≡ true)
+abbrev pub IsNext : HashKey → ℕ → Slots → Option ℕ → Type 0
+IsNext key hash slots None = ⊤
+IsNext key hash slots (Some number) = (place : ℕ) × (slot : Slot) × IsAt place number slot slots × (has_hash key hash slot.session ≡ true)
 
--- the sessions of a hash can be gone through from there
-pub record IsOnWay (hash : ℕ) (slots : Slots) (next : Option ℕ) : Type 0 where
+-- the sessions of a user's hash can be gone through from there
+pub record IsOnWay (local : Option (List ℕ)) (slots : Slots) (next : Option ℕ) : Type 0 where
+  pub key : HashKey
   pub made : ℕ
   pub climbs : Climbs 0 slots made
-  pub linked : AreLinked slots
-  pub stands : IsNext hash slots next
+  pub linked : AreLinked key slots
+  pub stands : IsNext key (user_hash key local) slots next
 
 -- whether there is a session at a place
 abbrev pub is_filled : ℕ × Slot → Bool

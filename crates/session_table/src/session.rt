@@ -1,11 +1,9 @@
 //! A session, as the table keeps it.
 
 ghost use Rattle.std.specs.Prelude.{◌≡◌, ℕ, ◌||◌, ◌==◌, Some, is_some, nat_eq};
-ghost use Rattle.std.specs.Hash.DefaultHasher as sip;
 ghost use Rattle.std.specs.Borrow.{sem};
 ghost use Rattle.std.specs.Option.{option_copied};
 ghost use Rattle.jid_core.specs.Addresses.{Address, same_address, same_part};
-ghost use Rattle.session_table.specs.Hashes.{user_hash};
 
 use crate::life::Life;
 use jid_core::Jid;
@@ -13,7 +11,6 @@ use sm_queue::SmQueue;
 use sm_resume::{Cause, ResumeId};
 use stanza_tree::{Several, Text};
 use std::alloc::Global;
-use std::hash::{DefaultHasher, Hasher};
 use std::marker::Model;
 
 /// What a session's owner sees to.
@@ -96,8 +93,6 @@ impl Own {
 pub struct Session {
     number: u64,
     address: Jid,
-    // The user's hash.
-    hash: u64,
     holder: Option<u32>,
     state: Life,
     deadline: Option<u64>,
@@ -106,8 +101,6 @@ pub struct Session {
 }
 
 impl Model for Session {
-    ghost use Rattle.std.specs.Prelude.{◌≡◌};
-    ghost use Rattle.session_table.specs.Hashes.{user_hash};
     ghost use Rattle.session_table.specs.Sessions.{SessionRecord};
 
     ghost Value = { SessionRecord };
@@ -131,8 +124,6 @@ impl Model for Session {
       wants_roster = s.own.wants_roster;
       pushes = s.own.pushes;
     } };
-
-    ghost invariant = { λ s. s.hash ≡ user_hash s.address.local };
 }
 
 /// What the table changes of a session.
@@ -156,16 +147,6 @@ pub(crate) fn local_of(address: &Jid) -> Option<&[u8]>
     }
 }
 
-/// The hash of a user, by the bytes of the local part of an address.
-#[tactic(auto, unfolding(crate::specs::Hashes::user_hash))]
-pub(crate) fn hash_of(local: Option<&[u8]>) -> u64
-    ensures { result ≡ user_hash (option_copied local.entry) }
-{
-    let mut hasher = DefaultHasher::new();
-    hasher.write(local.unwrap_or(&[]));
-    hasher.finish()
-}
-
 impl Session {
     ghost use Rattle.session_table.specs.Changes.{change_of};
     ghost use Rattle.session_table.specs.Waking.{wake_of};
@@ -178,7 +159,6 @@ impl Session {
     {
         Session {
             number,
-            hash: hash_of(local_of(&address)),
             address,
             holder: Some(w),
             state: Life::Live,
@@ -237,13 +217,6 @@ impl Session {
             (Some(own), Some(local)) => own.bytes() == local,
             _ => false,
         }
-    }
-
-    /// The hash of its user.
-    pub(crate) fn hash(&self) -> u64
-        ensures { result ≡ user_hash self.now.address.local }
-    {
-        self.hash
     }
 
     /// The moment from which it is due.

@@ -7,10 +7,11 @@ ghost use Rattle.std.specs.Option.{option_copied, option_copied_mut, option_map}
 use crate::chains::{Heads, bridge, join};
 use crate::line::Line;
 use crate::room::grow;
-use crate::session::{Change, Own, Session, hash_of, local_of};
+use crate::session::{Change, Own, Session, local_of};
 use crate::slots::{Slots, add, change, empty, find, number_at, session_at, visit};
 use crate::users::{OfUser, find_at};
 use crate::wakes::Wakes;
+use hash_keys::HashKey;
 use indexmap::IndexMap;
 use jid_core::{Jid, Part};
 use sm_resume::Cause;
@@ -44,10 +45,10 @@ impl Model for Table {
       opened = t.opened;
       made = t.made;
       sessions = present t.slots.entries;
-      spare = min (min (spare t.slots) (spare t.heads)) (min (length t.wakes - length t.slots.entries) (2 ^ 64 - 1 - t.made));
+      spare = min (min (spare t.slots) (spare t.heads.firsts)) (min (length t.wakes - length t.slots.entries) (2 ^ 64 - 1 - t.made));
     } };
 
-    ghost invariant = { λ t. IsIndexed t.slots.entries t.wakes t.heads.entries t.made t.there };
+    ghost invariant = { λ t. IsIndexed t.heads.key t.slots.entries t.wakes t.heads.firsts.entries t.made t.there };
 }
 
 impl Table {
@@ -58,8 +59,8 @@ impl Table {
     ghost use Rattle.session_table.specs.Tables.{is_fresh, is_logged, is_there, line_ended, line_of, logged_in, new_table};
     ghost use Rattle.session_table.specs.Tables.{number_at, of_user, session_of, with_conn, with_line, without};
 
-    /// A table of so many lines, all without a connection, and no session.
-    pub fn new(alloc: Global, lines: u32) -> Result<Table, NoMemory>
+    /// A table of so many lines, all without a connection, and no session. Users are found by this key.
+    pub fn new(alloc: Global, lines: u32, key: HashKey) -> Result<Table, NoMemory>
         ensures { IfOk result (λ t. t ≡ new_table lines t.spare) }
     {
         let mut places = Vec::new(alloc);
@@ -71,7 +72,10 @@ impl Table {
             there: 0,
             slots: IndexMap::new(alloc),
             wakes: Wakes::new(alloc),
-            heads: IndexMap::new(alloc),
+            heads: Heads {
+                key,
+                firsts: IndexMap::new(alloc),
+            },
         })
     }
 
@@ -87,7 +91,7 @@ impl Table {
             return Err(NoMemory);
         }
         self.slots.reserve(1)?;
-        self.heads.reserve(1)?;
+        self.heads.firsts.reserve(1)?;
         if self.slots.len() == self.wakes.len() {
             let alloc = *self.lines.allocator();
             grow(alloc, &mut self.slots, &mut self.wakes, self.there)?;
@@ -183,7 +187,8 @@ impl Table {
         let Some(session) = &slot.session else {
             return;
         };
-        let (hash, next) = (session.hash(), slot.next);
+        let hash = self.heads.hash_of(local_of(session.address()));
+        let next = slot.next;
         bridge(&mut self.slots, &mut self.heads, hash, s, next);
         empty(&mut self.slots, place);
         self.wakes.set(place, None);
@@ -310,7 +315,7 @@ impl Table {
         self.made += 1;
         self.there += 1;
         let alloc = *self.lines.allocator();
-        let hash = hash_of(local_of(&address));
+        let hash = self.heads.hash_of(local_of(&address));
         join(&mut self.slots, &mut self.heads, hash, self.made);
         let session = Session::begin(alloc, self.made, address, w);
         add(&mut self.slots, self.made, session);

@@ -4,12 +4,11 @@ ghost use Rattle.std.specs.Prelude.{◌≡◌, ℕ, length};
 ghost use Rattle.std.specs.Iterator.{at_most};
 ghost use Rattle.std.specs.Map.Iter.{TakesFirst, deref_pair};
 ghost use Rattle.std.specs.Option.{option_copied};
-ghost use Rattle.session_table.specs.Hashes.{user_hash};
 ghost use Rattle.session_table.specs.Indexes.{AreChained, IsOnWay, from, present};
 ghost use Rattle.session_table.specs.Tables.{number_at, of_user};
 
 use crate::chains::Heads;
-use crate::session::{Session, hash_of, local_of};
+use crate::session::{Session, local_of};
 use crate::slots::{Slots, stand};
 use jid_core::Jid;
 use std::marker::Model;
@@ -25,7 +24,6 @@ pub struct OfUser<'a> {
 impl<'a> Model for OfUser<'a> {
     ghost use Rattle.std.specs.Prelude.{ℕ, List};
     ghost use Rattle.std.specs.Option.{option_copied};
-    ghost use Rattle.session_table.specs.Hashes.{user_hash};
     ghost use Rattle.session_table.specs.Indexes.{IsOnWay, from, present};
     ghost use Rattle.session_table.specs.Sessions.{SessionRecord};
     ghost use Rattle.session_table.specs.Tables.{of_user};
@@ -34,7 +32,7 @@ impl<'a> Model for OfUser<'a> {
 
     ghost view = { λ u. of_user (option_copied u.local) (present (from u.next u.slots.now.entries)) };
 
-    ghost invariant = { λ u. IsOnWay (user_hash (option_copied u.local)) u.slots.now.entries u.next };
+    ghost invariant = { λ u. IsOnWay (option_copied u.local) u.slots.now.entries u.next };
 }
 
 // The next session of a user.
@@ -43,8 +41,8 @@ fn advance<'a>(
     local: Option<&[u8]>,
     next: &mut Option<u64>,
 ) -> Option<(&'a u64, &'a Session)>
-    requires { IsOnWay (user_hash (option_copied local)) slots.now.entries next.old }
-    ensures way { IsOnWay (user_hash (option_copied local.entry)) slots.now.entries next.new }
+    requires { IsOnWay (option_copied local) slots.now.entries next.old }
+    ensures way { IsOnWay (option_copied local.entry) slots.now.entries next.new }
     ensures items { TakesFirst deref_pair (of_user (option_copied local.entry) (present (from next.old slots.now.entries))) result
         (of_user (option_copied local.entry) (present (from next.new slots.now.entries))) }
 {
@@ -64,10 +62,10 @@ fn advance<'a>(
 
 impl<'a> OfUser<'a> {
     pub(crate) fn new(slots: &'a Slots, heads: &Heads, local: Option<&'a [u8]>) -> OfUser<'a>
-        requires { (made : ℕ) × AreChained slots.now.entries heads.now.entries made }
+        requires { (made : ℕ) × AreChained heads.now.key slots.now.entries heads.now.firsts.entries made }
         ensures { result ≡ of_user (option_copied local.entry) (present slots.now.entries) }
     {
-        let next = heads.get(&hash_of(local)).copied();
+        let next = heads.firsts.get(&heads.hash_of(local)).copied();
         OfUser { slots, local, next }
     }
 }
@@ -86,7 +84,7 @@ impl<'a> Iterator for OfUser<'a> {
 
 /// The first session at an address.
 pub(crate) fn find_at(slots: &Slots, heads: &Heads, address: &Jid) -> Option<u64>
-    requires { (made : ℕ) × AreChained slots.now.entries heads.now.entries made }
+    requires { (made : ℕ) × AreChained heads.now.key slots.now.entries heads.now.firsts.entries made }
     ensures { result ≡ number_at address.now (present slots.now.entries) }
 {
     for (number, session) in OfUser::new(slots, heads, local_of(address)) {

@@ -18,3 +18,4 @@ pub mod EndLemmas
 pub mod PlainLemmas
 pub mod DeclareLemmas
 pub mod WaitLemmas
+pub mod StandLemmas

@@ -1,11 +1,13 @@
 //! The bytes of a stream become items, however they are cut.
 
-ghost use Rattle.std.specs.Prelude.{◌≡◌, ◌≤◌, ◌<◌, ◌+◌, List, [], ◌∷◌, ℕ, take, drop, length, true, false};
+ghost use Rattle.std.specs.Prelude.{◌≡◌, ◌≤◌, ◌<◌, ◌+◌, List, [], ◌∷◌, ◌++◌, ℕ, take, drop, length, true, false};
 ghost use Rattle.std.specs.Prelude.{IfOk, IfErr, OnOk, OnErr, Some, None, option_to_list};
 ghost use Rattle.std.specs.Option.{option_copied};
 ghost use Rattle.stream_grammar.specs.machine.Reading.{Reading, reads, stopped, first_reading, reading_next, reading_after};
 ghost use Rattle.stream_grammar.specs.machine.Reading.{byte_judged, waiting, handed, is_ready, is_done, is_stopped, taken};
 ghost use Rattle.stream_grammar.specs.grammar.Bounds.{is_large_item, rules_of};
+ghost use Rattle.stream_grammar.specs.grammar.ItemLists.{AreItems, to_fault};
+ghost use Rattle.stream_grammar.specs.grammar.Takes.{AreTaken};
 ghost use Rattle.stream_grammar.specs.machine.Calls.{Called, feeds, falls_short, hands};
 ghost use Rattle.stream_frames.specs.Fed.{Fed, IsPrepared};
 ghost use Rattle.stream_grammar.specs.machine.Framing.{frame_next};
@@ -15,6 +17,7 @@ ghost use Rattle.stream_grammar.specs.machine.Building.{build_all};
 ghost use Rattle.stream_grammar.specs.machine.Texts.{HasTexts, AreNamed};
 ghost use Rattle.stream_frames.specs.Builds.{building, tag_of};
 ghost use Rattle.stream_frames.specs.Runs.{IsRun};
+ghost use Rattle.stream_frames.specs.Stands.{Stands};
 ghost use Rattle.stream_frames.specs.Works.{work_of};
 
 use crate::built::{Builder, Ready};
@@ -142,6 +145,11 @@ pub struct Short {
 ///
 /// The pieces that it is fed are the bytes of one stream, cut anywhere. It keeps the item that is being read and the names and
 /// bindings of what is open; after a fault it keeps nothing.
+///
+/// What its calls do is said by the grammar in the clause `grammar` of each. From [`Framer::new`] or [`Framer::restart`] on it
+/// `Stands` after the bytes that [`Framer::feed`] took and the items that [`Framer::next`] answered, however the bytes were cut
+/// and the calls alternate, and after each `next` these are just the items of those bytes. The other clauses say the same of the
+/// fold over the bytes that the code computes.
 #[derive(Drop)]
 pub struct Framer {
     alloc: Global,
@@ -174,7 +182,8 @@ impl Model for Framer {
 impl Framer {
     /// A framer that has read nothing.
     pub fn new(alloc: Global, limits: Limits) -> Result<Framer, NoMemory>
-        ensures { IfOk result (λ f. f ≡ record { limits = limits; reading = first_reading }) }
+        ensures begun { IfOk result (λ f. f ≡ record { limits = limits; reading = first_reading }) }
+        ensures grammar { IfOk result (λ f. Stands [] [] f) }
     {
         Ok(Framer {
             alloc,
@@ -274,10 +283,11 @@ impl Framer {
     /// fault every piece is taken whole. Costs the piece's length; at the end of an item its size too, and at the end of a tag the
     /// square of its attributes.
     ///
-    /// The clauses `call` and `short_call` say what the call does in the words of the laws in `stream_laws::calls`. There
-    /// `calls_follow_one_another` joins it to the calls before and after it, `cut_anywhere_all_items_are_handed_out` says that
-    /// what [`Framer::next`] hands out in all are the items of the bytes that were taken, by the grammar, and
-    /// `the_next_call_goes_on_from_the_bytes` how many bytes the next call takes.
+    /// By the grammar (`grammar`, `short_grammar`): the bytes that were taken come after those that were taken before. They go as
+    /// far as the first that ends an item or has a fault; where there was no memory, less far.
+    ///
+    /// The clauses `call` and `short_call` say what the call does in the words of the laws in `stream_laws::calls`, which speak of
+    /// whole lists of calls.
     pub fn feed(&mut self, piece: &[u8]) -> Result<usize, Short>
         requires { is_ready self.old.reading ≡ true }
         ensures limits { self.new.limits ≡ self.old.limits }
@@ -287,6 +297,11 @@ impl Framer {
         ensures kept { IfErr result (λ s. self.new.reading ≡ reading_after self.old.limits self.old.reading (take s.taken piece.now)) }
         ensures call { IfOk result (λ n. Called self.old.limits self.old.reading (feeds piece.now n ∷ []) [] self.new.reading) }
         ensures short_call { IfErr result (λ s. Called self.old.limits self.old.reading (falls_short piece.now s.taken ∷ []) [] self.new.reading) }
+        ensures grammar { IfOk result (λ n. (bytes : List ℕ) (answers : List Item) → Stands bytes answers self.old
+            → Stands (bytes ++ take n piece.now) answers self.new × AreTaken self.old.limits bytes piece.now n) }
+        ensures short_grammar { IfErr result (λ s. (bytes : List ℕ) (answers : List Item) → Stands bytes answers self.old
+            → Stands (bytes ++ take s.taken piece.now) answers self.new
+            × ((n : ℕ) × AreTaken self.old.limits bytes piece.now n × (s.taken < n))) }
     {
         let taken = self.read(piece);
         self.work.release();
@@ -295,13 +310,16 @@ impl Framer {
 
     /// The item that waits. A fault is answered at every call.
     ///
-    /// Its clause `call` joins the clauses of [`Framer::feed`] by `calls_follow_one_another` of `stream_laws::calls`, whose other laws
-    /// say what is handed out in all.
+    /// By the grammar (`grammar`): with this answer, all that was answered are the items of the bytes that were taken, up to the
+    /// first fault. The clause `call` says it in the words of `stream_laws::calls`.
     #[tactic(auto, using(crate::proofs::WaitLemmas::none_waits, crate::proofs::WaitLemmas::none_handed, crate::proofs::WaitLemmas::one_called))]
     pub fn next(&mut self) -> Option<Item>
         ensures item { result ≡ waiting self.old.reading }
         ensures handed { self.new ≡ record self.old { reading = handed self.old.reading } }
         ensures call { Called self.old.limits self.old.reading (hands result ∷ []) (option_to_list result) self.new.reading }
+        ensures grammar { (bytes : List ℕ) (answers : List Item) → Stands bytes answers self.old
+            → Stands bytes (answers ++ option_to_list result) self.new
+            × AreItems self.old.limits bytes (to_fault (answers ++ option_to_list result)) }
     {
         if !self.is_done() {
             return None;
@@ -318,7 +336,8 @@ impl Framer {
 
     /// A new stream begins, and its offsets from 0. What was half read is dropped. Takes no memory.
     pub fn restart(&mut self)
-        ensures { self.new ≡ record self.old { reading = first_reading } }
+        ensures begun { self.new ≡ record self.old { reading = first_reading } }
+        ensures grammar { Stands [] [] self.new }
     {
         self.tracker = Tracker::new(self.alloc, self.limits.rules());
         self.work = Work::new(self.alloc);

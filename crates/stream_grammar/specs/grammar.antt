@@ -13,3 +13,5 @@ pub mod Widths
 pub mod Extents
 pub mod Tags
 pub mod Bounds
+pub mod ItemLists
+pub mod Takes

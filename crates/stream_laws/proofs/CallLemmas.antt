@@ -16,9 +16,10 @@ use Rattle.stream_grammar.specs.machine.Reading.{Reading, reads, stopped, first_
 use Rattle.stream_grammar.specs.machine.Reading.{is_ready, is_none, is_done, handed, taken, taken_reading, waiting, went}
 use Rattle.stream_grammar.specs.grammar.Bounds.{rules_of}
 use Rattle.stream_grammar.proofs.FeedLemmas.{stopped_stays}
-use Rattle.stream_laws.specs.ItemLists.{AreEnding, AreItems, brought, items_from}
+use Rattle.stream_grammar.specs.grammar.ItemLists.{AreEnding, AreItems, is_fault, to_fault}
+use Rattle.stream_laws.specs.ItemLists.{brought, items_from}
 use Rattle.stream_grammar.specs.machine.Calls.{Call, feeds, falls_short, hands, Called, bytes_taken}
-use Rattle.stream_laws.specs.CallLists.{IsFedBy, is_fault, to_fault}
+use Rattle.stream_laws.specs.CallLists.{IsFedBy}
 use Rattle.stream_laws.proofs.Handing.{stopped-went, went-more}
 use Rattle.stream_laws.proofs.ItemListLemmas.{brings-more, stopped-brings, ending-is, items_are}
 use Rattle.stream_laws.proofs.TakenLemmas.{handed-ready, going-ready, going-none}

@@ -20,8 +20,9 @@ use Rattle.stream_grammar.specs.machine.Reading.{Reading, reads, stopped, first_
 use Rattle.stream_grammar.specs.grammar.Bounds.{is_large_item, rules_of, told_number}
 use Rattle.stream_grammar.specs.grammar.RoundTrips.{texts_of}
 use Rattle.stream_grammar.specs.grammar.Trees.{RawTag, Content}
-use Rattle.stream_laws.specs.ItemLists.{AreItems, items_from}
-use Rattle.stream_laws.specs.Takes.{IsStop, HasNoStop, IsTaken}
+use Rattle.stream_grammar.specs.grammar.ItemLists.{AreItems}
+use Rattle.stream_laws.specs.ItemLists.{items_from}
+use Rattle.stream_grammar.specs.grammar.Takes.{IsStop, HasNoStop, IsTaken}
 use Rattle.stream_laws.specs.Written.{IsWithin}
 use Rattle.stream_laws.proofs.OpenGrammar.{past-frames}
 use Rattle.stream_laws.proofs.CallLemmas.{reached}

@@ -9,7 +9,8 @@ use Rattle.stream_grammar.specs.declared.item.Limits.{Limits}
 use Rattle.stream_grammar.specs.grammar.Parts.{AreFaultless, IsFirstFault, IsFault}
 use Rattle.stream_grammar.specs.machine.Reading.{Reading, reads, stopped, first_reading, is_stopped, waiting, went}
 use Rattle.stream_grammar.specs.grammar.Bounds.{rules_of, told_number}
-use Rattle.stream_laws.specs.ItemLists.{AreEnding, AreItems, brought, items_from}
+use Rattle.stream_grammar.specs.grammar.ItemLists.{AreEnding, AreItems}
+use Rattle.stream_laws.specs.ItemLists.{brought, items_from}
 use Rattle.stream_laws.proofs.Handing.{went-more}
 use Rattle.stream_laws.proofs.Judged.{none-some}
 use Rattle.stream_laws.proofs.Waiting.{item_waits}

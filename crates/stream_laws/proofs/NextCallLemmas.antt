@@ -1,26 +1,28 @@
 -- A call after others, in the words of the grammar.
-use Rattle.std.proofs.Common.{◌≡◌, ℕ, ◌≤◌, List, [], ◌∷◌, ◌++◌, length, take, sym, ap, ◌∙◌, subst, true, arith}
+use Rattle.std.proofs.Common.{◌≡◌, ℕ, ◌≤◌, ◌⊎◌, inl, inr, List, [], ◌∷◌, ◌++◌, length, take, sym, ap, ◌∙◌, subst, true, arith}
 use Rattle.std.proofs.lemmas.List.{take_all, take-append-le}
 use Rattle.std.specs.Prelude.{Option, Some}
 use Rattle.stanza_tree.specs.declared.node.Element.{Element}
 use Rattle.stanza_tree.specs.Spelling.{text}
+use Rattle.stream_grammar.specs.declared.FrameFault.{FrameFault}
 use Rattle.stream_grammar.specs.declared.item.Item.{Item}
 use Rattle.stream_grammar.specs.declared.item.Item.TheVariants as item
 use Rattle.stream_grammar.specs.declared.item.Limits.{Limits}
-use Rattle.stream_grammar.specs.grammar.Parts.{AreFaultless}
+use Rattle.stream_grammar.specs.grammar.Parts.{AreFaultless, IsFault}
 use Rattle.stream_grammar.specs.machine.Reading.{Reading, first_reading, handed, is_ready, reading_after, taken, waiting, went}
 use Rattle.stream_grammar.specs.grammar.Trees.{RawTag, Content}
 use Rattle.stream_grammar.proofs.FeedLemmas.{piece_went}
 use Rattle.stream_grammar.specs.machine.Calls.{Call, feeds, hands, Called, bytes_taken}
-use Rattle.stream_laws.specs.Takes.{IsTaken}
+use Rattle.stream_grammar.specs.grammar.Takes.{IsTaken, AreTaken}
 use Rattle.stream_laws.specs.Written.{IsWithin}
 use Rattle.stream_laws.proofs.CallLemmas.{stands_there}
 use Rattle.stream_laws.proofs.Handing.{went-more}
 use Rattle.stream_laws.proofs.HandedLemmas.{HasBegun, text-some, handed-goes, written_taken, written_waits}
-use Rattle.stream_laws.proofs.TakenLemmas.{handed-ready, piece_taken}
+use Rattle.stream_laws.proofs.OneFault.{fault_or_none}
+use Rattle.stream_laws.proofs.TakenLemmas.{handed-ready, piece_taken, faulty_taken}
 
 -- a framer that is ready stands where the bytes lead
-ready-stands : (l : Limits) (calls : List Call) (items : List Item) (t : Reading) → Called l first_reading calls items t → is_ready t ≡ true
+pub ready-stands : (l : Limits) (calls : List Call) (items : List Item) (t : Reading) → Called l first_reading calls items t → is_ready t ≡ true
     → t ≡ handed (went l first_reading (bytes_taken calls))
 ready-stands l calls items t fed ready = sym (handed-ready t ready) ∙ stands_there l calls items t fed
 
@@ -30,6 +32,19 @@ pub next_taken : (l : Limits) (calls : List Call) (items later : List Item) (t u
 next_taken l calls items later t u piece n fed clean (ready, count, more) =
     subst (IsTaken l (bytes_taken calls) piece) (sym (count ∙ ap (λ (s : Reading). taken l s piece) (ready-stands l calls items t fed ready)))
     (piece_taken l (bytes_taken calls) piece clean)
+
+-- the same, or all of a piece after a fault
+pub next_are_taken : (l : Limits) (calls : List Call) (items : List Item) (t : Reading) (piece : List ℕ) → Called l first_reading calls items t
+    → is_ready t ≡ true → AreTaken l (bytes_taken calls) piece (taken l t piece)
+next_are_taken l calls items t piece fed ready = by (fault_or_none l (bytes_taken calls))
+  where
+    here : taken l t piece ≡ taken l (handed (went l first_reading (bytes_taken calls))) piece
+    here = ap (λ (s : Reading). taken l s piece) (ready-stands l calls items t fed ready)
+
+    by : AreFaultless l (bytes_taken calls) ⊎ ((k : ℕ) × (f : FrameFault) × IsFault l (bytes_taken calls) k f)
+        → AreTaken l (bytes_taken calls) piece (taken l t piece)
+    by (inl clean) = inl (clean, subst (IsTaken l (bytes_taken calls) piece) (sym here) (piece_taken l (bytes_taken calls) piece clean))
+    by (inr (k, f, is)) = inr (k, f, is, here ∙ faulty_taken l (bytes_taken calls) piece k f is)
 
 pub next_text : (l : Limits) (calls : List Call) (items later : List Item) (t u : Reading) (root : RawTag) (f : Content) (e : Element) (more : List ℕ) (n : ℕ)
     (next : Option Item)

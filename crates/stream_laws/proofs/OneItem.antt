@@ -13,7 +13,8 @@ use Rattle.stream_grammar.specs.machine.Reading.{Reading, reads, stopped, first_
 use Rattle.stream_grammar.specs.machine.Reading.{is_ready, is_none, is_done, handed, taken, taken_reading, waiting, went}
 use Rattle.stream_grammar.specs.grammar.Bounds.{rules_of}
 use Rattle.stream_grammar.proofs.FeedLemmas.{piece_went, stopped_stays}
-use Rattle.stream_laws.specs.ItemLists.{AreItems, AreNext, brought, items_from}
+use Rattle.stream_grammar.specs.grammar.ItemLists.{AreItems, AreNext}
+use Rattle.stream_laws.specs.ItemLists.{brought, items_from}
 use Rattle.stream_laws.proofs.CallLemmas.{reached}
 use Rattle.stream_laws.proofs.Faultless.{faultless_goes, goes-before}
 use Rattle.stream_laws.proofs.Handing.{stopped-went, went-more}

@@ -7,9 +7,9 @@ use Rattle.stream_grammar.specs.declared.item.Item.{Item}
 use Rattle.stream_grammar.specs.declared.item.Limits.{Limits}
 use Rattle.stream_grammar.specs.machine.Reading.{Reading, reads, stopped, first_reading, reading_next, reading_after}
 use Rattle.stream_grammar.specs.machine.Reading.{is_done, is_ready, handed, taken, taken_reading, waiting}
-use Rattle.stream_laws.specs.ItemLists.{AreItems}
+use Rattle.stream_grammar.specs.grammar.ItemLists.{AreItems, to_fault}
 use Rattle.stream_grammar.specs.machine.Calls.{Call, feeds, falls_short, hands, Called, bytes_taken}
-use Rattle.stream_laws.specs.CallLists.{IsFedBy, to_fault, joined, left_before, AreFed}
+use Rattle.stream_laws.specs.CallLists.{IsFedBy, joined, left_before, AreFed}
 use Rattle.stream_laws.proofs.CallLemmas.{taken-fits, all_handed, fed-bytes}
 
 joined-left : (left : List ℕ) (pieces : List (List ℕ)) → joined (left_before left pieces) ≡ left ++ joined pieces

@@ -9,7 +9,7 @@ use Rattle.stream_grammar.specs.declared.item.Limits.{Limits}
 use Rattle.stream_grammar.specs.grammar.Parts.{AreFaultless, IsFault}
 use Rattle.stream_grammar.specs.machine.Reading.{Reading, reads, stopped, first_reading, reading_next, is_stopped, is_ready}
 use Rattle.stream_grammar.specs.machine.Reading.{is_none, is_done, handed, taken, taken_reading, waiting, went}
-use Rattle.stream_laws.specs.Takes.{IsStop, HasNoStop, IsTaken}
+use Rattle.stream_grammar.specs.grammar.Takes.{IsStop, HasNoStop, IsTaken}
 use Rattle.stream_laws.proofs.Judged.{none-some}
 use Rattle.stream_laws.proofs.Waiting.{item_waits}
 use Rattle.stream_laws.proofs.HandedOut.{item_given}

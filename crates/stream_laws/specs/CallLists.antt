@@ -1,7 +1,5 @@
 -- What calls of a framer are fed, and what they hand out.
-use Rattle.std.specs.Prelude.{◌≡◌, ℕ, List, [], ◌∷◌, ◌++◌, drop, Bool, true, false, if◌then◌else◌}
-use Rattle.stream_grammar.specs.declared.item.Item.{Item}
-use Rattle.stream_grammar.specs.declared.item.Item.TheVariants as item
+use Rattle.std.specs.Prelude.{◌≡◌, ℕ, List, [], ◌∷◌, ◌++◌, drop}
 use Rattle.stream_grammar.specs.machine.Calls.{Call, feeds, falls_short, hands}
 
 -- The calls are fed these bytes, cut anywhere, and leave the rest: each piece is what comes next, and of a piece that was not taken whole
@@ -11,15 +9,6 @@ IsFedBy bytes [] rest = bytes ≡ rest
 IsFedBy bytes (feeds piece n ∷ calls) rest = ((more : List ℕ) × (bytes ≡ piece ++ more)) × IsFedBy (drop n bytes) calls rest
 IsFedBy bytes (falls_short piece n ∷ calls) rest = ((more : List ℕ) × (bytes ≡ piece ++ more)) × IsFedBy (drop n bytes) calls rest
 IsFedBy bytes (hands next ∷ calls) rest = IsFedBy bytes calls rest
-
--- up to the first fault, which `next` answers at every call
-abbrev pub is_fault : Item → Bool
-is_fault (item.Broken f k) = true
-is_fault i = false
-
-abbrev pub to_fault : List Item → List Item
-to_fault [] = []
-to_fault (i ∷ items) = i ∷ (if is_fault i then [] else to_fault items)
 
 -- Pieces.
 

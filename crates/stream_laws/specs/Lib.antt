@@ -1,4 +1,3 @@
 pub mod ItemLists
-pub mod Takes
 pub mod CallLists
 pub mod Written

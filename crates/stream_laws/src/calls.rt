@@ -18,10 +18,11 @@ ghost use Rattle.stream_grammar.specs.machine.Reading.{Reading, first_reading, h
 ghost use Rattle.stream_grammar.specs.grammar.Bounds.{rules_of};
 ghost use Rattle.stream_grammar.specs.grammar.RoundTrips.{texts_of};
 ghost use Rattle.stream_grammar.specs.grammar.Trees.{RawTag, Content};
-ghost use Rattle.stream_laws.specs.ItemLists.{AreItems, AreNext, items_from};
-ghost use Rattle.stream_laws.specs.Takes.{IsTaken};
+ghost use Rattle.stream_grammar.specs.grammar.ItemLists.{AreItems, AreNext, to_fault};
+ghost use Rattle.stream_grammar.specs.grammar.Takes.{IsTaken};
+ghost use Rattle.stream_laws.specs.ItemLists.{items_from};
 ghost use Rattle.stream_grammar.specs.machine.Calls.{Call, feeds, hands, Called, bytes_taken};
-ghost use Rattle.stream_laws.specs.CallLists.{IsFedBy, to_fault, joined, AreFed};
+ghost use Rattle.stream_laws.specs.CallLists.{IsFedBy, joined, AreFed};
 ghost use Rattle.stream_laws.specs.Written.{IsWithin};
 
 /// Where calls lead from a reading to another, and further calls from there, all of them lead from the first to the last. `next` hands out

@@ -12,15 +12,16 @@ use Rattle.session_table.proofs.chains.bridge.Goals as goal
 pub returns-then-eq-clause-chained : goal.returns-then-eq-clause-chained
 returns-then-eq-clause-chained c = λ made p o had at.
     let es = c.args.slots.now.entries in
-    let heads = c.args.heads.now.entries in
+    let heads = c.args.heads.now.firsts.entries in
+    let key = c.args.heads.now.key in
     let h = c.args.hash in
     let there = c.requires.there in
     let one : o ≡ there.1 = one_slot p there.0 c.args.number o there.1 made es had.climbs at there.2 in
-    let own : has_hash h o.session ≡ true = ap (λ (x : Slot). has_hash h x.session) one ∙ there.3 in
+    let own : has_hash key h o.session ≡ true = ap (λ (x : Slot). has_hash key h x.session) one ∙ there.3 in
     let next : o.next ≡ c.args.next = ap (λ (x : Slot). x.next) one ∙ there.4 in
     let head : lookup (nat_eq h) heads ≡ Some c.args.number =
     sym (c.copied.ensures ∙ c.get.ensures.value) ∙ same_next c.copied.result (Some c.args.number) (sym c.if-eq.ensures) in
-    chained_without_first h c.args.number p made o es heads c.point.new.heads.entries had at own (sym (had.firsts h) ∙ head)
+    chained_without_first key h c.args.number p made o es heads c.point.new.firsts.entries had at own (sym (had.firsts h) ∙ head)
     (λ q. c.point.ensures.firsts (ap is_some head) q ∙ ap (λ (n : Option ℕ). cond (nat_eq h q) n (lookup (nat_eq q) heads)) (sym next))
 
 pub returns-then-eq-clause-same : goal.returns-then-eq-clause-same
@@ -29,23 +30,24 @@ returns-then-eq-clause-same c = relinked_none c.args.slots.now.entries
 pub returns-in-Some-clause-chained : goal.returns-in-Some-clause-chained
 returns-in-Some-clause-chained c = λ made p o had at.
     let es = c.args.slots.now.entries in
+    let key = c.args.heads.now.key in
     let h = c.args.hash in
     let there = c.requires.there in
     let link = c.in-Some.ensures in
     let one : o ≡ there.1 = one_slot p there.0 c.args.number o there.1 made es had.climbs at there.2 in
-    let own : has_hash h o.session ≡ true = ap (λ (x : Slot). has_hash h x.session) one ∙ there.3 in
+    let own : has_hash key h o.session ≡ true = ap (λ (x : Slot). has_hash key h x.session) one ∙ there.3 in
     let next : o.next ≡ c.args.next = ap (λ (x : Slot). x.next) one ∙ there.4 in
     let entries = ap (λ (n : Option ℕ). set_value_at es c.in-Some.place (leading_to n link.1)) next
     ∙ sym (c.lead.ensures.entries link.0 link.1 link.2) in
-    subst (λ (fs : Slots). AreChained (set_value_at fs p (emptied o)) c.args.heads.now.entries made) entries
-    (chained_bridged h c.args.number p made o es c.args.heads.now.entries c.in-Some.place link.0 link.1 had at own link.2 link.3 link.4)
+    subst (λ (fs : Slots). AreChained key (set_value_at fs p (emptied o)) c.args.heads.now.firsts.entries made) entries
+    (chained_bridged key h c.args.number p made o es c.args.heads.now.firsts.entries c.in-Some.place link.0 link.1 had at own link.2 link.3 link.4)
 
 pub returns-in-Some-clause-there : goal.returns-in-Some-clause-there
 returns-in-Some-clause-there c = λ p o at.
     let es = c.args.slots.now.entries in
     let had = c.requires.chained in
     let link = c.in-Some.ensures in
-    let low = before_it c.args.hash c.args.number link.0 c.in-Some.place link.1 had.0 es had.1.climbs had.1.linked link.2 link.3 link.4 in
+    let low = before_it c.args.heads.now.key c.args.hash c.args.number link.0 c.in-Some.place link.1 had.0 es had.1.climbs had.1.linked link.2 link.3 link.4 in
     subst (IsAt p c.args.number o) (sym (c.lead.ensures.entries link.0 link.1 link.2))
     (at_else p c.in-Some.place c.args.number link.0 o link.1 (leading_to c.args.next link.1) es at link.2 (λ e. omega (arith, low, e)))
 
@@ -60,7 +62,7 @@ pub returns-in_default-clause-chained : goal.returns-in_default-clause-chained
 returns-in_default-clause-chained c = λ made p o had at.
     let es = c.args.slots.now.entries in
     let there = c.requires.there in
-    let low = first_low c.args.hash there.0 c.args.number there.1 0 made es had.climbs there.2 there.3 in
+    let low = first_low c.args.heads.now.key c.args.hash there.0 c.args.number there.1 0 made es had.climbs there.2 there.3 in
     absurd (none_some low.0 (sym c.in_default.ensures ∙ low.1))
 
 pub returns-in_default-clause-same : goal.returns-in_default-clause-same

@@ -10,7 +10,7 @@ loop-next-init c =
     let es = c.args.slots.now.entries in
     let h = c.args.hash in
     record {
-      way = way_begins h c.args.until chained.0 es c.copied-next.result chained.1.climbs c.requires.ends
+      way = way_begins c.args.heads.now.key h c.args.until chained.0 es c.copied-next.result chained.1.climbs c.requires.ends
           (c.copied-next.ensures ∙ (c.get.ensures.value ∙ chained.1.firsts h));
     }
 
@@ -18,7 +18,7 @@ pub returns-in_default-visit : goal.returns-in_default-visit
 returns-in_default-visit c =
     let chained = c.requires.chained in
     let n = c.in-Some.number in
-    absurd (not_on_way c.args.hash n c.args.until chained.0 c.args.slots.now.entries c.loop-next.next chained.1.climbs
+    absurd (not_on_way c.args.heads.now.key c.args.hash n c.args.until chained.0 c.args.slots.now.entries c.loop-next.next chained.1.climbs
     c.in-Some.is c.loop-next.invariant.way c.in_default-visit.ensures.none)
 
 pub returns-then-eq : goal.returns-then-eq
@@ -27,7 +27,7 @@ returns-then-eq c =
     let n = c.in-Some.number in
     let es = c.args.slots.now.entries in
     let at = c.in-Some-visit.ensures.found in
-    let seen = seen_on_way c.args.hash n c.in-Some-visit.place c.args.until c.in-Some-visit.slot.now chained.0 es c.loop-next.next
+    let seen = seen_on_way c.args.heads.now.key c.args.hash n c.in-Some-visit.place c.args.until c.in-Some-visit.slot.now chained.0 es c.loop-next.next
     chained.1.climbs c.in-Some.is c.loop-next.invariant.way at in
     (n, c.in-Some-visit.slot.now, at, seen.0, same_next c.in-Some-visit.slot.now.next c.args.until (sym c.if-eq.ensures))
 
@@ -39,10 +39,10 @@ loop-next-smaller c =
     let o = c.in-Some-visit.slot.now in
     let p = c.in-Some-visit.place in
     let at = c.in-Some-visit.ensures.found in
-    let seen = seen_on_way c.args.hash n p c.args.until o chained.0 es c.loop-next.next
+    let seen = seen_on_way c.args.heads.now.key c.args.hash n p c.args.until o chained.0 es c.loop-next.next
     chained.1.climbs c.in-Some.is c.loop-next.invariant.way at in
     let less = left_less p n o 0 chained.0 es chained.1.climbs at o.next
-    (next_high c.args.hash c.args.until chained.0 es p n o chained.1.climbs chained.1.linked at seen.0) in
+    (next_high c.args.heads.now.key c.args.hash c.args.until chained.0 es p n o chained.1.climbs chained.1.linked at seen.0) in
     subst (λ (next : Option ℕ). length (from o.next es) < length (from next es)) (sym c.in-Some.is) less
 
 pub loop-next-preserved : goal.loop-next-preserved
@@ -53,12 +53,12 @@ loop-next-preserved c =
     let o = c.in-Some-visit.slot.now in
     let p = c.in-Some-visit.place in
     let at = c.in-Some-visit.ensures.found in
-    let seen = seen_on_way c.args.hash n p c.args.until o chained.0 es c.loop-next.next
+    let seen = seen_on_way c.args.heads.now.key c.args.hash n p c.args.until o chained.0 es c.loop-next.next
     chained.1.climbs c.in-Some.is c.loop-next.invariant.way at in
     record {
-      way = way_goes_on c.args.hash c.args.until chained.0 es p n o chained.1.climbs chained.1.linked at seen.0 c.requires.ends seen.1
+      way = way_goes_on c.args.heads.now.key c.args.hash c.args.until chained.0 es p n o chained.1.climbs chained.1.linked at seen.0 c.requires.ends seen.1
           (other_next o.next c.args.until (sym c.if-eq.ensures));
     }
 
 pub returns : goal.returns
-returns c = way_ends c.args.hash c.args.until c.args.slots.now.entries c.loop-next.next c.in_default.is c.loop-next.invariant.way
+returns c = way_ends c.args.heads.now.key c.args.hash c.args.until c.args.slots.now.entries c.loop-next.next c.in_default.is c.loop-next.invariant.way

@@ -5,7 +5,7 @@ use Rattle.session_table.proofs.chains.find_link.Given as goal
 
 abbrev pub invariant-loop-next : goal.invariant-loop-next
 invariant-loop-next l = record {
-  way : OnWay l.fn.hash l.until l.slots.entries l.next;
+  way : OnWay l.heads.key l.fn.hash l.until l.slots.entries l.next;
 }
 
 abbrev pub decreases-loop-next : goal.decreases-loop-next

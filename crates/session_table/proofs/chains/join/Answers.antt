@@ -8,9 +8,10 @@ pub returns-in-Some-clause-chained : goal.returns-in-Some-clause-chained
 returns-in-Some-clause-chained c = λ o own last.
     let had = c.requires.chained in
     let link = c.in-Some.ensures in
+    let key = c.args.heads.now.key in
     let n = c.args.number in
-    subst (λ (es : Slots). AreChained (es ++ (n, o) ∷ []) c.args.heads.now.entries n) (sym (c.lead.ensures.entries link.0 link.1 link.2))
-    (chained_more c.args.hash n had.0 o c.args.slots.now.entries c.args.heads.now.entries c.in-Some.place link.0 link.1 had.1 had.2
+    subst (λ (es : Slots). AreChained key (es ++ (n, o) ∷ []) c.args.heads.now.firsts.entries n) (sym (c.lead.ensures.entries link.0 link.1 link.2))
+    (chained_more key c.args.hash n had.0 o c.args.slots.now.entries c.args.heads.now.firsts.entries c.in-Some.place link.0 link.1 had.1 had.2
     own last link.2 link.3 link.4)
 
 pub returns-in-Some-clause-same : goal.returns-in-Some-clause-same
@@ -23,7 +24,8 @@ returns-in-Some-clause-same c =
 pub returns-in-Ok-clause-chained : goal.returns-in-Ok-clause-chained
 returns-in-Ok-clause-chained c = λ o own last.
     let had = c.requires.chained in
-    chained_new c.args.hash c.args.number had.0 o c.args.slots.now.entries c.args.heads.now.entries c.insert.new.self.entries had.1 had.2
+    let heads = c.args.heads.now in
+    chained_new heads.key c.args.hash c.args.number had.0 o c.args.slots.now.entries heads.firsts.entries c.insert.new.self.entries had.1 had.2
     own last c.in-None.ensures (λ q. c.in-Ok.ensures.updates.0 q)
 
 pub returns-in-Ok-clause-same : goal.returns-in-Ok-clause-same

@@ -1,6 +1,5 @@
 use Rattle.std.proofs.Common.{ℕ, ◌∷◌, sym, ap, ◌∙◌}
 use Rattle.std.specs.Option.{option_copied}
-use Rattle.session_table.specs.Hashes.{user_hash}
 use Rattle.session_table.specs.Indexes.{from, present}
 use Rattle.session_table.specs.Tables.{of_user}
 use Rattle.session_table.proofs.UserLemmas.{not_met, step_found, step_less, step_none, step_on, step_past}
@@ -8,7 +7,7 @@ use Rattle.session_table.proofs.users.advance.Goals as goal
 
 pub returns-in_default-stand-clause-items : goal.returns-in_default-stand-clause-items
 returns-in_default-stand-clause-items c =
-    absurd (not_met (user_hash (option_copied c.args.local)) c.in-Some.number c.args.slots.now.entries c.loop-next.next
+    absurd (not_met (option_copied c.args.local) c.in-Some.number c.args.slots.now.entries c.loop-next.next
     c.loop-next.invariant.way c.in-Some.is c.in_default-stand.ensures.none)
 
 pub returns-then-is_of-clause-way : goal.returns-then-is_of-clause-way

@@ -2,8 +2,7 @@ use Rattle.std.proofs.Common.{List, [], sym, ◌∙◌, subst, append-nil}
 use Rattle.std.specs.Prelude.{◌++◌, option_to_list}
 use Rattle.stream_grammar.specs.machine.Reading.{first_reading, waiting}
 use Rattle.stream_grammar.specs.machine.Calls.{bytes_taken}
-use Rattle.stream_laws.specs.CallLists.{to_fault}
-use Rattle.stream_laws.specs.ItemLists.{AreItems}
+use Rattle.stream_grammar.specs.grammar.ItemLists.{AreItems, to_fault}
 use Rattle.stream_laws.proofs.CallLemmas.{all_handed, all_asked, none_left, fed-bytes, stands_there}
 use Rattle.stream_laws.proofs.calls.cut_anywhere_all_items_are_handed_out.Goals as goal
 

@@ -12,7 +12,7 @@ add-requires-clause-bare c =
     let a = c.self.inside in
     let more = c.make_place.ensures.room c.args.peer in
     let some = c.requires.room in
-    free-bare c.args.peer (drop a.gone a.rows.items) a.made a.index.bare.entries a.index.full.entries c.self.invariant.indexed.bare
+    free-bare a.hash_key c.args.peer (drop a.gone a.rows.items) a.made a.index.bare.entries a.index.full.entries c.self.invariant.indexed.bare
     (subst (λ (v : Archive). 0 < room c.args.peer v) (sym c.self.view_is) (omega (arith, more, some)))
 
 pub add-requires-clause-full : goal.add-requires-clause-full
@@ -20,7 +20,7 @@ add-requires-clause-full c =
     let a = c.self.inside in
     let more = c.make_place.ensures.room c.args.peer in
     let some = c.requires.room in
-    free-full c.args.peer (drop a.gone a.rows.items) a.made a.index.bare.entries a.index.full.entries c.self.invariant.indexed.full
+    free-full a.hash_key c.args.peer (drop a.gone a.rows.items) a.made a.index.bare.entries a.index.full.entries c.self.invariant.indexed.full
     (subst (λ (v : Archive). 0 < room c.args.peer v) (sym c.self.view_is) (omega (arith, more, some)))
 
 pub overflow_add-self : goal.overflow_add-self
@@ -51,16 +51,16 @@ invariant_of-self c =
           (subst (λ (l : List Row). IsSound l a.gone (a.made + 1) (a.bytes + length row.text)) (sym pushed)
           (sound-added a.rows.items row a.gone a.made a.bytes c.self.invariant.sound few refl short late));
       indexed =
-          subst (λ (l : List Row). IsIndexed l (a.made + 1) c.add.new.self)
+          subst (λ (l : List Row). IsIndexed a.hash_key l (a.made + 1) c.add.new.self)
           (ap (λ (l : List Row). l ++ row ∷ []) slice ∙ sym (drop-append-le a.gone a.rows.items (row ∷ []) c.self.invariant.sound.there)
           ∙ ap (drop a.gone) (sym pushed))
-          (c.add.ensures.indexed a.made row (subst (λ (l : List Row). IsIndexed l a.made a.index) (sym slice) c.self.invariant.indexed) refl refl);
+          (c.add.ensures.indexed a.made row (subst (λ (l : List Row). IsIndexed a.hash_key l a.made a.index) (sym slice) c.self.invariant.indexed) refl refl);
     }
 
 pub returns-clause-room : goal.returns-clause-room
 returns-clause-room c = λ p.
     let a = c.self.inside in
-    let used = room-used p a.made a.index.bare.entries a.index.full.entries c.add.new.self.bare.entries c.add.new.self.full.entries
+    let used = room-used a.hash_key p a.made a.index.bare.entries a.index.full.entries c.add.new.self.bare.entries c.add.new.self.full.entries
     c.add.ensures.bare c.add.ensures.full in
     let seen = ap (room p) c.self.view_is in
     let kept = c.make_place.ensures.room p in

@@ -20,7 +20,7 @@ invariant_of-self c =
           c.lose_text-length.ensures.as_many c.lose_text-length.ensures.length)
           c.forget.ensures.items;
       indexed =
-          subst (λ (l : List Row). IsIndexed l a.made c.drop_first.new.self)
+          subst (λ (l : List Row). IsIndexed a.hash_key l a.made c.drop_first.new.self)
           (ap (drop 1) rows ∙ sym (drop-one a.gone a.rows.items) ∙ sym c.lose_text-length.ensures.later ∙ sym c.forget.ensures.items)
           c.drop_first.ensures.indexed;
     }
@@ -37,7 +37,7 @@ invariant_of-self-else-self-ge-MOST_GONE c =
           sound-dropped a.rows.items new a.gone a.made a.bytes _ c.self.invariant.sound some c.lose_text-length.ensures.later
           c.lose_text-length.ensures.as_many c.lose_text-length.ensures.length;
       indexed =
-          subst (λ (l : List Row). IsIndexed l a.made c.drop_first.new.self)
+          subst (λ (l : List Row). IsIndexed a.hash_key l a.made c.drop_first.new.self)
           (ap (drop 1) rows ∙ sym (drop-one a.gone a.rows.items) ∙ sym c.lose_text-length.ensures.later) c.drop_first.ensures.indexed;
     }
 
@@ -57,7 +57,7 @@ pub returns-then-self-ge-MOST_GONE-clause-room : goal.returns-then-self-ge-MOST_
 returns-then-self-ge-MOST_GONE-clause-room c = λ p.
     let a = c.self.inside in
     let seen = ap (room p) c.self.view_is in
-    let kept = room-kept p a.made a.index.bare.entries a.index.full.entries c.drop_first.new.self.bare.entries c.drop_first.new.self.full.entries
+    let kept = room-kept a.hash_key p a.made a.index.bare.entries a.index.full.entries c.drop_first.new.self.bare.entries c.drop_first.new.self.full.entries
     c.drop_first.ensures.bare c.drop_first.ensures.full in
     omega (arith, seen, kept)
 
@@ -65,6 +65,6 @@ pub returns-else-self-ge-MOST_GONE-clause-room : goal.returns-else-self-ge-MOST_
 returns-else-self-ge-MOST_GONE-clause-room c = λ p.
     let a = c.self.inside in
     let seen = ap (room p) c.self.view_is in
-    let kept = room-kept p a.made a.index.bare.entries a.index.full.entries c.drop_first.new.self.bare.entries c.drop_first.new.self.full.entries
+    let kept = room-kept a.hash_key p a.made a.index.bare.entries a.index.full.entries c.drop_first.new.self.bare.entries c.drop_first.new.self.full.entries
     c.drop_first.ensures.bare c.drop_first.ensures.full in
     omega (arith, seen, kept)

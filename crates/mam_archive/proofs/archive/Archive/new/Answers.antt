@@ -8,7 +8,7 @@ use Rattle.mam_archive.proofs.archive.Archive.new.Goals as goal
 pub invariant_of-result : goal.invariant_of-result
 invariant_of-result c =
     let index = c.new-2.result in
-    subst (λ (l : List Row). IsWhole l 0 0 0 index) (sym c.new.ensures.items) (record {
+    subst (λ (l : List Row). IsWhole c.args.hash_key l 0 0 0 index) (sym c.new.ensures.items) (record {
       sound = record {
         there = omega arith;
         few = omega arith;
@@ -18,7 +18,7 @@ invariant_of-result c =
         texts = refl;
       };
       indexed = record {
-        bare = listed-none Bare index.bare.entries c.new-2.ensures.bare;
-        full = listed-none Full index.full.entries c.new-2.ensures.full;
+        bare = listed-none c.args.hash_key Bare index.bare.entries c.new-2.ensures.bare;
+        full = listed-none c.args.hash_key Full index.full.entries c.new-2.ensures.full;
       };
     })

@@ -15,13 +15,15 @@ returns-then-holds_only c =
     let kept : List Row = c.args.self.now.kept in
     let is : kept ≡ drop a.gone a.rows.items = sym (ap (λ (v : Archive). v.kept) c.self.view_is) in
     let e : c.extent_of-extent.result ≡ extent_of asked = c.extent_of-extent.ensures in
-    let was : IsListed c.extent_of-extent.result kept a.made es =
-    subst (λ (l : List Row). IsListed c.extent_of-extent.result l a.made es) (sym is)
-    (c.lists-lists.ensures (drop a.gone a.rows.items) a.made c.self.invariant.indexed) in
-    let all = c.holds_only.ensures a.made
-    (subst (λ (l : List Row). IsListed c.extent_of-extent.result l a.made es) (sym c.rows.ensures.kept) was) c.if-holds_only.true in
+    let was : IsListed a.hash_key c.extent_of-extent.result kept a.made es =
+    subst (λ (l : List Row). IsListed a.hash_key c.extent_of-extent.result l a.made es) (sym is)
+    (c.lists-lists.ensures a.hash_key (drop a.gone a.rows.items) a.made c.self.invariant.indexed) in
+    let all = c.holds_only.ensures a.hash_key a.made c.key_of-key.ensures
+    (subst (λ (l : List Row). IsListed a.hash_key c.extent_of-extent.result l a.made es) (sym c.rows.ensures.kept) was) c.if-holds_only.true in
     let all-kept = subst (λ (l : List Row). AreOf c.extent_of-extent.result (face c.extent_of-extent.result asked)
-    (rows_with c.extent_of-extent.result (key c.extent_of-extent.result asked) l)) c.rows.ensures.kept all in
-    c.ids_at.ensures ∙ ap (λ (k : ℕ). (list_at k es).ids) (c.key_of-key.ensures ∙ ap (λ (x : Extent). key x asked) e)
-    ∙ picked-is asked kept a.made es (subst (λ (x : Extent). IsListed x kept a.made es) e was)
-    (subst (λ (x : Extent). AreOf x (face x asked) (rows_with x (key x asked) kept)) e all-kept)
+    (rows_with a.hash_key c.extent_of-extent.result (key a.hash_key c.extent_of-extent.result asked) l)) c.rows.ensures.kept
+    (subst (λ (k : ℕ). AreOf c.extent_of-extent.result (face c.extent_of-extent.result asked)
+    (rows_with a.hash_key c.extent_of-extent.result k c.rows.result.now)) c.key_of-key.ensures all) in
+    c.ids_at.ensures ∙ ap (λ (k : ℕ). (list_at k es).ids) (c.key_of-key.ensures ∙ ap (λ (x : Extent). key a.hash_key x asked) e)
+    ∙ picked-is a.hash_key asked kept a.made es (subst (λ (x : Extent). IsListed a.hash_key x kept a.made es) e was)
+    (subst (λ (x : Extent). AreOf x (face x asked) (rows_with a.hash_key x (key a.hash_key x asked) kept)) e all-kept)

@@ -14,12 +14,13 @@ returns-clause-room c =
     let new = c.reserve.new.self in
     let sum : c.in-Some.until ≡ a.made + c.args.many = search rules in
     on-both c.reserve.result c.reserve.ensures.ok_bare c.reserve.ensures.ok_full (λ bare full.
-    room-there c.args.peer.now a.made c.args.many c.in-Some.until new.bare.entries new.full.entries sum bare full)
+    room-there a.hash_key c.args.peer.now a.made c.args.many c.in-Some.until new.bare.entries new.full.entries sum bare full)
 
 pub returns-clause-keeps_room : goal.returns-clause-keeps_room
 returns-clause-keeps_room c = λ p.
     let a = c.self.inside in
     let new = c.reserve.new.self in
     let seen = ap (room p) c.self.view_is in
-    let kept = room-more p a.made a.index.bare.entries a.index.full.entries new.bare.entries new.full.entries c.reserve.ensures.bare c.reserve.ensures.full in
+    let kept = room-more a.hash_key p a.made a.index.bare.entries a.index.full.entries new.bare.entries new.full.entries
+    c.reserve.ensures.bare c.reserve.ensures.full in
     omega (arith, seen, kept)

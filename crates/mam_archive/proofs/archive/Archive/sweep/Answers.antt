@@ -7,6 +7,6 @@ pub returns-clause-room : goal.returns-clause-room
 returns-clause-room c = λ p.
     let a = c.self.inside in
     let seen = ap (room p) c.self.view_is in
-    let kept = room-kept p a.made a.index.bare.entries a.index.full.entries c.sweep.new.self.bare.entries c.sweep.new.self.full.entries
+    let kept = room-kept a.hash_key p a.made a.index.bare.entries a.index.full.entries c.sweep.new.self.bare.entries c.sweep.new.self.full.entries
     c.sweep.ensures.bare c.sweep.ensures.full in
     omega (arith, seen, kept)

@@ -28,9 +28,9 @@ invariant_of-self c =
     let o = there.0 in
     let entries = sym (c.change-wake.ensures.entries s o there.1) in
     record {
-      chained = subst (λ (fs : Slots). AreChained fs inside.heads.entries inside.made) entries
-          (chained_alike p s o (with_change f o) (λ h. hash_changed f (address_stays c.args.to) h o.session) (λ i. o.next)
-          es inside.heads.entries inside.made c.self.invariant.chained there.1);
+      chained = subst (λ (fs : Slots). AreChained inside.heads.key fs inside.heads.firsts.entries inside.made) entries
+          (chained_alike inside.heads.key p s o (with_change f o) (λ h. hash_changed inside.heads.key f (address_stays c.args.to) h o.session) (λ i. o.next)
+          es inside.heads.firsts.entries inside.made c.self.invariant.chained there.1);
       moments = subst (AreWakes c.change-wake.new.slots.entries) (sym (c.set.ensures
           ∙ ap (set inside.wakes p) (c.change-wake.ensures.wake s o there.1)))
           (subst (λ (fs : Slots). AreWakes fs (set inside.wakes p (wake_in (with_change f o).session))) entries
@@ -56,7 +56,7 @@ returns-in-Some c =
       opened = inside.opened;
       made = inside.made;
       sessions = sessions i;
-      spare = min (min (c.change-wake.ensures.room i) (spare inside.heads)) (min (moments i - places i) (2 ^ 64 - 1 - inside.made));
+      spare = min (min (c.change-wake.ensures.room i) (spare inside.heads.firsts)) (min (moments i - places i) (2 ^ 64 - 1 - inside.made));
     }) ∙ ap (λ t. changed s f t) c.self.view_is
 
 pub returns-in_default : goal.returns-in_default

@@ -33,13 +33,13 @@ invariant_of-self c =
     let o : Slot = record { session = Some s; next = None } in
     let begins = c.begin-session.ensures in
     let local = c.local_of.ensures ∙ ap (λ (r : SessionRecord). r.address.local) (sym begins) in
-    let own : has_hash c.hash_of-hash.result (Some s) ≡ true =
-    eq-eqb c.hash_of-hash.result (user_hash s.address.local) (c.hash_of-hash.ensures ∙ ap user_hash local) in
+    let own : has_hash inside.heads.key c.hash_of-hash.result (Some s) ≡ true =
+    eq-eqb c.hash_of-hash.result (user_hash inside.heads.key s.address.local) (c.hash_of-hash.ensures ∙ ap (user_hash inside.heads.key) local) in
     let never : wake_in (Some s) ≡ None = ap (λ (r : SessionRecord). wake_in (Some r)) begins in
     let room : length fs < length inside.wakes =
     omega (arith, c.requires, ap (λ (t : TableRecord). t.spare) c.self.view_is, length_relinked es fs c.join.ensures.same) in
     record {
-      chained = subst (λ (l : Slots). AreChained l c.join.new.heads.entries number) (sym c.add.ensures.entries)
+      chained = subst (λ (l : Slots). AreChained c.join.new.heads.key l c.join.new.heads.firsts.entries number) (sym c.add.ensures.entries)
           (c.join.ensures.chained o own (λ i. None));
       moments = subst (λ (l : Slots). AreWakes l inside.wakes) (sym c.add.ensures.entries)
           (wakes_added number o fs inside.wakes (wakes_relinked es fs inside.wakes c.join.ensures.same c.self.invariant.moments) room never);
@@ -60,7 +60,7 @@ returns-clause-table c =
     let new = ap (λ (x : SessionRecord). present es ++ (number, x) ∷ []) c.begin-session.ensures in
     let sessions : present c.add.new.slots.entries ≡ present es ++ (number, begun number address w) ∷ [] =
     ap present c.add.ensures.entries ∙ (present_added number o fs ∙ (old ∙ new)) in
-    let room : ℕ = min (min (spare c.add.new.slots) (spare c.join.new.heads))
+    let room : ℕ = min (min (spare c.add.new.slots) (spare c.join.new.heads.firsts))
     (min (length inside.wakes - length c.add.new.slots.entries) (2 ^ 64 - 1 - number)) in
     (λ i. record {
       lines = inside.lines.items;

@@ -52,7 +52,8 @@ invariant_of-self-in_default-as_mut c =
     let there = c.in-Some.ensures in
     let o = c.in-Some-get_index_mut.slot.now in
     let at = stood p s o there.0 es there.1 c.in-Some-get_index_mut.ensures.value in
-    subst (λ (l : Slots). IsIndexed l inside.wakes inside.heads.entries inside.made inside.there) (sym (set_again p s o es at)) c.self.invariant
+    subst (λ (l : Slots). IsIndexed inside.heads.key l inside.wakes inside.heads.firsts.entries inside.made inside.there)
+    (sym (set_again p s o es at)) c.self.invariant
 
 pub returns-in_default-as_mut : goal.returns-in_default-as_mut
 returns-in_default-as_mut c =
@@ -74,7 +75,7 @@ returns-in_default-as_mut c =
       opened = inside.opened;
       made = inside.made;
       sessions = present (again i);
-      spare = min (min (spare inside.slots) (spare inside.heads)) (min (length inside.wakes - length (again i)) (2 ^ 64 - 1 - inside.made));
+      spare = min (min (spare inside.slots) (spare inside.heads.firsts)) (min (length inside.wakes - length (again i)) (2 ^ 64 - 1 - inside.made));
     }) ∙ c.self.view_is in (
       λ i. inr (same i),
       record {
@@ -93,11 +94,11 @@ invariant_of-self-lent c = λ w.
     let there = c.in-Some.ensures in
     let o = c.in-Some-get_index_mut.slot.now in
     let at = stood p s o there.0 es there.1 c.in-Some-get_index_mut.ensures.value in
-    let alike = λ (h : ℕ). hash_changed (with_own w) (λ x i. x.address) h o.session in
-    subst (λ (x : Slot). IsIndexed (set_value_at es p x) inside.wakes inside.heads.entries inside.made inside.there)
+    let alike = λ (h : ℕ). hash_changed inside.heads.key (with_own w) (λ x i. x.address) h o.session in
+    subst (λ (x : Slot). IsIndexed inside.heads.key (set_value_at es p x) inside.wakes inside.heads.firsts.entries inside.made inside.there)
     (written w o c.in-Some-as_mut.session.now c.in-Some-as_mut.ensures.value)
     (record {
-      chained = chained_alike p s o (with_change (with_own w) o) alike (λ i. o.next) es inside.heads.entries inside.made
+      chained = chained_alike inside.heads.key p s o (with_change (with_own w) o) alike (λ i. o.next) es inside.heads.firsts.entries inside.made
           c.self.invariant.chained at;
       moments = wakes_alike p s o (with_change (with_own w) o) es inside.wakes (wake_owned w o.session) c.self.invariant.moments at;
       counted = c.self.invariant.counted ∙ sym (ap length (present_changed p s o (with_own w) 0 inside.made es c.self.invariant.chained.climbs at)
@@ -130,7 +131,7 @@ returns c =
       opened = inside.opened;
       made = inside.made;
       sessions = sessions i;
-      spare = min (min (spare inside.slots) (spare inside.heads)) (min (length inside.wakes - places i) (2 ^ 64 - 1 - inside.made));
+      spare = min (min (spare inside.slots) (spare inside.heads.firsts)) (min (length inside.wakes - places i) (2 ^ 64 - 1 - inside.made));
     }) ∙ ap (λ t. changed s (with_own w) t) c.self.view_is in (
       λ i. inl (c.own_mut.result.ghost_name, λ w. owned w i),
       record {

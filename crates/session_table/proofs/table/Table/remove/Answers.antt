@@ -52,7 +52,7 @@ invariant_of-self c =
     ∙ (present_without p s o 0 inside.made fs (climbs_relinked 0 inside.made es fs c.bridge.ensures.same climbs) stays
     ∙ ap (remove_entry (nat_eq s)) (present_relinked es fs c.bridge.ensures.same)) in
     record {
-      chained = subst (λ (l : Slots). AreChained l c.bridge.new.heads.entries inside.made) entries
+      chained = subst (λ (l : Slots). AreChained c.bridge.new.heads.key l c.bridge.new.heads.firsts.entries inside.made) entries
           (c.bridge.ensures.chained inside.made p o c.self.invariant.chained at);
       moments = subst (AreWakes c.empty.new.slots.entries) (sym c.set.ensures)
           (subst (λ (l : Slots). AreWakes l (set inside.wakes p None)) entries
@@ -73,7 +73,7 @@ returns-clause-table c =
     let without = ap (remove_entry (nat_eq s)) (present_relinked es fs c.bridge.ensures.same) in
     let sessions : present c.empty.new.slots.entries ≡ remove_entry (nat_eq s) (present es) =
     ap present (c.empty.ensures.entries s o stays) ∙ (present_without p s o 0 inside.made fs climbs stays ∙ without) in
-    let room : ℕ = min (min (spare c.empty.new.slots) (spare c.bridge.new.heads))
+    let room : ℕ = min (min (spare c.empty.new.slots) (spare c.bridge.new.heads.firsts))
     (min (length c.set.new.self - length c.empty.new.slots.entries) (2 ^ 64 - 1 - inside.made)) in
     (λ i. record {
       lines = inside.lines.items;

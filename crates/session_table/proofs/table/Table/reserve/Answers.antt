@@ -13,9 +13,9 @@ invariant_of-self-in-Continue-branch-3 c =
     let es = inside.slots.entries in
     let slots = sym (c.in_ok-grow.ensures.entries ∙ ap (λ (l : Slots). filter is_filled l) c.reserve.ensures.entries) in
     record {
-      chained = subst (λ (l : Slots). AreChained l c.reserve-2.new.self.entries inside.made) slots
-          (subst (λ (heads : List (ℕ × ℕ)). AreChained (filter is_filled es) heads inside.made) (sym c.reserve-2.ensures.entries)
-          (chained_filled es inside.heads.entries inside.made c.self.invariant.chained));
+      chained = subst (λ (l : Slots). AreChained inside.heads.key l c.reserve-2.new.self.entries inside.made) slots
+          (subst (λ (heads : List (ℕ × ℕ)). AreChained inside.heads.key (filter is_filled es) heads inside.made) (sym c.reserve-2.ensures.entries)
+          (chained_filled inside.heads.key es inside.heads.firsts.entries inside.made c.self.invariant.chained));
       moments = c.in_ok-grow.ensures.moments;
       counted = c.self.invariant.counted ∙ sym (ap length (ap present (c.in_ok-grow.ensures.entries
           ∙ ap (λ (l : Slots). filter is_filled l) c.reserve.ensures.entries) ∙ present_filled es));

@@ -3,8 +3,8 @@ use Rattle.std.specs.Prelude.{◌≡◌, ℕ, ◌+◌, ◌⊎◌, List, [], ◌�
 use Rattle.stream_grammar.specs.declared.FrameFault.{FrameFault}
 use Rattle.stream_grammar.specs.declared.item.Item.{Item}
 use Rattle.stream_grammar.specs.declared.item.Limits.{Limits}
-use Rattle.stream_grammar.specs.grammar.Parts.{IsItem, IsByteFault}
 use Rattle.stream_grammar.specs.grammar.Bounds.{rules_of}
+use Rattle.stream_grammar.specs.grammar.Parts.{IsItem, IsByteFault, AreFaultless, IsFault}
 
 -- the byte after these ends an item, or it has a fault
 abbrev pub IsStop : Limits → List ℕ → ℕ → Type 0
@@ -19,3 +19,9 @@ abbrev pub IsTaken : Limits → List ℕ → List ℕ → ℕ → Type 0
 IsTaken l before piece n =
     (HasNoStop l before piece × (n ≡ length piece))
     ⊎ ((xs : List ℕ) × (b : ℕ) × (ys : List ℕ) × (piece ≡ xs ++ (b ∷ ys)) × HasNoStop l before xs × IsStop l (before ++ xs) b × (n ≡ length xs + 1))
+
+-- Where none of the bytes before has a fault, so many of a piece are taken; and where one has, the piece is taken whole.
+abbrev pub AreTaken : Limits → List ℕ → List ℕ → ℕ → Type 0
+AreTaken l before piece n =
+    (AreFaultless l before × IsTaken l before piece n)
+    ⊎ ((k : ℕ) × (f : FrameFault) × IsFault l before k f × (n ≡ length piece))
