@@ -42,13 +42,14 @@ fn rewind(own: &mut Own, h: u32, n: u32)
     }
 }
 
-// An entry more waits.
-fn add(own: &mut Own, entry: Entry)
+// An entry more waits, whose frame has so many bytes.
+fn add(own: &mut Own, entry: Entry, bytes: u64)
     requires spare { 0 < spare own.old.queue }
     requires room { has_room own.old.queue.waiting entry ≡ true }
+    requires bytes { bytes ≡ length (frame entry) }
     ensures { own.new ≡ record own.old { queue = pushed entry own.old.queue } }
 {
-    own.queue.push(entry);
+    own.queue.push(entry, bytes);
 }
 
 impl World {
@@ -134,9 +135,9 @@ impl World {
         let Life::Live = session.state() else {
             return;
         };
-        if session.own.queue.can_take(&entry) {
+        if let Some(bytes) = session.own.queue.room_for(&entry) {
             let line = session.holder();
-            self.queue(s, entry);
+            self.queue(s, entry, bytes);
             self.stirred.note(line);
             return;
         }
@@ -145,13 +146,14 @@ impl World {
         self.end(s, Cause::Overfull { kept, queued });
     }
 
-    // Queues an entry for a session that goes on and has room for it.
-    fn queue(&mut self, s: u64, entry: Entry)
+    // Queues an entry, whose frame has so many bytes, for a session that goes on and has room for it.
+    fn queue(&mut self, s: u64, entry: Entry, bytes: u64)
         requires tied { IsTied self.old.table }
         requires live { IsLive s self.old.table }
         requires spare { (x : SessionRecord) → session_of s self.old.table ≡ Some x → 0 < spare x.queue }
         requires room { (x : SessionRecord) → session_of s self.old.table ≡ Some x
             → has_room x.queue.waiting entry ≡ true }
+        requires bytes { bytes ≡ length (frame entry) }
         requires short { length (frame entry) ≤ 524288 }
         ensures did { Did (On s (Push entry) ∷ []) 0 self.old self.new }
         ensures stays { Stays self.old self.new }
@@ -161,7 +163,7 @@ impl World {
             → HasSpare (n - (if r == s then 1 else 0)) r self.new.table }
     {
         if let Some(own) = self.table.own_mut(s) {
-            add(own, entry);
+            add(own, entry, bytes);
         }
     }
 

@@ -37,8 +37,11 @@ fn entry_of(alloc: Global, name: u8) -> Result<Entry, Fail> {
 
 fn push<R: Abort>(rt: &R, queue: &mut SmQueue, entry: Entry) -> Result<(), Fail> {
     queue.reserve(1)?;
-    assert!(rt; queue.can_take(&entry));
-    queue.push(entry);
+    let room = queue.room_for(&entry);
+    assert!(rt; room.is_some());
+    if let Some(bytes) = room {
+        queue.push(entry, bytes);
+    }
     Ok(())
 }
 
@@ -175,7 +178,7 @@ fn five_thousand_wait(rt: HostRuntime) -> Result<(), Fail> {
         push(&rt, &mut queue, entry_of(rt.alloc(), b'1')?)?;
     }
     assert_eq!(rt; queue.len(), 5000);
-    assert!(rt; !queue.can_take(&entry_of(rt.alloc(), b'1')?));
+    assert!(rt; queue.room_for(&entry_of(rt.alloc(), b'1')?).is_none());
     Ok(())
 }
 
@@ -193,7 +196,7 @@ fn four_mebibytes_wait(rt: HostRuntime) -> Result<(), Fail> {
             rest: Text::of(rt.alloc(), bytes.as_slice())?,
             origin: Origin::Direct,
         };
-        assert_eq!(rt; queue.can_take(&entry), fits);
+        assert_eq!(rt; queue.room_for(&entry).is_some(), fits);
     }
     Ok(())
 }

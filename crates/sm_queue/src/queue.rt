@@ -1,7 +1,7 @@
 //! The queue, and how it moves on by counts (XEP-0198, 4 and 5).
 
-ghost use Rattle.std.specs.Prelude.{◌≡◌, ℕ, ◌+◌, ◌-◌, ◌^◌, ◌<◌, ◌≤◌, ◌++◌, ◌∷◌, [], true, List, length, min};
-ghost use Rattle.std.specs.Prelude.{drop, slice_get, IsSome, ◌↔◌, IsOk, OnOk, IfOk, IfErr};
+ghost use Rattle.std.specs.Prelude.{◌≡◌, ℕ, ◌+◌, ◌-◌, ◌^◌, ◌<◌, ◌≤◌, ◌++◌, ◌∷◌, [], true, false, List, length, min};
+ghost use Rattle.std.specs.Prelude.{drop, slice_get, IsSome, ◌↔◌, IsOk, OnOk, IfSome, IfNone, IfOk, IfErr};
 ghost use Rattle.std.specs.Option.{option_copied};
 ghost use Rattle.std.specs.Result.{result_ok};
 ghost use Rattle.std.specs.VecDeque.{deque_capacity};
@@ -98,23 +98,29 @@ impl SmQueue {
         self.waiting.reserve(entries)
     }
 
-    /// Whether one stanza more may wait.
-    pub fn can_take(&self, entry: &Entry) -> bool
-        ensures { result ≡ has_room self.now.waiting entry.now }
+    /// How many bytes the frame of a stanza has, where one more may wait; none where it may not.
+    pub fn room_for(&self, entry: &Entry) -> Option<u64>
+        ensures room { IfSome result (λ bytes. (bytes ≡ length (frame entry.now)) × (has_room self.now.waiting entry.now ≡ true)) }
+        ensures none { IfNone result (has_room self.now.waiting entry.now ≡ false) }
     {
-        self.waiting.len() < MAX_WAITING_ENTRIES
-            && length_of(entry) <= MAX_WAITING_BYTES - self.bytes
+        let bytes = length_of(entry);
+        if self.waiting.len() < MAX_WAITING_ENTRIES && bytes <= MAX_WAITING_BYTES - self.bytes {
+            Some(bytes)
+        } else {
+            None
+        }
     }
 
-    /// Adds a stanza at the end, in room that was reserved.
-    pub fn push(&mut self, entry: Entry)
+    /// Adds a stanza at the end, whose frame has so many bytes, in room that was reserved.
+    pub fn push(&mut self, entry: Entry, bytes: u64)
         requires spare { 0 < spare self.old }
         requires room { has_room self.old.waiting entry ≡ true }
+        requires bytes { bytes ≡ length (frame entry) }
         ensures queue { self.new ≡ pushed entry self.old }
         ensures whole { (all : List Entry) (base kept sent : ℕ) → StandsFor all base kept sent self.old
             → StandsFor (all ++ entry ∷ []) base kept sent self.new }
     {
-        self.bytes += length_of(&entry);
+        self.bytes += bytes;
         self.waiting.push_back_reserved(entry);
     }
 
@@ -246,7 +252,7 @@ impl SmQueue {
         requires { n ≤ self.old.given }
         ensures { self.new ≡ without n self.old }
     {
-        self.bytes -= drop_front(&mut self.waiting, n);
+        self.bytes = drop_front(&mut self.waiting, n, self.bytes);
         self.given -= n;
         self.kept = Count(self.kept.0.wrapping_add(n));
         if self.waiting.is_empty() && self.waiting.capacity() > MAX_IDLE_ROOM {
@@ -262,19 +268,25 @@ fn length_of(entry: &Entry) -> u64
     frame_length(entry.to.bytes(), entry.rest.bytes().len() as u64)
 }
 
-// Drops the first n entries, and answers the bytes of their frames. No entry moves.
-fn drop_front(waiting: &mut VecDeque<Entry>, n: u32) -> u64
+// Drops the first n entries, where the frames of all have so many bytes, and answers the bytes of those that are left. No entry moves.
+fn drop_front(waiting: &mut VecDeque<Entry>, n: u32, bytes: u64) -> u64
     requires there { n ≤ length waiting.old.items }
-    requires most { frames_length waiting.old.items ≤ most_bytes }
+    requires bytes { bytes ≡ frames_length waiting.old.items }
     ensures rest { waiting.new.items ≡ drop n waiting.old.items }
-    ensures bytes { result + frames_length waiting.new.items ≡ frames_length waiting.old.items }
+    ensures bytes { result ≡ frames_length waiting.new.items }
+    ensures fewer { result ≤ bytes }
     ensures capacity { deque_capacity waiting.new ≡ deque_capacity waiting.old }
 {
-    let mut bytes = 0;
+    // Most often all are dropped, and none has to be counted again.
+    if n as usize == waiting.len() {
+        waiting.clear();
+        return 0;
+    }
+    let mut left = bytes;
     for _dropped in 0..n {
         if let Some(entry) = waiting.pop_front() {
-            bytes += length_of(&entry);
+            left -= length_of(&entry);
         }
     }
-    bytes
+    left
 }
