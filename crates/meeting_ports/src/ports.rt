@@ -157,6 +157,8 @@ impl Ports for MeetPorts {
 
     ghost address = { λ p. p.address };
 
+    ghost drawn = { λ _. None };
+
     /// Fails where there is no place for the links.
     fn pollers(
         &mut self,

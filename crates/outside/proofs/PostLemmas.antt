@@ -120,6 +120,10 @@ kept_address : (b : Bool) (v : PortsState) (p : PollerState) → (kept_by b v p)
 kept_address true v p = refl
 kept_address false v p = refl
 
+kept_own_dice : (b : Bool) (v : PortsState) (p : PollerState) → (kept_by b v p).dice ≡ v.dice
+kept_own_dice true v p = refl
+kept_own_dice false v p = refl
+
 pub gathered_faults : (v : PortsState) (posts : List MemPost)
     → (took_posts v posts).plan.faults ≡ added v.plan.faults (map (λ p. p.poller.plan.faults) posts)
 gathered_faults v [] = refl
@@ -145,6 +149,10 @@ gathered_dice v (p ∷ ps) =
 pub gathered_address : (v : PortsState) (posts : List MemPost) → (took_posts v posts).address ≡ v.address
 gathered_address v [] = refl
 gathered_address v (p ∷ ps) = gathered_address (took_post v p) ps ∙ kept_address (nat_lt 0 v.room) _ p.poller
+
+pub gathered_own_dice : (v : PortsState) (posts : List MemPost) → (took_posts v posts).dice ≡ v.dice
+gathered_own_dice v [] = refl
+gathered_own_dice v (p ∷ ps) = gathered_own_dice (took_post v p) ps ∙ kept_own_dice (nat_lt 0 v.room) _ p.poller
 
 -- Tapes, post by post and place by place.
 

@@ -227,6 +227,8 @@ impl Ports for CleanPorts {
 
     ghost address = { λ p. p.address };
 
+    ghost drawn = { λ _. None };
+
     fn pollers(
         &mut self,
         alloc: Global,

@@ -2,6 +2,7 @@
 ghost use Rattle.std.specs.Prelude.{◌≡◌, ◌≤◌, [], List, Some, Err, IfOk, OnErr, OnOk, All, length, map, take, drop};
 ghost use Rattle.std.specs.Option.{option_copied};
 ghost use Rattle.outside.specs.Devices.{Rose};
+ghost use Rattle.outside.specs.Draws.{Draws};
 ghost use Rattle.outside.specs.Plans.{planned};
 ghost use Rattle.outside.specs.Polls.{placed, seat_at};
 ghost use Rattle.outside.specs.Posts.{AreOpened, Each, Gathers, Hands, IsUnused, MemPost, PortsFill, Refuses, added, all_of, dice_faults_of, fits, opened};
@@ -248,6 +249,8 @@ impl Ports for MemPorts {
 
     ghost address = { λ p. p.address };
 
+    ghost drawn = { λ p. p.dice.drawn };
+
     fn pollers(
         &mut self,
         alloc: Global,
@@ -266,6 +269,7 @@ impl Ports for MemPorts {
         ensures links { self.new.links ≡ self.old.links }
         ensures dice { self.new.dice_faults ≡ self.old.dice_faults }
         ensures tapes { self.new.tapes ≡ self.old.tapes }
+        ensures drawn { self.new.dice.drawn ≡ self.old.dice.drawn }
         ensures hands { IfOk result (λ v. Hands self.old self.new at.now workers places quota v.items) }
         ensures refuses { result ≡ Err ListenFault.Failed → Refuses self.old self.new workers places }
     {
@@ -291,12 +295,15 @@ impl Ports for MemPorts {
         ensures address { self.new.address ≡ self.old.address }
         ensures tapes { Gathers self.old.tapes (map (λ p. placed (length p.poller.places) (λ k. (seat_at p.poller.places k).tapes)) posts.items)
             self.new.tapes }
+        ensures drawn { self.new.dice.drawn ≡ self.old.dice.drawn }
         ensures state { self.new ≡ took_posts self.old posts.items }
     {
         self.take_posts(posts);
     }
 
+    #[tactic(auto, using(crate::proofs::Telling::tells_nothing))]
     fn fill(&mut self, into: &mut [u8]) -> Filled
+        ensures drawn { Draws self.old.dice.drawn self.new.dice.drawn result into.new }
         ensures kept { self.old.plan.faults ≤ self.new.plan.faults }
         ensures cause { result ≡ Filled.Failed → Rose self.old.plan.faults self.new.plan.faults }
         ensures links { self.new.links ≡ self.old.links }

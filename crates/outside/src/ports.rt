@@ -2,6 +2,7 @@
 //! their dice.
 ghost use Rattle.std.specs.Prelude.{◌≡◌, ℕ, ◌≤◌, List, Option, Some, All, IfOk, Err, length, map};
 ghost use Rattle.outside.specs.Devices.{Rose};
+ghost use Rattle.outside.specs.Draws.{Draws};
 ghost use Rattle.outside.specs.Polls.{IsOpened, placed};
 ghost use Rattle.outside.specs.Posts.{Gathers, added, all_of};
 ghost use Rattle.outside.specs.Tapes.{Mark};
@@ -49,6 +50,9 @@ pub trait Ports {
     /// The address of the pollers that were handed out last.
     ghost address: { Self → Option (List ℕ) };
 
+    /// What they drew by `fill`, where they tell it.
+    ghost drawn: { Self → Option (List (List ℕ)) };
+
     /// As many posts as workers, whose pollers stand at this address, and each has so many places and this quota.
     fn pollers(
         &mut self,
@@ -68,7 +72,8 @@ pub trait Ports {
         ensures as_before { result ≡ Err ListenFault.NoMemory → faults self.new ≡ faults self.old }
         ensures links { links self.new ≡ links self.old }
         ensures dice { dice_faults self.new ≡ dice_faults self.old }
-        ensures tapes { tapes self.new ≡ tapes self.old };
+        ensures tapes { tapes self.new ≡ tapes self.old }
+        ensures drawn { drawn self.new ≡ drawn self.old };
 
     /// Takes posts back, with what they counted and told. Takes no memory.
     fn gather_pollers(&mut self, posts: Vec<PollPost<Self::Poller, Self::Clock, Self::Dice>>)
@@ -81,10 +86,12 @@ pub trait Ports {
         ensures dice_kept { dice_faults self.old ≤ dice_faults self.new }
         ensures address { address self.new ≡ address self.old }
         ensures tapes { Gathers (tapes self.old) (map (λ p. placed (Self.Poller.places p.poller) (Self.Poller.tapes p.poller)) posts.items)
-            (tapes self.new) };
+            (tapes self.new) }
+        ensures drawn { drawn self.new ≡ drawn self.old };
 
     /// Draws random bytes.
     fn fill(&mut self, into: &mut [u8]) -> Filled
+        ensures drawn { Draws (drawn self.old) (drawn self.new) result into.new }
         ensures kept { faults self.old ≤ faults self.new }
         ensures cause { result ≡ Filled.Failed → Rose (faults self.old) (faults self.new) }
         ensures links { links self.new ≡ links self.old }

@@ -114,6 +114,8 @@ impl<R: Net + Clock + RandomSource + Eprint + Clone + Drop> Ports for NetPorts<R
 
     ghost address = { λ p. p.address };
 
+    ghost drawn = { λ _. None };
+
     /// The address is `127.0.0.1:PORT`; another is `Failed`, and so is one that the system refuses, as where the port is taken. Port 0
     /// is one that the system chooses. Line L is the place L % places of the worker L / places, for `ring`.
     fn pollers(

@@ -1,7 +1,8 @@
 use Rattle.std.proofs.Common.{length, map, ap, subst, sym, ◌∙◌}
+use Rattle.outside.specs.Draws.{DiceState}
 use Rattle.outside.specs.Polls.{placed, seat_at}
 use Rattle.outside.specs.Posts.{Gathers, MemPost, PortsState}
-use Rattle.outside.proofs.PostLemmas.{gathered_address, gathered_dice, gathered_faults, gathered_links, gathered_tapes}
+use Rattle.outside.proofs.PostLemmas.{gathered_address, gathered_dice, gathered_faults, gathered_links, gathered_own_dice, gathered_tapes}
 use Rattle.outside.proofs.mem_ports.MemPortsPorts.gather_pollers.Goals as goal
 
 pub returns-clause-faults : goal.returns-clause-faults
@@ -21,3 +22,7 @@ returns-clause-tapes c =
     subst (λ (v : PortsState). Gathers c.args.self.now.tapes
     (map (λ (p : MemPost). placed (length p.poller.places) (λ k. (seat_at p.poller.places k).tapes)) c.args.posts.items) v.tapes)
     (sym c.take_posts.ensures.state) (gathered_tapes c.args.self.now c.args.posts.items)
+
+pub returns-clause-drawn : goal.returns-clause-drawn
+returns-clause-drawn c = ap (λ (v : PortsState). v.dice.drawn) c.take_posts.ensures.state
+    ∙ ap (λ (d : DiceState). d.drawn) (gathered_own_dice c.args.self.now c.args.posts.items)
