@@ -6,7 +6,8 @@ ghost use Rattle.outside.specs.Posts.{Each, IsUnused};
 
 use jid_core::Jid;
 use outside::{
-    MemClock, MemDice, MemLink, MemPoller, MemPorts, MemSink, MemSource, PollPost, Rung, Sources,
+    Kind, MemClock, MemDice, MemLink, MemPoller, MemPorts, MemSink, MemSource, PollPost, Rung,
+    Sources,
 };
 use script_play::Status;
 use serve_run::{Serving, serve};
@@ -298,12 +299,15 @@ fn serving_of(alloc: Global, workers: u32, links: u32) -> Result<Serving, Fail>
     })
 }
 
-// How a case ends, and whether this and no more was printed.
-fn run<R: Threads + Wait + Sync>(
-    rt: &R,
-    alloc: Global,
-    case: &Case,
-) -> Result<(Status, bool), Fail> {
+/// How a case ended, whether what it must print was printed and no more, and the ports afterwards.
+#[derive(Drop)]
+struct Ended {
+    status: Status,
+    is_printed: bool,
+    ports: MemPorts,
+}
+
+fn run<R: Threads + Wait + Sync>(rt: &R, alloc: Global, case: &Case) -> Result<Ended, Fail> {
     let (workers, links, list, _, _, faults, _, printed) = *case;
     if workers == 0 || workers > 2 || links == 0 || links > 2 {
         return Err(Fail::new("one or two workers, with one or two places each"));
@@ -314,15 +318,44 @@ fn run<R: Threads + Wait + Sync>(
     let serving = serving_of(alloc, workers, links)?;
     let mut ports = ports_of(alloc, case)?;
     let status = serve(rt, alloc, &serving, &mut source, &mut sink, &mut ports);
-    Ok((status, sink.bytes() == printed))
+    Ok(Ended {
+        status,
+        is_printed: sink.bytes() == printed,
+        ports,
+    })
 }
 
 #[test]
 fn each_run_ends_as_it_must(rt: HostRuntime) -> Result<(), Fail> {
     for (i, case) in CASES.iter().enumerate() {
-        let (status, is_printed) = run(&rt, rt.alloc(), case)?;
-        assert_eq!(rt; status, case.6, "case {i}");
-        assert!(rt; is_printed, "case {i}");
+        let ended = run(&rt, rt.alloc(), case)?;
+        assert_eq!(rt; ended.status, case.6, "case {i}");
+        assert!(rt; ended.is_printed, "case {i}");
     }
+    Ok(())
+}
+
+// Where a poller fails, the other worker has served its link to the end when the status comes: its tape has the close tag twice, heard and said.
+#[test]
+fn a_fault_is_told_when_all_have_ended(rt: HostRuntime) -> Result<(), Fail> {
+    let Some(case) = CASES.iter().find(|case| case.5.poller == 1) else {
+        return Err(Fail::new("a case whose poller fails"));
+    };
+    let ended = run(&rt, rt.alloc(), case)?;
+    assert_eq!(rt; ended.status, Status::ListenFault);
+    assert_eq!(rt; ended.ports.links(), 1);
+    let Some(other) = ended.ports.pollers_back().last() else {
+        return Err(Fail::new("the other poller"));
+    };
+    let Some(tape) = other.tapes(0).last() else {
+        return Err(Fail::new("the tape of its link"));
+    };
+    let closed = tape
+        .bytes()
+        .windows(CLOSE_TAG.len())
+        .filter(|part| *part == CLOSE_TAG)
+        .count();
+    assert_eq!(rt; closed, 2);
+    assert_eq!(rt; tape.kinds().last(), Some(&Kind::End));
     Ok(())
 }
