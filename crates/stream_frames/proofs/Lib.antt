@@ -19,3 +19,4 @@ pub mod PlainLemmas
 pub mod DeclareLemmas
 pub mod WaitLemmas
 pub mod StandLemmas
+pub mod ItemLemmas

@@ -70,7 +70,7 @@ less-slash : turn (stage_at stage.Less) 47 ≡ leads (stage_at stage.EndTagMark)
 unfolding turn_ascii ascii_kind ascii in_tag_turn
 less-slash = refl
 
-words-less : turn (stage_at (stage.Text Words)) 60 ≡ leads (stage_at stage.Less) []
+pub words-less : turn (stage_at (stage.Text Words)) 60 ≡ leads (stage_at stage.Less) []
 unfolding turn_ascii ascii_kind ascii
 words-less = refl
 

@@ -37,14 +37,14 @@ use Rattle.stream_frames.specs.Runs.{are_plain, is_between_characters, IsRun, Le
 
 -- A byte that ends nothing and has no fault.
 
-judged-none : (p : Bool) (t j : Option FrameFault) (q : Bool) → p ≡ false → t ≡ None → j ≡ None → q ≡ false
+pub judged-none : (p : Bool) (t j : Option FrameFault) (q : Bool) → p ≡ false → t ≡ None → j ≡ None → q ≡ false
     → or_else (fault_if p fault.TooLong) (or_else t (or_else j (fault_if q fault.TooLong))) ≡ None
 judged-none p t j q e1 e2 e3 e4 =
     ap (λ (p : Bool). or_else (fault_if p fault.TooLong) (or_else t (or_else j (fault_if q fault.TooLong)))) e1
     ∙ (ap (λ (t : Option FrameFault). or_else t (or_else j (fault_if q fault.TooLong))) e2
     ∙ (ap (λ (j : Option FrameFault). or_else j (fault_if q fault.TooLong)) e3 ∙ ap (λ (q : Bool). fault_if q fault.TooLong) e4))
 
-untold : (r : Rules) (f : Frame) (b : ℕ) → is_broken f ≡ false → is_broken (frame_next r f b) ≡ false → fault_told r f b ≡ None
+pub untold : (r : Rules) (f : Frame) (b : ℕ) → is_broken f ≡ false → is_broken (frame_next r f b) ≡ false → fault_told r f b ≡ None
 untold r f b e1 e2 = ap (λ (x : Bool). cond x None (cond (is_broken (frame_next r f b)) (Some (fault_at r f b)) None)) e1
     ∙ ap (λ (x : Bool). cond x (Some (fault_at r f b)) None) e2
 

@@ -2,6 +2,7 @@
 use Rattle.std.specs.Prelude.{◌≡◌, ℕ, ◌+◌, ◌*◌, ◌<◌, ◌≤◌, List, [], ◌∷◌, ◌++◌, map, reverse, length, true, Option, Some}
 use Rattle.std.specs.Prelude.{None, vec_len, vec_capacity, string_bytes, string_len, string_capacity}
 use Rattle.stream_lex.specs.declared.Token.{Token}
+use Rattle.stream_frames.specs.declared.built.Beginning.{Beginning}
 use Rattle.stream_frames.specs.declared.built.Builder.{Builder}
 use Rattle.stream_frames.specs.declared.built.OpenElement.{OpenElement}
 use Rattle.stream_frames.specs.declared.built.Parent.{Parent}
@@ -47,16 +48,20 @@ IsOfTag b r =
     (r.room.items ≡ []) × (vec_len r.room + length b.attributes.items ≤ vec_capacity r.room)
     × IsTextTag (tag_of b)
 
+-- and there is the room that the start tag of an element in the stream's takes
+abbrev pub IsOfStart : Builder → Beginning → Type 0
+IsOfStart b h = (vec_len b.layers < vec_capacity b.layers) × (vec_len b.others < vec_capacity b.others) × HasChildRoom 2 b.innermost × IsOfTag b h.resolved
+
 -- there is the room that it takes
 abbrev pub IsReady : Builder → List Token → Ready → Type 0
+IsReady b ts (ready.Tag x) = 0 < vec_capacity b.name
 IsReady b ts (ready.NameByte x) = vec_len b.name < vec_capacity b.name
 IsReady b ts (ready.AttributeByte x) = vec_len b.attribute < vec_capacity b.attribute
 IsReady b ts (ready.ValueChar c) = string_len b.value + 4 ≤ string_capacity b.value
 IsReady b ts ready.ValueEnd = vec_len b.attributes < vec_capacity b.attributes
 IsReady b ts ready.Words = (string_len b.words + 4 * length ts ≤ string_capacity b.words) × (are_words ts ≡ true)
 IsReady b ts (ready.Header h) = (vec_len b.layers < vec_capacity b.layers) × IsOfTag b h.value.resolved
-IsReady b ts (ready.Begins h) = (vec_len b.layers < vec_capacity b.layers) × (vec_len b.others < vec_capacity b.others) × HasChildRoom 2 b.innermost
-    × IsOfTag b h.value.resolved
+IsReady b ts (ready.Begins h) = IsOfStart b h.value
 IsReady b ts (ready.Hollow r) = HasChildRoom 2 b.innermost × IsOfTag b r.value
 IsReady b ts ready.Closes = HasChildRoom 1 b.innermost
 IsReady b ts r = Unit {0}
@@ -74,10 +79,17 @@ begun_in e own b = record b {
   words = [];
 }
 
+-- what the end of a start tag does in the stream, and that of an empty-element tag
+abbrev pub begun_by : Beginning → Building → Building
+begun_by h b = begun_in (resolved_in h.resolved b.tag) h.own (record b { tag = nothing_gathered })
+
+abbrev pub hollow_by : Resolved → Building → Building
+hollow_by r b = ended_in (resolved_in r b.tag) b.words b.opened (record b { tag = nothing_gathered })
+
 -- what it does
 abbrev pub applied : Ready → List Token → Building → Building
 applied ready.Nothing ts b = b
-applied (ready.Tag v) ts b = record b { tag = record { name = v.items; attributes = []; attribute = []; value = [] } }
+applied (ready.Tag x) ts b = record b { tag = record { name = x ∷ []; attributes = []; attribute = []; value = [] } }
 applied (ready.NameByte x) ts b = record b { tag = gather b.tag (token.NameByte x) }
 applied (ready.Attribute v) ts b = record b { tag = record { name = b.tag.name; attributes = b.tag.attributes; attribute = v.items; value = [] } }
 applied (ready.AttributeByte x) ts b = record b { tag = gather b.tag (token.AttrByte x) }
@@ -90,6 +102,6 @@ applied (ready.Header h) ts b = record b {
       ∷ [];
   item = Some (item.Header (resolved_in h.value.resolved b.tag) h.value.default_space);
 }
-applied (ready.Begins h) ts b = begun_in (resolved_in h.value.resolved b.tag) h.value.own (record b { tag = nothing_gathered })
-applied (ready.Hollow r) ts b = ended_in (resolved_in r.value b.tag) b.words b.opened (record b { tag = nothing_gathered })
+applied (ready.Begins h) ts b = begun_by h.value b
+applied (ready.Hollow r) ts b = hollow_by r.value b
 applied ready.Closes ts b = closed_in b.opened (record b { tag = nothing_gathered })

@@ -18,10 +18,10 @@ use Rattle.stream_lex.specs.declared.stages.Quote.TheVariants.{Double, Single}
 use Rattle.stream_lex.specs.declared.stages.Stage.{Stage}
 use Rattle.stream_lex.specs.declared.stages.Stage.TheVariants as stage
 use Rattle.stream_lex.specs.machine.Turns.{at}
-use Rattle.stream_frames.specs.Moves.{is_none}
+use Rattle.stream_frames.specs.Moves.{is_none, is_one}
 use Rattle.stream_frames.specs.Stacks.{outer, left_of, begins_so, is_all}
 use Rattle.stream_grammar.specs.machine.Texts.{HasTexts}
-use Rattle.stream_frames.specs.Runs.{is_between_characters, is_end_stage, has_opened, IsRun}
+use Rattle.stream_frames.specs.Runs.{is_between_characters, is_words_stage, is_end_stage, has_opened, IsRun}
 
 -- As `Leads`, under rules on depth and attributes.
 pub record LeadsBy (r : Rules) (f : Frame) (b : Building) (xs : List ℕ) (g : Frame) (c : Building) : Type 0 where
@@ -67,6 +67,15 @@ stage_or s (Some t) = t
 abbrev pub silenced : Frame → ℕ → Frame
 silenced (open_at st n) b = open_at (at (stage_or st.stage (silent_stage st.stage b)) pending.Nothing false) n
 silenced f b = f
+
+-- the `<` of a tag between top elements
+abbrev pub begins_item : Frame → ℕ → Bool
+begins_item (open_at st (inside ms)) b = is_one ms && ((b == 60) && (is_words_stage st.stage && is_between_characters st))
+begins_item f b = false
+
+abbrev pub now_begun : Frame → Frame
+now_begun (open_at st (inside ms)) = open_at (at stage.Less pending.Nothing false) (inside ms)
+now_begun f = f
 
 -- Bytes that tell a token.
 

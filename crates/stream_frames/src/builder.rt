@@ -1,6 +1,6 @@
 //! What the tokens of a byte will do to the elements that are being made: its memory is taken, and else nothing changes.
 
-ghost use Rattle.std.specs.Prelude.{◌≡◌, ◌<◌, ◌≤◌, ◌+◌, ◌*◌, [], ◌∷◌, ◌++◌, length, true, false, None, Some, IfOk, IfErr, OnOk, vec_len, vec_capacity};
+ghost use Rattle.std.specs.Prelude.{◌≡◌, ◌<◌, ◌≤◌, ◌+◌, ◌*◌, ◌==◌, [], ◌∷◌, ◌++◌, not, length, true, false, None, Some, IfOk, IfErr, OnOk, vec_len, vec_capacity};
 ghost use Rattle.stream_frames.specs.Spaces.{bound_space};
 ghost use Rattle.stream_frames.specs.Works.{idle_on};
 ghost use Rattle.stream_grammar.specs.grammar.Namespaces.{own, space_of};
@@ -11,7 +11,7 @@ ghost use Rattle.stream_lex.specs.declared.Token.TheVariants as token;
 ghost use Rattle.stream_grammar.specs.machine.Building.{Building, tag_judged, told_judged, build, build_all};
 ghost use Rattle.stream_grammar.specs.machine.Telling.{is_few};
 ghost use Rattle.stream_grammar.specs.machine.Texts.{IsTextTag, AreNamed};
-ghost use Rattle.stream_frames.specs.Builds.{tag_of, building, IsOfTag, IsReady, resolved_in, applied};
+ghost use Rattle.stream_frames.specs.Builds.{tag_of, building, HasChildRoom, IsOfTag, IsOfStart, IsReady, resolved_in, begun_by, hollow_by, applied};
 
 use crate::built::{Beginning, Builder, Heading, Ready};
 use crate::namespaces::{
@@ -150,6 +150,44 @@ impl Builder {
         }
     }
 
+    /// What the start tag of an element in the stream's will do.
+    pub(crate) fn beginning(&mut self) -> Result<Beginning, TagFault>
+        requires tag { IsTextTag (tag_of self.old) }
+        requires header { not (length (building self.old).layers == 0) ≡ true }
+        ensures kept { building self.new ≡ building self.old }
+        ensures begun { IfOk result (λ h. (b : Building) → b ≡ building self.old → begun_by h b ≡ build b (token.TagEnds false)) }
+        ensures ready { IfOk result (IsOfStart self.new) }
+        ensures ok { OnOk result (fault_of_tag (building self.old).layers (tag_of self.old) ≡ None) }
+        ensures fault { IfErr result (IsStartFault (building self.old)) }
+    {
+        let (resolved, own) = self.resolved_tag()?;
+        if let Some(innermost) = &mut self.innermost {
+            innermost.children.reserve(2)?;
+        }
+        self.others.reserve(1)?;
+        Ok(Beginning { resolved, own })
+    }
+
+    /// What the start tag of the stream will do.
+    fn ready_for_header(&mut self) -> Result<Ready, TagFault>
+        requires tag { IsTextTag (tag_of self.old) }
+        requires first { (length (building self.old).layers == 0) ≡ true }
+        ensures kept { building self.new ≡ building self.old }
+        ensures applied { IfOk result (λ r. (b : Building) → b ≡ building self.old → applied r (token.TagEnds false ∷ []) b ≡ build b (token.TagEnds false)) }
+        ensures ready { IfOk result (IsReady self.new (token.TagEnds false ∷ [])) }
+        ensures ok { OnOk result (fault_of_tag (building self.old).layers (tag_of self.old) ≡ None) }
+        ensures fault { IfErr result (IsStartFault (building self.old)) }
+    {
+        let (resolved, own) = self.resolved_tag()?;
+        let default_space = default_space(self.alloc, self.layers.as_slice(), own.slice())?;
+        let heading = Heading {
+            resolved,
+            own,
+            default_space,
+        };
+        Ok(Ready::Header(boxed(self.alloc, heading)?))
+    }
+
     /// What the start tag that was begun last will do.
     fn ready_for_start(&mut self) -> Result<Ready, TagFault>
         requires { IsTextTag (tag_of self.old) }
@@ -159,24 +197,29 @@ impl Builder {
         ensures ok { OnOk result (fault_of_tag (building self.old).layers (tag_of self.old) ≡ None) }
         ensures fault { IfErr result (IsStartFault (building self.old)) }
     {
-        let (resolved, own) = self.resolved_tag()?;
         if self.layers.is_empty() {
-            let default_space = default_space(self.alloc, self.layers.as_slice(), own.slice())?;
-            let heading = Heading {
-                resolved,
-                own,
-                default_space,
-            };
-            return Ok(Ready::Header(boxed(self.alloc, heading)?));
+            return self.ready_for_header();
         }
-        if let Some(innermost) = &mut self.innermost {
-            innermost.children.reserve(2)?;
-        }
-        self.others.reserve(1)?;
-        Ok(Ready::Begins(boxed(self.alloc, Beginning { resolved, own })?))
+        Ok(Ready::Begins(boxed(self.alloc, self.beginning()?)?))
     }
 
     /// What the empty-element tag that was begun last will do.
+    pub(crate) fn hollow(&mut self) -> Result<Resolved, TagFault>
+        requires { IsTextTag (tag_of self.old) }
+        ensures kept { building self.new ≡ building self.old }
+        ensures hollow { IfOk result (λ r. (b : Building) → b ≡ building self.old → hollow_by r b ≡ build b (token.TagEnds true)) }
+        ensures ready { IfOk result (λ r. HasChildRoom 2 self.new.innermost × IsOfTag self.new r) }
+        ensures ok { OnOk result (fault_of_tag (building self.old).layers (tag_of self.old) ≡ None) }
+        ensures fault { IfErr result (IsStartFault (building self.old)) }
+    {
+        let (resolved, _) = self.resolved_tag()?;
+        if let Some(innermost) = &mut self.innermost {
+            innermost.children.reserve(2)?;
+        }
+        Ok(resolved)
+    }
+
+    /// The same with its block.
     fn ready_for_hollow(&mut self) -> Result<Ready, TagFault>
         requires { IsTextTag (tag_of self.old) }
         ensures kept { building self.new ≡ building self.old }
@@ -185,11 +228,27 @@ impl Builder {
         ensures ok { OnOk result (fault_of_tag (building self.old).layers (tag_of self.old) ≡ None) }
         ensures fault { IfErr result (IsStartFault (building self.old)) }
     {
-        let (resolved, _) = self.resolved_tag()?;
-        if let Some(innermost) = &mut self.innermost {
-            innermost.children.reserve(2)?;
-        }
+        let resolved = self.hollow()?;
         Ok(Ready::Hollow(boxed(self.alloc, resolved)?))
+    }
+
+    /// Makes room for the name of a tag. Answers whether there was memory.
+    pub(crate) fn reserve_name(&mut self) -> bool
+        ensures kept { building self.new ≡ building self.old }
+        ensures room { result ≡ true → 0 < vec_capacity self.new.name }
+    {
+        self.name.reserve(USUAL_NAME).is_ok()
+    }
+
+    /// Makes room for what an end tag adds to the element that it ends. Answers whether there was memory.
+    pub(crate) fn reserve_words(&mut self) -> bool
+        ensures kept { building self.new ≡ building self.old }
+        ensures room { result ≡ true → HasChildRoom 1 self.new.innermost }
+    {
+        match &mut self.innermost {
+            Some(innermost) => innermost.children.reserve(1).is_ok(),
+            None => true,
+        }
     }
 
     /// What a token will do.
@@ -202,7 +261,10 @@ impl Builder {
         ensures fault { IfErr result (IsFaultOf (building self.old) token) }
     {
         match token {
-            Token::TagOpens(byte) => Ok(Ready::Tag(one_byte(self.alloc, byte)?)),
+            Token::TagOpens(byte) => {
+                self.name.reserve(USUAL_NAME)?;
+                Ok(Ready::Tag(byte))
+            }
             Token::NameByte(byte) => {
                 self.name.reserve(1)?;
                 Ok(Ready::NameByte(byte))

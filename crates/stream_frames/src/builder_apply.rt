@@ -9,11 +9,12 @@ ghost use Rattle.stream_grammar.specs.machine.Building.{build, build_all, last_c
 ghost use Rattle.stream_grammar.specs.machine.Gathering.{nothing_gathered, gather};
 ghost use Rattle.stream_grammar.specs.machine.Telling.{are_words};
 ghost use Rattle.stream_frames.specs.declared.built.Ready.TheVariants as ready;
-ghost use Rattle.stream_frames.specs.Builds.{tag_of, building, HasChildRoom, IsOfTag, IsReady, resolved_in, begun_in, applied, open_element, open_parent};
+ghost use Rattle.stream_frames.specs.Builds.{tag_of, building, HasChildRoom, IsOfTag, IsReady, IsOfStart, resolved_in, begun_in, begun_by, hollow_by, applied, open_element, open_parent};
 
 use crate::built::{Beginning, Builder, Heading, OpenElement, Parent, Ready};
-use crate::tags::{Resolved, element};
+use crate::tags::{FEW, Resolved, element};
 use stanza_tree::{Element, Node, Several, Text};
+use std::alloc::Global;
 use std::mem;
 use stream_grammar::{Binding, Item, Written};
 use stream_lex::Token;
@@ -28,6 +29,20 @@ fn push_words(children: &mut Vec<Node>, words: String)
     if !words.is_empty() {
         children.push_reserved(Node::Words(Text::of_string(words)));
     }
+}
+
+/// A value as a text, which then is empty. Few bytes are copied, so that the room for them stays; else they become the text's.
+fn take_value(alloc: Global, value: &mut String) -> Text
+    ensures text { result ≡ string_bytes value.old }
+    ensures emptied { string_bytes value.new ≡ [] }
+{
+    if value.len() <= FEW {
+        if let Ok(text) = Text::of_str(alloc, value.as_str()) {
+            value.clear();
+            return text;
+        }
+    }
+    Text::of_string(mem::replace(value, String::new(alloc)))
 }
 
 /// An element at its end, after its last words.
@@ -133,10 +148,10 @@ impl Builder {
         ensures emptied { building self.new ≡ record (building self.old) { tag = nothing_gathered } }
         ensures parts { (self.new.innermost ≡ self.old.innermost) × (self.new.others ≡ self.old.others) × (self.new.layers ≡ self.old.layers) }
     {
-        let name = mem::replace(&mut self.name, Vec::new(self.alloc));
         let attributes = mem::replace(&mut self.attributes, Vec::new(self.alloc));
+        let element = element(self.alloc, resolved, &mut self.name, attributes);
         self.empty_tag();
-        element(self.alloc, resolved, name, attributes)
+        element
     }
 
     /// Nothing is left of the tag that was begun last.
@@ -144,10 +159,22 @@ impl Builder {
         ensures emptied { building self.new ≡ record (building self.old) { tag = nothing_gathered } }
         ensures parts { (self.new.innermost ≡ self.old.innermost) × (self.new.others ≡ self.old.others) × (self.new.layers ≡ self.old.layers) }
     {
-        self.name = Vec::new(self.alloc);
+        if self.name.len() > FEW {
+            self.name = Vec::new(self.alloc);
+        }
+        self.clear_tag();
+    }
+
+    /// The same, but all room for a name and a value stays.
+    fn clear_tag(&mut self)
+        ensures emptied { building self.new ≡ record (building self.old) { tag = nothing_gathered } }
+        ensures parts { (self.new.innermost ≡ self.old.innermost) × (self.new.others ≡ self.old.others) × (self.new.layers ≡ self.old.layers) }
+        ensures room { (vec_len self.new.name ≡ 0) × (vec_capacity self.new.name ≡ vec_capacity self.old.name) }
+    {
+        self.name.clear();
         self.attributes = Vec::new(self.alloc);
         self.attribute = Vec::new(self.alloc);
-        self.value = String::new(self.alloc);
+        self.value.clear();
     }
 
     /// Begins an element in the innermost one.
@@ -200,12 +227,13 @@ impl Builder {
         }
     }
 
-    /// Begins a tag of this name.
-    pub(crate) fn open_tag(&mut self, name: Vec<u8>)
-        ensures { building self.new ≡ record (building self.old) { tag = record { name = name.items; attributes = []; attribute = []; value = [] } } }
+    /// Begins a tag of which the name begins with this byte.
+    pub(crate) fn open_tag(&mut self, byte: u8)
+        requires { 0 < vec_capacity self.old.name }
+        ensures { building self.new ≡ record (building self.old) { tag = record { name = byte ∷ []; attributes = []; attribute = []; value = [] } } }
     {
-        self.empty_tag();
-        self.name = name;
+        self.clear_tag();
+        self.name.push_reserved(byte);
     }
 
     /// Begins an attribute of this name.
@@ -213,7 +241,7 @@ impl Builder {
         ensures { building self.new ≡ record (building self.old) { tag = record (tag_of self.old) { attribute = name.items; value = [] } } }
     {
         self.attribute = name;
-        self.value = String::new(self.alloc);
+        self.value.clear();
     }
 
     /// Ends the attribute that is being read.
@@ -222,10 +250,10 @@ impl Builder {
         ensures { building self.new ≡ record (building self.old) { tag = gather (tag_of self.old) token.ValueEnds } }
     {
         let name = mem::replace(&mut self.attribute, Vec::new(self.alloc));
-        let value = mem::replace(&mut self.value, String::new(self.alloc));
+        let value = take_value(self.alloc, &mut self.value);
         self.attributes.push_reserved(Written {
             name: Several::of(name),
-            value: Text::of_string(value),
+            value,
         });
     }
 
@@ -249,30 +277,27 @@ impl Builder {
     }
 
     /// Ends another start tag, whose element is then open.
-    fn end_start(&mut self, beginning: Box<Beginning>)
-        requires layers { vec_len self.old.layers < vec_capacity self.old.layers }
-        requires others { vec_len self.old.others < vec_capacity self.old.others }
-        requires children { HasChildRoom 2 self.old.innermost }
-        requires tag { IsOfTag self.old beginning.value.resolved }
-        ensures { building self.new ≡ applied (ready.Begins beginning) [] (building self.old) }
+    pub(crate) fn end_start(&mut self, beginning: Beginning)
+        requires { IsOfStart self.old beginning }
+        ensures { building self.new ≡ begun_by beginning (building self.old) }
     {
-        let Beginning { resolved, own } = Box::into_inner(beginning);
+        let Beginning { resolved, own } = beginning;
         let element = self.take_element(resolved);
         self.begin(element, own);
     }
 
     /// Ends an empty-element tag.
-    fn end_hollow(&mut self, resolved: Box<Resolved>)
+    pub(crate) fn end_hollow(&mut self, resolved: Resolved)
         requires children { HasChildRoom 2 self.old.innermost }
-        requires tag { IsOfTag self.old resolved.value }
-        ensures { building self.new ≡ applied (ready.Hollow resolved) [] (building self.old) }
+        requires tag { IsOfTag self.old resolved }
+        ensures { building self.new ≡ hollow_by resolved (building self.old) }
     {
-        let element = self.take_element(Box::into_inner(resolved));
+        let element = self.take_element(resolved);
         self.add_hollow(element);
     }
 
     /// Ends an end tag.
-    fn end_element(&mut self)
+    pub(crate) fn end_element(&mut self)
         requires { HasChildRoom 1 self.old.innermost }
         ensures { building self.new ≡ applied ready.Closes [] (building self.old) }
     {
@@ -288,7 +313,7 @@ impl Builder {
     {
         match ready {
             Ready::Nothing => {}
-            Ready::Tag(name) => self.open_tag(name),
+            Ready::Tag(byte) => self.open_tag(byte),
             Ready::NameByte(byte) => self.name.push_reserved(byte),
             Ready::Attribute(name) => self.open_attribute(name),
             Ready::AttributeByte(byte) => self.attribute.push_reserved(byte),
@@ -296,8 +321,8 @@ impl Builder {
             Ready::ValueEnd => self.end_value(),
             Ready::Words => self.add_words(told),
             Ready::Header(heading) => self.end_header(heading),
-            Ready::Begins(beginning) => self.end_start(beginning),
-            Ready::Hollow(resolved) => self.end_hollow(resolved),
+            Ready::Begins(beginning) => self.end_start(Box::into_inner(beginning)),
+            Ready::Hollow(resolved) => self.end_hollow(Box::into_inner(resolved)),
             Ready::Closes => self.end_element(),
         }
     }

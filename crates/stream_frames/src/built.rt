@@ -59,7 +59,7 @@ pub(crate) struct Beginning {
 #[derive(Drop)]
 pub(crate) enum Ready {
     Nothing,
-    Tag(Vec<u8>),
+    Tag(u8),
     NameByte(u8),
     Attribute(Vec<u8>),
     AttributeByte(u8),

@@ -141,6 +141,14 @@ pub struct Short {
     pub taken: usize,
 }
 
+/// Whether some bytes of a piece were not taken, since an item ended before them.
+fn is_cut(taken: Result<usize, Short>, length: usize) -> bool {
+    match taken {
+        Ok(count) => count < length,
+        Err(_) => false,
+    }
+}
+
 /// A reader of the bytes of a stream (RFC 6120, 4.2): a header, top elements and a close tag, or the first fault.
 ///
 /// The pieces that it is fed are the bytes of one stream, cut anywhere. It keeps the item that is being read and the names and
@@ -159,6 +167,8 @@ pub struct Framer {
     extent: u64,
     offset: u64,
     fault: Option<FrameFault>,
+    // Whether the piece that was fed last has bytes that are yet to come.
+    is_amid: bool,
 }
 
 impl Model for Framer {
@@ -193,7 +203,24 @@ impl Framer {
             extent: 0,
             offset: 0,
             fault: None,
+            is_amid: false,
         })
+    }
+
+    /// Reads the `<` of a tag between top elements. Answers whether it was one.
+    #[tactic(auto, using(crate::proofs::ItemLemmas::item_begun, crate::proofs::ItemLemmas::begun_texts))]
+    fn begin_item(&mut self, byte: u8) -> bool
+        requires { is_stopped self.old.reading ≡ false }
+        ensures read { result ≡ true → self.new ≡ record self.old { reading = reading_next self.old.limits self.old.reading byte } }
+        ensures kept { result ≡ false → self.new ≡ self.old }
+    {
+        if self.is_done() || !self.tracker.begin_item(byte) {
+            return false;
+        }
+        let read = 1;
+        self.extent = read;
+        self.offset = self.offset.saturating_add(read);
+        true
     }
 
     /// Reads a byte, or has its fault.
@@ -203,6 +230,9 @@ impl Framer {
         ensures ok { OnOk result (self.new ≡ record self.old { reading = reading_next self.old.limits self.old.reading byte }) }
         ensures err { OnErr result (self.new ≡ self.old) }
     {
+        if self.begin_item(byte) {
+            return Ok(());
+        }
         let fault = advance_work(
             self.limits,
             &mut self.tracker,
@@ -221,6 +251,24 @@ impl Framer {
             self.extent = 1;
         }
         Ok(())
+    }
+
+    /// Gives the room up that isn't needed between elements, unless more of a piece is to come.
+    fn rest(&mut self)
+        ensures { self.new ≡ self.old }
+    {
+        if !self.is_amid && self.work.is_idle() {
+            self.release();
+        }
+    }
+
+    /// The same.
+    #[inline(never)]
+    fn release(&mut self)
+        ensures { self.new ≡ self.old }
+    {
+        self.work.release();
+        self.tracker.release();
     }
 
     /// Whether an item or a fault waits.
@@ -304,7 +352,8 @@ impl Framer {
             × ((n : ℕ) × AreTaken self.old.limits bytes piece.now n × (s.taken < n))) }
     {
         let taken = self.read(piece);
-        self.work.release();
+        self.is_amid = is_cut(taken, piece.len());
+        self.rest();
         taken
     }
 
@@ -328,7 +377,7 @@ impl Framer {
             Some(fault) => Some(Item::Broken(fault, self.offset)),
             None => {
                 let item = self.work.take_item();
-                self.work.release();
+                self.rest();
                 item
             }
         }
@@ -344,5 +393,6 @@ impl Framer {
         self.extent = 0;
         self.offset = 0;
         self.fault = None;
+        self.is_amid = false;
     }
 }

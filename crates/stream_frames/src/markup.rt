@@ -11,7 +11,6 @@ use crate::builder::one_byte;
 use crate::built::Builder;
 use crate::tracker::Tracker;
 use crate::tracker_markup::{quote_byte, quote_of};
-use stream_lex::Token;
 
 /// What markup a byte may be, by the stage alone: whoever reads it looks closer.
 #[derive(Clone, Copy)]
@@ -86,13 +85,10 @@ fn start_name_mark(tracker: &mut Tracker, builder: &mut Builder, byte: u8) -> bo
     ensures read { result ≡ true → LeadsBy tracker.old.rules tracker.old.frame (building builder.old) (byte ∷ []) tracker.new.frame (building builder.new) }
     ensures kept { result ≡ false → (tracker.new ≡ tracker.old) × (building builder.new ≡ building builder.old) }
 {
-    let Ok(name) = one_byte(builder.alloc, byte) else {
-        return false;
-    };
-    if !tracker.begin_start_name(byte) {
+    if !builder.reserve_name() || !tracker.begin_start_name(byte) {
         return false;
     }
-    builder.open_tag(name);
+    builder.open_tag(byte);
     true
 }
 
@@ -125,14 +121,13 @@ fn start_end_mark(tracker: &mut Tracker, builder: &mut Builder, byte: u8) -> boo
     if !tracker.may_enter(byte) || !builder.has_header() {
         return false;
     }
-    let token = Token::TagEnds { empty: false };
-    let Ok(ready) = builder.ready_for(token) else {
+    let Ok(beginning) = builder.beginning() else {
         return false;
     };
     if !tracker.enter() {
         return false;
     }
-    builder.apply(ready, &[token]);
+    builder.end_start(beginning);
     true
 }
 
@@ -148,12 +143,11 @@ fn hollow_end_mark(tracker: &mut Tracker, builder: &mut Builder, byte: u8) -> bo
     if !tracker.is_hollow_end(byte) || !builder.has_open() {
         return false;
     }
-    let token = Token::TagEnds { empty: true };
-    let Ok(ready) = builder.ready_for(token) else {
+    let Ok(resolved) = builder.hollow() else {
         return false;
     };
     tracker.end_hollow();
-    builder.apply(ready, &[token]);
+    builder.end_hollow(resolved);
     true
 }
 
@@ -165,14 +159,11 @@ fn end_mark(tracker: &mut Tracker, builder: &mut Builder, byte: u8) -> bool
     ensures read { result ≡ true → LeadsBy tracker.old.rules tracker.old.frame (building builder.old) (byte ∷ []) tracker.new.frame (building builder.new) }
     ensures kept { result ≡ false → (tracker.new ≡ tracker.old) × (building builder.new ≡ building builder.old) }
 {
-    if !tracker.is_end(byte) || !builder.has_parent() {
+    if !tracker.is_end(byte) || !builder.has_parent() || !builder.reserve_words() {
         return false;
     }
-    let Ok(ready) = builder.ready_for(Token::CloseEnds) else {
-        return false;
-    };
     tracker.leave();
-    builder.apply(ready, &[Token::CloseEnds]);
+    builder.end_element();
     true
 }
 

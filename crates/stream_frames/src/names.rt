@@ -90,11 +90,17 @@ impl Names {
         }
     }
 
-    /// Takes the innermost name away, where there is one. Keeps no room for names where none is left but one.
+    /// Takes the innermost name away, where there is one.
     pub(crate) fn pop(&mut self)
         ensures { self.new ≡ outer self.old }
     {
         self.innermost = self.others.pop();
+    }
+
+    /// Keeps no room for names where there is none but one.
+    pub(crate) fn release(&mut self)
+        ensures { self.new ≡ self.old }
+    {
         if self.others.is_empty() {
             self.others = Vec::new(self.alloc);
         }

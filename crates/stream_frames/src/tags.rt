@@ -10,10 +10,14 @@ ghost use Rattle.stream_frames.specs.TagFaults.{IsTagFault};
 ghost use Rattle.stream_frames.specs.Spaces.{bound_space};
 
 use crate::expanded::{Expanded, expanded_names};
-use crate::namespaces::{Space, bound, colon_place, declares, name_fault, prefix};
+use crate::namespaces::{Space, bound, colon_place, declares, local, name_fault, prefix};
 use stanza_tree::{Attr, Element, Name, NoMemory, Several, Text};
 use std::alloc::{AllocError, Global};
+use std::{mem, str};
 use stream_grammar::{Binding, NameFault, Written};
+
+/// So many bytes a text has in place, so that a copy of them takes no memory.
+pub(crate) const FEW: usize = 30;
 
 /// Why a tag did not become an element.
 #[derive(Clone, Copy, Debug, PartialEq, Eq)]
@@ -127,6 +131,27 @@ fn local_text(name: Vec<u8>) -> Text
     Text::of_string(unsafe { String::from_utf8_unchecked(local_part(name)) })
 }
 
+/// The same as a copy.
+fn copied_local(alloc: Global, name: &[u8]) -> Result<Text, NoMemory>
+    requires { IsUtf8 name.now }
+    ensures { IfOk result (λ t. t ≡ local_of name.now) }
+{
+    Text::of_str(alloc, unsafe { str::from_utf8_unchecked(local(name)) })
+}
+
+/// The local part of a name. Few bytes are copied, so that the room for them stays; else they become the text's.
+pub(crate) fn take_local(alloc: Global, name: &mut Vec<u8>) -> Text
+    requires { IsUtf8 name.old.items }
+    ensures { result ≡ local_of name.old.items }
+{
+    if name.len() <= FEW {
+        if let Ok(text) = copied_local(alloc, name.as_slice()) {
+            return text;
+        }
+    }
+    local_text(mem::replace(name, Vec::new(alloc)))
+}
+
 fn full_attr(space: Text, attribute: Written) -> Attr
     requires { IsUtf8 attribute.name }
     ensures { result ≡ attr_in space attribute }
@@ -168,21 +193,21 @@ fn full_attrs(
 pub(crate) fn element(
     alloc: Global,
     resolved: Resolved,
-    name: Vec<u8>,
+    name: &mut Vec<u8>,
     attributes: Vec<Written>,
 ) -> Element
     requires none { resolved.room.items ≡ [] }
     requires room { vec_len resolved.room + length attributes.items ≤ vec_capacity resolved.room }
-    requires name { IsUtf8 name.items }
+    requires name { IsUtf8 name.old.items }
     requires names { HaveTextNames attributes.items }
-    ensures { result ≡ element_in resolved.space resolved.spaces.items name.items attributes.items }
+    ensures { result ≡ element_in resolved.space resolved.spaces.items name.old.items attributes.items }
 {
     let Resolved {
         space,
         spaces,
         room,
     } = resolved;
-    let local = local_text(name);
+    let local = take_local(alloc, name);
     Element {
         name: Name { space, local },
         attrs: full_attrs(alloc, spaces, room, attributes),

@@ -333,6 +333,13 @@ impl Tracker {
         }
     }
 
+    /// Keeps no room for names where none is open but the stream's.
+    pub(crate) fn release(&mut self)
+        ensures { self.new ≡ self.old }
+    {
+        self.open.release();
+    }
+
     /// Whether a header or a top element is open, as far as its start tag has come beyond its `<`.
     pub(crate) fn is_in_item(&self) -> bool
         ensures { result ≡ in_item self.now.frame }

@@ -10,14 +10,14 @@ ghost use Rattle.stream_frames.specs.Tracking.{nest_at};
 ghost use Rattle.stream_frames.specs.Markup.{only_at, after_part, silent_stage, may_be_silent, is_silent, silenced, is_name_head, is_less};
 ghost use Rattle.stream_frames.specs.Markup.{is_end_mark, is_in_tag, is_value_awaited, quote_byte, quote_of, closes_by, now_closing, awaits_value};
 ghost use Rattle.stream_frames.specs.Markup.{now_in_value, now_in_tag, begins_by, now_naming, attributed_by, now_attributed, ends_start};
-ghost use Rattle.stream_frames.specs.Markup.{enters_by, now_entered, hollows_by, now_hollow, leaves_by, now_left};
+ghost use Rattle.stream_frames.specs.Markup.{begins_item, now_begun, enters_by, now_entered, hollows_by, now_hollow, leaves_by, now_left};
 ghost use Rattle.stream_frames.specs.Stacks.{outer};
 
 use crate::markup::MarkOf;
 use crate::names::{Names, OpenName};
 use crate::places::Place;
 use crate::tracker::{Standing, Tracker};
-use crate::tracker_runs::{is_at_end, is_between};
+use crate::tracker_runs::{is_at_end, is_at_words, is_between};
 use stream_lex::{Context, Half, NameOwner, Quote, Stage, State};
 
 /// A stage between two characters.
@@ -184,6 +184,24 @@ impl Tracker {
                 true
             }
             None => false,
+        }
+    }
+
+    /// Reads the `<` of a tag between top elements. Answers whether it was one.
+    pub(crate) fn begin_item(&mut self, byte: u8) -> bool
+        ensures begins { result ≡ begins_item self.old.frame byte }
+        ensures read { result ≡ true → self.new ≡ record self.old { frame = now_begun self.old.frame } }
+        ensures kept { result ≡ false → self.new ≡ self.old }
+    {
+        let Standing::Open(Place::Inside) = self.standing else {
+            return false;
+        };
+        let is_less = byte == b'<' && (is_at_words(self.state.stage) && is_between(self.state));
+        if self.open.is_one() && is_less {
+            self.state = between(Stage::Less);
+            true
+        } else {
+            false
         }
     }
 

@@ -10,7 +10,8 @@ use crate::runs::RunOf;
 use crate::tracker::{Standing, Tracker};
 use stream_lex::{Context, NameOwner, Pending, Quote, Stage, State};
 
-fn is_at_words(stage: Stage) -> bool
+/// Whether a stage is in words.
+pub(crate) fn is_at_words(stage: Stage) -> bool
     ensures { result ≡ is_words_stage stage }
 {
     matches!(stage, Stage::Text(Context::Words))

@@ -74,7 +74,7 @@ impl Work {
     }
 
     /// Whether there is a builder that has nothing but bindings.
-    fn is_idle(&self) -> bool {
+    pub(crate) fn is_idle(&self) -> bool {
         match &self.builder {
             Some(builder) => builder.is_idle(),
             None => false,
@@ -83,16 +83,6 @@ impl Work {
 
     /// Gives a builder up that has nothing but bindings.
     pub(crate) fn release(&mut self)
-        ensures { work_of self.new ≡ work_of self.old }
-    {
-        if self.is_idle() {
-            self.give_up();
-        }
-    }
-
-    /// The same, where there is such a builder.
-    #[inline(never)]
-    fn give_up(&mut self)
         ensures { work_of self.new ≡ work_of self.old }
     {
         let Some(builder) = self.builder.take() else {
