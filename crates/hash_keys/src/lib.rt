@@ -2,5 +2,7 @@
 #![tactic(auto)]
 
 mod key;
+mod words;
 
 pub use key::HashKey;
+pub use words::WordHasher;

@@ -4,7 +4,7 @@ ghost use Rattle.mam_archive.specs.Peers.{address_hash, extent_of, face, key};
 
 use hash_keys::HashKey;
 use jid_core::{Jid, Part};
-use std::hash::{BuildHasher, Hasher};
+use std::hash::Hasher;
 
 /// What of an address counts.
 #[derive(Clone, Copy)]
@@ -50,7 +50,7 @@ fn bytes_of(part: &Option<Part>) -> &[u8]
 fn hash_of(hash_key: HashKey, peer: &Jid, resource: &[u8]) -> u64
     ensures { result ≡ address_hash hash_key peer.now.local peer.now.domain resource.now }
 {
-    let mut hasher = hash_key.build_hasher();
+    let mut hasher = hash_key.hasher();
     hasher.write(bytes_of(&peer.local));
     hasher.write(b"/");
     hasher.write(peer.domain.bytes());
