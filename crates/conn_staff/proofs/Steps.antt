@@ -1,5 +1,5 @@
 -- One more worker, one more place.
-use Rattle.std.proofs.Common.{◌≡◌, ◌+◌, suc, Bool, true, false, List, [], ◌∷◌, ◌++◌, map, length, All, append_assoc, append-nil, refl, sym, ap, subst, ◌∙◌, arith}
+use Rattle.std.proofs.Common.{◌≡◌, ◌+◌, ◌<◌, suc, Bool, true, false, List, [], ◌∷◌, ◌++◌, map, length, All, append_assoc, append-nil, refl, sym, ap, subst, ◌∙◌, arith}
 use Rattle.std.proofs.Common.{length-append}
 use Rattle.std.proofs.lemmas.List.{map-append}
 use Rattle.std.proofs.lemmas.List.Elements.{All-push, All-tail}
@@ -40,6 +40,9 @@ one_more A P xs ys x more all one = subst (All P) (sym more) (All-push P xs x al
 
 pub the_rest : (A : Type 0) (P : A → Type 0) (xs xs' : List A) (x : A) → xs ≡ x ∷ xs' → All P xs → All P xs'
 the_rest A P xs xs' x next all = All-tail P x xs' (subst (All P) next all)
+
+pub the_first : (A : Type 0) (P : A → Type 0) (xs xs' : List A) (x : A) → xs ≡ x ∷ xs' → All P xs → P x
+the_first A P xs xs' x next all = let some : 0 < length (x ∷ xs') = omega arith in subst (All P) next all 0 x some
 
 pub map_length : (A B : Type 0) (f : A → B) (xs : List A) → length (map f xs) ≡ length xs
 map_length A B f [] = refl

@@ -1,13 +1,14 @@
 -- Names that are unbound or come twice, by the expanded names.
-use Rattle.std.proofs.Common.{◌≡◌, ◌||◌, ◌∙◌, List, ℕ, [], ◌∷◌, map, refl, ap, true, if◌then◌else◌, Some, None}
+use Rattle.std.proofs.Common.{◌≡◌, ◌||◌, ◌∙◌, List, ℕ, [], ◌∷◌, map, refl, ap, true, if◌then◌else◌, Option, Some, None}
 use Rattle.stream_grammar.specs.declared.namespaces.Binding.{Binding}
 use Rattle.stream_grammar.specs.declared.namespaces.Written.{Written}
 use Rattle.stream_grammar.specs.declared.namespaces.NameFault.TheVariants as fault
 use Rattle.stream_grammar.specs.grammar.Namespaces.{has_unbound, has_twin, has_twins, is_twin, is_unbound, attribute_space, is_bound_to}
-use Rattle.stream_grammar.specs.grammar.Namespaces.{xml_space, has_forbidden, is_declaration, space_of, prefix_of, tag_fault}
+use Rattle.stream_grammar.specs.grammar.Namespaces.{xml_space, has_forbidden, is_declaration}
 use Rattle.stream_frames.specs.Expanded.{expanded, has_unbound_name, is_among, has_repeat, fault_of_names, spaces_of}
 use Rattle.stream_grammar.specs.grammar.Resolving.{or_none}
 use Rattle.stream_frames.specs.Filled.{spaces_on}
+use Rattle.stream_frames.specs.Unprefixed.{fault_in}
 
 pub unbound_by_names : (bindings : List (List Binding)) (attributes : List Written)
     → has_unbound_name (map (expanded bindings) attributes) ≡ has_unbound bindings attributes
@@ -26,10 +27,9 @@ twins_by_names bindings (a ∷ more) =
     ap (λ c. if c then true else has_repeat (map (expanded bindings) more)) (twin_by_names bindings a more)
     ∙ ap (λ c. if has_twin bindings a more then true else c) (twins_by_names bindings more)
 
-pub fault_by_names : (bindings : List (List Binding)) (name : List ℕ) (attributes : List Written)
-    → fault_of_names (space_of bindings (prefix_of name)) (map (expanded bindings) attributes) attributes ≡ tag_fault bindings name attributes
-fault_by_names bindings name attributes =
-    let space = space_of bindings (prefix_of name) in
+pub fault_by_names : (bindings : List (List Binding)) (space : Option (List ℕ)) (attributes : List Written)
+    → fault_of_names space (map (expanded bindings) attributes) attributes ≡ fault_in bindings space attributes
+fault_by_names bindings space attributes =
     ap (λ b. if is_unbound space || b then Some fault.BadPrefix else if is_bound_to space xml_space
     || (has_forbidden attributes || has_repeat (map (expanded bindings) attributes)) then Some fault.NotWellFormed else None)
     (unbound_by_names bindings attributes)

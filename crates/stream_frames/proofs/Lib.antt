@@ -20,3 +20,4 @@ pub mod DeclareLemmas
 pub mod WaitLemmas
 pub mod StandLemmas
 pub mod ItemLemmas
+pub mod UnprefixedLemmas

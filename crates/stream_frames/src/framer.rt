@@ -262,7 +262,7 @@ impl Framer {
         }
     }
 
-    /// The same.
+    /// Gives that room up, whether or not more of a piece is to come.
     #[inline(never)]
     fn release(&mut self)
         ensures { self.new ≡ self.old }

@@ -17,6 +17,7 @@ mod tags;
 mod tracker;
 mod tracker_markup;
 mod tracker_runs;
+mod unprefixed;
 mod wide;
 mod work;
 

@@ -7,7 +7,7 @@ ghost use Rattle.stream_frames.specs.Begins.{begins_with_x};
 ghost use Rattle.stream_frames.specs.Spaces.{space_bytes, bound_space};
 ghost use Rattle.stream_grammar.specs.grammar.Namespaces.{colon_at, has_prefix, prefix_of, local_of, is_declaration, declared_prefix};
 ghost use Rattle.stream_grammar.specs.grammar.Namespaces.{may_undo, may_declare, last_space, last_layer, space_of, attribute_space};
-ghost use Rattle.stream_grammar.specs.grammar.Namespaces.{is_forbidden, has_forbidden, own, space_before};
+ghost use Rattle.stream_grammar.specs.grammar.Namespaces.{is_forbidden, has_forbidden, own, space_before, is_bound_to, xml_space};
 
 use crate::expanded::{Expanded, any_repeat, any_unbound};
 use stanza_tree::{NoMemory, Several, Text};
@@ -48,7 +48,7 @@ pub(crate) fn colon_place(name: &[u8]) -> usize
     name.len()
 }
 
-fn has_a_prefix(name: &[u8]) -> bool
+pub(crate) fn has_a_prefix(name: &[u8]) -> bool
     ensures { result ≡ has_prefix name.now }
 {
     colon_place(name) < name.len()
@@ -198,7 +198,7 @@ fn is_forbidden_here(attribute: &Written) -> bool
     declares(name) && !may_be_declared(declared(name), attribute.value.bytes())
 }
 
-fn any_forbidden(attributes: &[Written]) -> bool
+pub(crate) fn any_forbidden(attributes: &[Written]) -> bool
     ensures { result ≡ has_forbidden attributes.now }
 {
     for attribute in attributes {
@@ -207,6 +207,16 @@ fn any_forbidden(attributes: &[Written]) -> bool
         }
     }
     false
+}
+
+/// Whether this is the namespace of `xml`, in which no element may be.
+pub(crate) fn is_xml(space: Option<Space<'_>>) -> bool
+    ensures { result ≡ is_bound_to (bound_space space.entry) xml_space }
+{
+    match space {
+        Some(space) => space.bytes() == XML_SPACE.as_bytes(),
+        None => false,
+    }
 }
 
 /// The fault of a tag by the namespace of its element and the expanded names of its attributes. Each two names are
@@ -221,11 +231,7 @@ pub(crate) fn name_fault(
     if space.is_none() || any_unbound(names) {
         return Some(NameFault::BadPrefix);
     }
-    let is_xml = match space {
-        Some(space) => space.bytes() == XML_SPACE.as_bytes(),
-        None => false,
-    };
-    if is_xml || any_forbidden(attributes) || any_repeat(names) {
+    if is_xml(space) || any_forbidden(attributes) || any_repeat(names) {
         return Some(NameFault::NotWellFormed);
     }
     None

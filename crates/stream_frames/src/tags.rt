@@ -3,14 +3,16 @@
 ghost use Rattle.std.specs.Prelude.{◌≡◌, ◌+◌, ◌≤◌, [], ◌∷◌, ◌++◌, length, None, map, IfOk, IfErr, OnOk, IsUtf8, vec_len, vec_capacity};
 ghost use Rattle.stream_grammar.specs.grammar.Namespaces.{local_of, tag_fault};
 ghost use Rattle.stream_frames.specs.Expanded.{full_name, spaces_of};
-ghost use Rattle.stream_frames.specs.Filled.{spaces_on, attr_in, attrs_in, element_in};
+ghost use Rattle.stream_frames.specs.Filled.{attr_in, attrs_in, element_in};
 ghost use Rattle.stream_grammar.specs.machine.Texts.{HaveTextNames};
 ghost use Rattle.stream_grammar.specs.grammar.Resolving.{or_none, name_on, attrs_on};
 ghost use Rattle.stream_frames.specs.TagFaults.{IsTagFault};
 ghost use Rattle.stream_frames.specs.Spaces.{bound_space};
+ghost use Rattle.stream_frames.specs.Unprefixed.{fault_in, IsFaultIn};
 
 use crate::expanded::{Expanded, expanded_names};
 use crate::namespaces::{Space, bound, colon_place, declares, local, name_fault, prefix};
+use crate::unprefixed::{are_unprefixed, unprefixed_fault};
 use stanza_tree::{Attr, Element, Name, NoMemory, Several, Text};
 use std::alloc::{AllocError, Global};
 use std::{mem, str};
@@ -78,11 +80,36 @@ pub(crate) struct Resolved {
     pub(crate) room: Vec<Attr>,
 }
 
-/// What a tag with this name and these attributes needs to become an element, or why it can't. The bindings are those of each
-/// element round it, outermost first, and then its own. The prefix of each name is looked up once, so the time grows with the
+/// The namespaces of the attributes of a tag whose element is in this one, or the fault of its names. Where no attribute has a
+/// prefix they are in none, and nothing is listed. The prefix of each name is looked up once, so the time grows with the
 /// attributes times the bindings; and with the attributes times the bytes of their names and namespaces, since each two names
 /// are compared.
-#[tactic(auto, using(crate::proofs::ExpandedLemmas::fault_by_names, crate::proofs::ExpandedLemmas::spaces_by_names, crate::proofs::FillLemmas::attrs_filled))]
+#[tactic(auto, using(crate::proofs::ExpandedLemmas::fault_by_names, crate::proofs::ExpandedLemmas::spaces_by_names, crate::proofs::FillLemmas::attrs_filled, crate::proofs::UnprefixedLemmas::fault_is, crate::proofs::UnprefixedLemmas::none_filled))]
+fn spaces_within(
+    alloc: Global,
+    layers: &[Several<Binding>],
+    space: Option<Space<'_>>,
+    attributes: &[Written],
+) -> Result<Vec<Text>, TagFault>
+    ensures spaces { IfOk result (λ v. attrs_in v.items attributes.now ≡ attrs_on layers.now attributes.now) }
+    ensures ok { OnOk result (fault_in layers.now (bound_space space.entry) attributes.now ≡ None) }
+    ensures fault { IfErr result (IsFaultIn layers.now (bound_space space.entry) attributes.now) }
+{
+    if are_unprefixed(attributes) {
+        return match unprefixed_fault(space, attributes) {
+            Some(fault) => Err(TagFault::Names(fault)),
+            None => Ok(Vec::new(alloc)),
+        };
+    }
+    let names = expanded_names(alloc, layers, attributes)?;
+    if let Some(fault) = name_fault(space, names.as_slice(), attributes) {
+        return Err(TagFault::Names(fault));
+    }
+    Ok(attribute_spaces(alloc, names.as_slice())?)
+}
+
+/// What a tag with this name and these attributes needs to become an element, or why it can't. The bindings are those of each
+/// element round it, outermost first, and then its own.
 pub(crate) fn resolve(
     alloc: Global,
     layers: &[Several<Binding>],
@@ -91,18 +118,13 @@ pub(crate) fn resolve(
 ) -> Result<Resolved, TagFault>
     ensures element { IfOk result (λ r. element_in r.space r.spaces.items name.now attributes.now
         ≡ record { name = name_on layers.now name.now; attrs = attrs_on layers.now attributes.now; children = [] }) }
-    ensures spaces { IfOk result (λ r. r.spaces.items ≡ spaces_on layers.now attributes.now) }
     ensures room { IfOk result (λ r. (r.room.items ≡ []) × (vec_len r.room + length attributes.now ≤ vec_capacity r.room)) }
     ensures ok { OnOk result (tag_fault layers.now name.now attributes.now ≡ None) }
     ensures fault { IfErr result (IsTagFault layers.now name.now attributes.now) }
 {
     let space = bound(layers, prefix(name));
-    let names = expanded_names(alloc, layers, attributes)?;
-    if let Some(fault) = name_fault(space, names.as_slice(), attributes) {
-        return Err(TagFault::Names(fault));
-    }
+    let spaces = spaces_within(alloc, layers, space, attributes)?;
     let space = space_text(alloc, space)?;
-    let spaces = attribute_spaces(alloc, names.as_slice())?;
     let room = Vec::with_capacity(alloc, attributes.len())?;
     Ok(Resolved {
         space,

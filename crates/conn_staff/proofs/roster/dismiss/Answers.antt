@@ -3,9 +3,20 @@ use Rattle.std.specs.Prelude.{vec_capacity, ◌||◌}
 use Rattle.std.specs.List.{list_any}
 use Rattle.std.proofs.Common.{length-append}
 use Rattle.conn_staff.specs.Workers.{outfit_at, outfit_of, passes_at}
-use Rattle.conn_staff.proofs.Steps.{failed_next, fewer, fewer_all, gained, moved_all, the_rest}
+use Rattle.conn_staff.proofs.Steps.{failed_next, fewer, fewer_all, gained, map_length, moved_all, the_first, the_rest}
 use Rattle.conn_staff.proofs.roster.dismiss.Goals.{then-failed, else-failed}
 use Rattle.conn_staff.proofs.roster.dismiss.Goals as goal
+
+pub leave_places-requires-clause-room : goal.leave_places-requires-clause-room
+leave_places-requires-clause-room g c =
+    (the_first _ (λ w. (w.sources.items ≡ []) × (length w.places.items ≤ vec_capacity w.sources)) _ _ _ c.in-Some.ensures.steps.0
+    c.loop-worker.invariant.sources).1
+
+pub leave_places-requires-clause-passes_room : goal.leave_places-requires-clause-passes_room
+leave_places-requires-clause-passes_room g c =
+    let all = fewer_all _ _ passes_at _ _ _ c.in-Some.ensures.steps.0 in
+    let as_many = map_length _ _ (λ p. p.pass) c.in-Some.worker.places.items in
+    omega (arith, c.loop-worker.invariant.passes_room, all, as_many)
 
 pub loop-worker-preserved : goal.loop-worker-preserved
 loop-worker-preserved g c =
