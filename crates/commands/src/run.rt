@@ -43,8 +43,8 @@ where
     ensures few { (name salt : List ℕ) → task_of words.now ≡ Some (Make name salt) → ReadsAtMost 258 (S.left source.old) (S.left source.new) }
     ensures served { (w : Serving) → task_of words.now ≡ Some (Serve w)
         → Concluded w (S.left source.old) (S.left source.new)
-        (tally (P.tapes ports.old) (P.links ports.old) (P.dice_faults ports.old) (P.address ports.old))
-        (tally (P.tapes ports.new) (P.links ports.new) (P.dice_faults ports.new) (P.address ports.new)) (K.took sink.old) (K.took sink.new) result }
+        (tally (P.tapes ports.old) (P.links ports.old) (P.dice_faults ports.old) (P.address ports.old) (P.drawn ports.old))
+        (tally (P.tapes ports.new) (P.links ports.new) (P.dice_faults ports.new) (P.address ports.new) (P.drawn ports.new)) (K.took sink.old) (K.took sink.new) result }
     ensures drilled { (n key : ℕ) → task_of words.now ≡ Some (Drill n key) → Ends K.took n key sink.old sink.new result }
     ensures aside { (n key : ℕ) → task_of words.now ≡ Some (Drill n key) → (source.new ≡ source.old) × (ports.new ≡ ports.old) }
     ensures usage { result ≡ Status.Usage → task_of words.now ≡ None }

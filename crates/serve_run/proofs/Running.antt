@@ -13,6 +13,7 @@ use Rattle.house_model.specs.Histories.{StandsFor, Turn, openings}
 use Rattle.house_model.specs.States.{Kept, State}
 use Rattle.outside.specs.Devices.{Front, Rose}
 use Rattle.outside.specs.Posts.{added, plus}
+use Rattle.outside.specs.Tapes.{Tells}
 use Rattle.script_play.specs.Runs as Run
 use Rattle.script_play.specs.declared.status.Status.{Status}
 use Rattle.script_play.specs.declared.status.Status.TheVariants as status
@@ -21,7 +22,7 @@ use Rattle.conn_staff.specs.declared.roster.Worked.TheVariants.{PollFault, Shut}
 use Rattle.conn_staff.specs.Staffs.{AllEnded, PostTelling, Staffed, places_of, worked_by}
 use Rattle.serve_run.proofs.Pollers.{dice-counted, links-added, places-many, quotas-filled}
 use Rattle.serve_run.specs.declared.serving.Serving.{Serving}
-use Rattle.serve_run.specs.Services.{AllOpened, CameShort, Gathered, IsRefused, LeftUnserved, ListeningFailed, Ran, ReadsList, Refused}
+use Rattle.serve_run.specs.Services.{AllOpened, CameShort, DrewAtMostOne, Gathered, IsRefused, LeftUnserved, ListeningFailed, Ran, ReadsList, Refused}
 use Rattle.serve_run.specs.Services.{Served, ServedBy, SomeRose, Tally, Unserved, address_at, entries_for, opening_for, report}
 
 -- Workers: each poller shut, or one failed.
@@ -45,17 +46,28 @@ staff_failed o accounts before now worked k s failed = some_rose before now s.fa
 
 -- Over a list.
 
-pub served_over : (r : Result (HouseRecord × Worked) Status) (asked : Serving) (list : List ℕ) (accounts : Book) (before now : List PostTelling) (k : Kept)
-    → IfOk r (λ left. (o : State) → StandsFor o [] k → Staffed o accounts before now left.1 (held left.0))
+pub served_over : (r : Result (HouseRecord × Worked) Status) (asked : Serving) (list : List ℕ) (drawn drawn' : Option (List (List ℕ))) (accounts : Book)
+    (before now : List PostTelling) (k : Kept) → IfOk r (λ left. (o : State) → StandsFor o [] k → Staffed o accounts before now left.1 (held left.0))
     → StandsFor (opening_for asked accounts) [] k → entries_for asked.sessions list ≡ Ok (map entry_of accounts.accounts)
-    → IfOk r (λ left. ServedBy left.1 asked list before now (held left.0))
-served_over (Ok left) asked list accounts before now k served stands read = (accounts, read, served (opening_for asked accounts) stands)
-served_over (Err s) asked list accounts before now k served stands read = tt
+    → Tells (List ℕ) drawn drawn' (accounts.secret ∷ []) → IfOk r (λ left. ServedBy left.1 asked list drawn drawn' before now (held left.0))
+served_over (Ok left) asked list drawn drawn' accounts before now k served stands read drew =
+    (accounts, read, drew, served (opening_for asked accounts) stands)
+served_over (Err s) asked list drawn drawn' accounts before now k served stands read drew = tt
 
 pub refused_over : (r : Result (HouseRecord × Worked) Status) (sessions : ℕ) (list : List ℕ) (X : Type 0) → IfErr r (λ s. s ≡ status.NoMemory)
     → IfErr r (λ s. Refused sessions list s X)
 refused_over (Ok left) sessions list X refused = tt
 refused_over (Err s) sessions list X is = inl (subst (λ (t : Status). IsRefused (entries_for sessions list) t) (sym is) tt)
+
+pub when_err : {A : Type 0} (r : Result A Status) (X : Type 0) → X → OnErr r X
+when_err (Ok x) X holds = tt
+when_err (Err s) X holds = holds
+
+-- nothing was served, and one secret was drawn
+pub one_over : (r : Result (HouseRecord × Worked) Status) (drawn drawn' : Option (List (List ℕ))) (secret : List ℕ) → length secret ≡ 32
+    → Tells (List ℕ) drawn drawn' (secret ∷ []) → OnErr r (DrewAtMostOne drawn drawn')
+one_over (Ok left) drawn drawn' secret long drew = tt
+one_over (Err s) drawn drawn' secret long drew = inr (secret, long, drew)
 
 -- Counts.
 
@@ -119,12 +131,20 @@ itself_least n = omega arith
 both_least : (a b c : ℕ) → a ≤ b → b ≤ c → a ≤ c
 both_least a b c h k = omega arith
 
+-- what was drawn, where the ports told as much before and tell as much now
+same_drawn : (X : Option (List (List ℕ)) → Option (List (List ℕ)) → Type 0) (drawn drawn' now now' : Option (List (List ℕ))) → drawn ≡ now
+    → now' ≡ drawn' → X drawn drawn' → X now now'
+same_drawn X drawn drawn' now now' first last x =
+    subst (λ (d : Option (List (List ℕ))). X d now') first (subst (λ (d : Option (List (List ℕ))). X drawn d) (sym last) x)
+
 pub ran : (worked : Worked) (asked : Serving) → 0 < asked.workers → 0 < asked.links → (list : List ℕ) (ports ports' : Tally)
     (before now : List PostTelling) (k : Kept) → length before ≡ asked.workers → AllOpened asked.links asked.connections before
-    → ServedBy worked asked list before now k → ports'.address ≡ Some (address_at asked.port) → Gathered ports now ports' → Ran worked asked list ports ports'
-ran worked asked some places list ports ports' before now k many opened (accounts, read, staffed) listened gathers = record {
+    → ServedBy worked asked list ports.drawn ports'.drawn before now k → ports'.address ≡ Some (address_at asked.port) → Gathered ports now ports'
+    → Ran worked asked list ports ports'
+ran worked asked some places list ports ports' before now k many opened (accounts, read, drew, staffed) listened gathers = record {
   accounts = accounts;
   read = read;
+  drew = drew;
   before = before;
   now = now;
   as_many = many;
@@ -155,24 +175,29 @@ ran worked asked some places list ports ports' before now k many opened (account
         (product asked.workers asked.links some places)
 
 pub posts_ran : (r : Result (HouseRecord × Worked) Status) (asked : Serving) → 0 < asked.workers → 0 < asked.links → (list : List ℕ)
-    (ports ports' : Tally) (before now : List PostTelling) → IfOk r (λ left. ServedBy left.1 asked list before now (held left.0))
+    (ports ports' : Tally) (drawn drawn' : Option (List (List ℕ))) (before now : List PostTelling)
+    → IfOk r (λ left. ServedBy left.1 asked list drawn drawn' before now (held left.0)) → drawn ≡ ports.drawn → ports'.drawn ≡ drawn'
     → length before ≡ asked.workers → AllOpened asked.links asked.connections before → ports'.address ≡ Some (address_at asked.port)
     → Gathered ports now ports' → IfOk r (λ left. (x : Ran left.1 asked list ports ports') × (x.kept ≡ held left.0))
 unfolding ran
-posts_ran (Ok left) asked some places list ports ports' before now served many opened listened gathers =
-    (ran left.1 asked some places list ports ports' before now (held left.0) many opened served listened gathers, refl)
-posts_ran (Err s) asked some places list ports ports' before now served many opened listened gathers = tt
+posts_ran (Ok left) asked some places list ports ports' drawn drawn' before now served first last many opened listened gathers = (
+  ran left.1 asked some places list ports ports' before now (held left.0) many opened
+      (same_drawn (λ (d d' : Option (List (List ℕ))). ServedBy left.1 asked list d d' before now (held left.0)) drawn drawn' ports.drawn ports'.drawn first
+      last served) listened gathers,
+  refl,
+)
+posts_ran (Err s) asked some places list ports ports' drawn drawn' before now served first last many opened listened gathers = tt
 
-pub ports_failed : (r : Result (HouseRecord × Worked) Status) (asked : Serving) (list : List ℕ) (f0 f1 f2 f3 : ℕ) (before now : List PostTelling)
-    → IfOk r (λ left. ServedBy left.1 asked list before now (held left.0)) → f0 ≤ f1 → f1 ≤ f2
+pub ports_failed : (r : Result (HouseRecord × Worked) Status) (asked : Serving) (list : List ℕ) (f0 f1 f2 f3 : ℕ) (drawn drawn' : Option (List (List ℕ)))
+    (before now : List PostTelling) → IfOk r (λ left. ServedBy left.1 asked list drawn drawn' before now (held left.0)) → f0 ≤ f1 → f1 ≤ f2
     → f3 ≡ added f2 (map (λ (a : PostTelling). a.poller.faults) now) → AllOpened asked.links asked.connections before
     → IfOk r (λ left. left.1 ≡ PollFault → Rose f0 f3)
-ports_failed (Ok left) asked list f0 f1 f2 f3 before now (accounts, read, staffed) k0 k1 is opened = λ failed.
+ports_failed (Ok left) asked list f0 f1 f2 f3 drawn drawn' before now (accounts, read, drew, staffed) k0 k1 is opened = λ failed.
     rose_wider f0 f2 f3 f3 (both_least f0 f1 f2 k0 k1)
     (subst (λ (x : ℕ). Rose f2 x) (sym is)
     (gathered_rose asked.links asked.connections f2 before now opened (staff_failed _ accounts before now left.1 (held left.0) staffed failed)))
     (itself_least f3)
-ports_failed (Err s) asked list f0 f1 f2 f3 before now served k0 k1 is opened = tt
+ports_failed (Err s) asked list f0 f1 f2 f3 drawn drawn' before now served k0 k1 is opened = tt
 
 pub ports_refused : (r : Result (HouseRecord × Worked) Status) (sessions : ℕ) (list : List ℕ) (f0 f1 f2 f3 : ℕ) → f0 ≤ f1 → f2 ≤ f3
     → IfErr r (λ s. Refused sessions list s (Rose f1 f2)) → IfErr r (λ s. Refused sessions list s (Rose f0 f3))
@@ -186,24 +211,27 @@ by_status asked ports ports' s left = inr left
 
 -- nothing listened
 pub never_listened : (asked : Serving) (ports ports' : Tally) (s : Status) → (s ≡ status.ListenFault) ⊎ (s ≡ status.NoMemory)
-    → ports'.tapes ≡ ports.tapes → ports'.links ≡ ports.links → ports'.dice ≡ ports.dice → LeftUnserved asked ports ports' s
-never_listened asked ports ports' s (inl is) tapes came dice =
-    subst (λ (x : Status). LeftUnserved asked ports ports' x) (sym is) (inl (record { tapes = tapes; links = came; dice = dice }))
-never_listened asked ports ports' s (inr is) tapes came dice =
-    subst (λ (x : Status). LeftUnserved asked ports ports' x) (sym is) (inl (record { tapes = tapes; links = came; dice = dice }))
+    → ports'.tapes ≡ ports.tapes → ports'.links ≡ ports.links → ports'.dice ≡ ports.dice → ports'.drawn ≡ ports.drawn
+    → LeftUnserved asked ports ports' s
+never_listened asked ports ports' s (inl is) tapes came dice drawn =
+    subst (λ (x : Status). LeftUnserved asked ports ports' x) (sym is) (inl (record { tapes = tapes; links = came; dice = dice; drawn = drawn }))
+never_listened asked ports ports' s (inr is) tapes came dice drawn =
+    subst (λ (x : Status). LeftUnserved asked ports ports' x) (sym is) (inl (record { tapes = tapes; links = came; dice = dice; drawn = drawn }))
 
 -- posts that came back as they were
 pub ports_unserved : (r : Result (HouseRecord × Worked) Status) (asked : Serving) (ports ports' : Tally) (T : Type 0) (tell : T → PostTelling)
-    (posts back : List T) → IfErr r (λ s. back ≡ posts) → length (map tell posts) ≡ asked.workers
+    (posts back : List T) (drawn drawn' : Option (List (List ℕ))) → IfErr r (λ s. back ≡ posts) → OnErr r (DrewAtMostOne drawn drawn')
+    → drawn ≡ ports.drawn → ports'.drawn ≡ drawn' → length (map tell posts) ≡ asked.workers
     → AllOpened asked.links asked.connections (map tell posts) → ports'.address ≡ Some (address_at asked.port) → Gathered ports (map tell back) ports'
     → IfErr r (LeftUnserved asked ports ports')
-ports_unserved (Ok left) asked ports ports' T tell posts back same many opened listened gathers = tt
-ports_unserved (Err s) asked ports ports' T tell posts back same many opened listened gathers =
+ports_unserved (Ok left) asked ports ports' T tell posts back drawn drawn' same drew first last many opened listened gathers = tt
+ports_unserved (Err s) asked ports ports' T tell posts back drawn drawn' same drew first last many opened listened gathers =
     by_status asked ports ports' s (record {
       posts = map tell posts;
       as_many = many;
       opened = opened;
       listened = listened;
+      drew = same_drawn DrewAtMostOne drawn drawn' ports.drawn ports'.drawn first last drew;
       gathered = subst (λ (l : List T). Gathered ports (map tell l) ports') same gathers;
     })
 

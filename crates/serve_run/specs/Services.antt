@@ -5,7 +5,7 @@ use Rattle.std.specs.Fmt.{decimal}
 use Rattle.outside.specs.Devices.{Front, Rose}
 use Rattle.outside.specs.Doors.{Untold}
 use Rattle.outside.specs.Posts.{Each, Gathers, added, plus}
-use Rattle.outside.specs.Tapes.{Mark}
+use Rattle.outside.specs.Tapes.{Mark, Tells}
 use Rattle.account_book.specs.Entries.{Entry, entry_of}
 use Rattle.account_book.specs.Lists.{Book, entries_within, names_of}
 use Rattle.account_book.specs.declared.fault.LineKind.{LineKind}
@@ -58,16 +58,22 @@ pub record IsOpened (links quota : ℕ) (a : PostTelling) : Type 0 where
 abbrev pub AllOpened : (links quota : ℕ) → List PostTelling → Type 0
 AllOpened links quota posts = Each PostTelling (IsOpened links quota) posts
 
--- what ports tell: the tapes of the pollers that were given back, post by post and place by place, their counts of links and of faults of dice, and the
--- address at which they listened last
+-- what ports tell: the tapes of the pollers that were given back, post by post and place by place, their counts of links and of faults of dice, the address
+-- at which they listened last, and what they drew
 pub record Tally : Type 0 where
   pub tapes : Option (List (List (List (List Mark))))
   pub links : ℕ
   pub dice : ℕ
   pub address : Option (List ℕ)
+  pub drawn : Option (List (List ℕ))
 
-abbrev pub tally : Option (List (List (List (List Mark)))) → (links dice : ℕ) → (address : Option (List ℕ)) → Tally
-tally tapes links dice address = record { tapes = tapes; links = links; dice = dice; address = address }
+abbrev pub tally : Option (List (List (List (List Mark)))) → (links dice : ℕ) → Option (List ℕ) → (drawn : Option (List (List ℕ))) → Tally
+tally tapes links dice address drawn = record { tapes = tapes; links = links; dice = dice; address = address; drawn = drawn }
+
+-- nothing was drawn, or one secret of 32 bytes
+abbrev pub DrewAtMostOne : (drawn now_drawn : Option (List (List ℕ))) → Type 0
+DrewAtMostOne drawn now_drawn =
+    Tells (List ℕ) drawn now_drawn [] ⊎ ((secret : List ℕ) × (length secret ≡ 32) × Tells (List ℕ) drawn now_drawn (secret ∷ []))
 
 -- posts were given back: the tapes of their places come last, where all are told, and what they counted is added
 pub record Gathered (ports : Tally) (posts : List PostTelling) (now : Tally) : Type 0 where
@@ -98,13 +104,14 @@ dice_ends o accounts h n (a ∷ before) (b ∷ now) (first, rest) = dice_in firs
 dice_ends o accounts h n [] (b ∷ now) each = absurd each
 dice_ends o accounts h n (a ∷ before) [] each = absurd each
 
--- The workers served over a list of accounts until each poller shut or failed: as many as were asked for, each with so many places, at the port. What they
--- did stands in one legal history from the opening of the house for the users of these accounts, and the posts were given back to the ports. Where fewer
--- than 2^63 turns were taken, the ports count each connection that came in it; and where each poller shut these are as many as the quotas of all workers,
--- where there is one. At least as many faults of dice are counted as links ended by one.
+-- The workers served over a list of accounts until each poller shut or failed: as many as were asked for, each with so many places, at the port. What the
+-- ports drew is the secret of the accounts' decoys. What the workers did stands in one legal history from the opening of the house for the users of these
+-- accounts, and the posts were given back to the ports. Where fewer than 2^63 turns were taken, the ports count each connection that came in it; and where
+-- each poller shut these are as many as the quotas of all workers, where there is one. At least as many faults of dice are counted as links ended by one.
 pub record Ran (worked : Worked) (asked : Serving) (list : List ℕ) (ports now_ports : Tally) : Type 0 where
   pub accounts : Book
   pub read : entries_for asked.sessions list ≡ Ok (map entry_of accounts.accounts)
+  pub drew : Tells (List ℕ) ports.drawn now_ports.drawn (accounts.secret ∷ [])
   pub before : List PostTelling
   pub now : List PostTelling
   pub as_many : length before ≡ asked.workers
@@ -129,14 +136,16 @@ pub record NeverListened (ports now_ports : Tally) : Type 0 where
   pub tapes : now_ports.tapes ≡ ports.tapes
   pub links : now_ports.links ≡ ports.links
   pub dice : now_ports.dice ≡ ports.dice
+  pub drawn : now_ports.drawn ≡ ports.drawn
 
--- nothing was served: as many posts as workers were given back as they had been handed out at the port
+-- nothing was served: as many posts as workers were given back as they had been handed out at the port, and the ports drew nothing, or one secret
 pub record Unserved (asked : Serving) (ports now_ports : Tally) : Type 0 where
   pub posts : List PostTelling
   pub as_many : length posts ≡ asked.workers
   pub opened : AllOpened asked.links asked.connections posts
   pub listened : now_ports.address ≡ Some (address_at asked.port)
   pub gathered : Gathered ports posts now_ports
+  pub drew : DrewAtMostOne ports.drawn now_ports.drawn
 
 -- What failed, where what listens did: listening itself; or the draw of the secret, and nothing was served; or a poller, and the workers served until each
 -- poller shut or failed.
@@ -158,10 +167,11 @@ SomeRose [] [] = ⊥
 SomeRose (a ∷ before) (b ∷ now) = Rose a.poller.faults b.poller.faults ⊎ SomeRose before now
 SomeRose before now = ⊥
 
--- the workers served over a list
-abbrev pub ServedBy : Worked → Serving → List ℕ → (before now : List PostTelling) → Kept → Type 0
-ServedBy worked asked list before now k =
+-- the workers served over a list, and what was drawn is the secret of its decoys
+abbrev pub ServedBy : Worked → Serving → List ℕ → (drawn now_drawn : Option (List (List ℕ))) → (before now : List PostTelling) → Kept → Type 0
+ServedBy worked asked list drawn now_drawn before now k =
     (accounts : Book) × (entries_for asked.sessions list ≡ Ok (map entry_of accounts.accounts))
+    × Tells (List ℕ) drawn now_drawn (accounts.secret ∷ [])
     × Staffed (opening_for asked accounts) accounts before now worked k
 
 -- they didn't, since the list is at fault or memory was wanting, or the ports failed

@@ -1,6 +1,6 @@
 //! Accounts, and a house for their users.
 
-ghost use Rattle.std.specs.Prelude.{◌≡◌, ◌⊎◌, ◌≤◌, [], IfErr, IfOk, Ok, length, map, true};
+ghost use Rattle.std.specs.Prelude.{◌≡◌, ◌⊎◌, ◌≤◌, ◌∷◌, [], ℕ, List, IfErr, IfOk, Ok, OnErr, length, map, true};
 ghost use Rattle.std.specs.List.{list_all};
 ghost use Rattle.account_book.specs.Entries.{entry_of};
 ghost use Rattle.account_book.specs.Lists.{names_of};
@@ -10,6 +10,7 @@ ghost use Rattle.house_core.specs.Houses.{held};
 ghost use Rattle.house_model.specs.Histories.{StandsFor};
 ghost use Rattle.house_model.specs.States.{opening_with};
 ghost use Rattle.outside.specs.Devices.{Rose};
+ghost use Rattle.outside.specs.Tapes.{Tells};
 ghost use Rattle.serve_run.specs.Limits.{limits};
 ghost use Rattle.serve_run.specs.Services.{IsRefused, entries_for, tally};
 
@@ -33,6 +34,7 @@ pub(crate) fn accounts_of(
     sessions: u32,
 ) -> Result<Accounts, Status>
     ensures read { IfOk result (λ book. entries_for sessions list.now ≡ Ok (map entry_of book.accounts)) }
+    ensures secret { IfOk result (λ book. book.secret ≡ secret) }
     ensures refused { IfErr result (IsRefused (entries_for sessions list.now)) }
 {
     match Accounts::read_most(alloc, list, secret, key, most_lines(sessions)) {
@@ -73,12 +75,15 @@ pub(crate) fn house_of(
     House::with_limits(alloc, domain, users.as_slice(), lines, limits, key)
 }
 
-/// Random bytes that nobody else knows.
+/// Random bytes that nobody else knows: what the ports drew.
 pub(crate) fn secret_of<P: Ports>(ports: &mut P) -> Result<[u8; 32], Status>
     ensures kept { P.faults ports.old ≤ P.faults ports.new }
     ensures cause { IfErr result (λ s. (s ≡ Status.ListenFault) × Rose (P.faults ports.old) (P.faults ports.new)) }
-    ensures same { tally (P.tapes ports.new) (P.links ports.new) (P.dice_faults ports.new) (P.address ports.new)
-        ≡ tally (P.tapes ports.old) (P.links ports.old) (P.dice_faults ports.old) (P.address ports.old) }
+    ensures same { tally (P.tapes ports.new) (P.links ports.new) (P.dice_faults ports.new) (P.address ports.new) (P.drawn ports.old)
+        ≡ tally (P.tapes ports.old) (P.links ports.old) (P.dice_faults ports.old) (P.address ports.old) (P.drawn ports.old) }
+    ensures long { IfOk result (λ secret. length secret ≡ 32) }
+    ensures drew { IfOk result (λ secret. Tells (List ℕ) (P.drawn ports.old) (P.drawn ports.new) (secret ∷ [])) }
+    ensures nothing { OnErr result (Tells (List ℕ) (P.drawn ports.old) (P.drawn ports.new) []) }
 {
     let mut secret = [0u8; 32];
     match ports.fill(&mut secret) {

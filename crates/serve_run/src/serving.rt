@@ -1,16 +1,18 @@
 //! The run of a server.
 
-ghost use Rattle.std.specs.Prelude.{◌≡◌, ◌≢◌, ◌⊎◌, ◌<◌, ◌≤◌, ◌*◌, ◌++◌, [], ℕ, List, All, Err, IfErr, IfOk, Ok, OnOk, Some, false, length, map};
+ghost use Rattle.std.specs.Prelude.{◌≡◌, ◌≢◌, ◌⊎◌, ◌<◌, ◌≤◌, ◌*◌, ◌++◌, ◌∷◌, [], ℕ, List, All, Err, IfErr, IfOk, Ok};
+ghost use Rattle.std.specs.Prelude.{OnErr, OnOk, Some, false, length, map};
 ghost use Rattle.account_book.specs.Entries.{entry_of};
 ghost use Rattle.account_book.specs.declared.fault.LineKind.{LineKind};
 ghost use Rattle.house_core.specs.Houses.{held};
 ghost use Rattle.house_model.specs.Histories.{StandsFor};
 ghost use Rattle.house_model.specs.States.{State};
 ghost use Rattle.outside.specs.Devices.{Rose};
+ghost use Rattle.outside.specs.Tapes.{Tells};
 ghost use Rattle.conn_staff.specs.Staffs.{Staffed, post_told};
 ghost use Rattle.script_play.specs.Runs.{Front};
-ghost use Rattle.serve_run.specs.Services.{CameShort, IsRefused, LeftUnserved, ListeningFailed, Ran, ReadsList, Refused, Served, ServedBy, Unserved};
-ghost use Rattle.serve_run.specs.Services.{address_at, entries_for, opening_for, tally};
+ghost use Rattle.serve_run.specs.Services.{CameShort, DrewAtMostOne, IsRefused, LeftUnserved, ListeningFailed, Ran, ReadsList, Refused};
+ghost use Rattle.serve_run.specs.Services.{Served, ServedBy, Unserved, address_at, entries_for, opening_for, tally};
 
 use crate::list::read_list;
 use crate::opening::{accounts_of, hash_key, house_of, secret_of};
@@ -61,8 +63,11 @@ fn open<P: Ports>(
 ) -> Result<(Accounts, House), Status>
     requires few { serving.now.workers * serving.now.links ≤ 16384 }
     ensures kept { P.faults ports.old ≤ P.faults ports.new }
-    ensures same { tally (P.tapes ports.new) (P.links ports.new) (P.dice_faults ports.new) (P.address ports.new)
-        ≡ tally (P.tapes ports.old) (P.links ports.old) (P.dice_faults ports.old) (P.address ports.old) }
+    ensures same { tally (P.tapes ports.new) (P.links ports.new) (P.dice_faults ports.new) (P.address ports.new) (P.drawn ports.old)
+        ≡ tally (P.tapes ports.old) (P.links ports.old) (P.dice_faults ports.old) (P.address ports.old) (P.drawn ports.old) }
+    ensures drew { IfOk result (λ r. Tells (List ℕ) (P.drawn ports.old) (P.drawn ports.new) (r.0.secret ∷ [])) }
+    ensures long { IfOk result (λ r. length r.0.secret ≡ 32) }
+    ensures unused { OnErr result (DrewAtMostOne (P.drawn ports.old) (P.drawn ports.new)) }
     ensures read { IfOk result (λ r. entries_for serving.now.sessions list.now ≡ Ok (map entry_of r.0.accounts)) }
     ensures new { IfOk result (λ r. StandsFor (opening_for serving.now r.0) [] (held r.1)) }
     ensures lines { IfOk result (λ r. length r.1.table.lines ≡ serving.now.workers * serving.now.links) }
@@ -155,13 +160,14 @@ where
     requires sources { All (λ p. length p.sources.items ≡ serving.now.links) posts.items }
     requires free { All (λ p. (k : ℕ) → P.Poller.taken p.poller k ≡ false) posts.items }
     ensures kept { P.faults ports.old ≤ P.faults ports.new }
-    ensures same { tally (P.tapes ports.new) (P.links ports.new) (P.dice_faults ports.new) (P.address ports.new)
-        ≡ tally (P.tapes ports.old) (P.links ports.old) (P.dice_faults ports.old) (P.address ports.old) }
-    ensures served { IfOk result.1 (λ left. ServedBy left.1 serving.now list.now
+    ensures same { tally (P.tapes ports.new) (P.links ports.new) (P.dice_faults ports.new) (P.address ports.new) (P.drawn ports.old)
+        ≡ tally (P.tapes ports.old) (P.links ports.old) (P.dice_faults ports.old) (P.address ports.old) (P.drawn ports.old) }
+    ensures served { IfOk result.1 (λ left. ServedBy left.1 serving.now list.now (P.drawn ports.old) (P.drawn ports.new)
         (map (post_told P.Poller P.Clock P.Dice P.Poller.tapes P.Poller.came P.Poller.links P.Poller.faults P.Poller.quota P.Clock.told P.Dice.drawn P.Dice.faults)
         posts.items)
         (map (post_told P.Poller P.Clock P.Dice P.Poller.tapes P.Poller.came P.Poller.links P.Poller.faults P.Poller.quota P.Clock.told P.Dice.drawn P.Dice.faults)
         result.0.items) (held left.0)) }
+    ensures unused { OnErr result.1 (DrewAtMostOne (P.drawn ports.old) (P.drawn ports.new)) }
     ensures refused { IfErr result.1 (λ s. Refused serving.now.sessions list.now s (Rose (P.faults ports.old) (P.faults ports.new))) }
     ensures back { IfErr result.1 (λ _. result.0.items ≡ posts.items) }
     ensures wide { All (λ p. P.Poller.places p.poller ≡ length p.sources.items) result.0.items }
@@ -200,13 +206,13 @@ where
     requires few { serving.now.workers * serving.now.links ≤ 16384 }
     ensures kept { P.faults ports.old ≤ P.faults ports.new }
     ensures served { IfOk result (λ left. (ran : Ran left.1 serving.now list.now
-        (tally (P.tapes ports.old) (P.links ports.old) (P.dice_faults ports.old) (P.address ports.old))
-        (tally (P.tapes ports.new) (P.links ports.new) (P.dice_faults ports.new) (P.address ports.new))) × (ran.kept ≡ held left.0)) }
+        (tally (P.tapes ports.old) (P.links ports.old) (P.dice_faults ports.old) (P.address ports.old) (P.drawn ports.old))
+        (tally (P.tapes ports.new) (P.links ports.new) (P.dice_faults ports.new) (P.address ports.new) (P.drawn ports.new))) × (ran.kept ≡ held left.0)) }
     ensures failed { IfOk result (λ left. left.1 ≡ Worked.PollFault → Rose (P.faults ports.old) (P.faults ports.new)) }
     ensures refused { IfErr result (λ s. Refused serving.now.sessions list.now s (Rose (P.faults ports.old) (P.faults ports.new))) }
     ensures unserved { IfErr result (LeftUnserved serving.now
-        (tally (P.tapes ports.old) (P.links ports.old) (P.dice_faults ports.old) (P.address ports.old))
-        (tally (P.tapes ports.new) (P.links ports.new) (P.dice_faults ports.new) (P.address ports.new))) }
+        (tally (P.tapes ports.old) (P.links ports.old) (P.dice_faults ports.old) (P.address ports.old) (P.drawn ports.old))
+        (tally (P.tapes ports.new) (P.links ports.new) (P.dice_faults ports.new) (P.address ports.new) (P.drawn ports.new))) }
 {
     let address = address_of(alloc, serving.port)?;
     let (workers, links) = (serving.workers, serving.links);
@@ -239,27 +245,27 @@ where
     ensures kept { P.faults ports.old ≤ P.faults ports.new }
     ensures served { OnOk result ((list : List ℕ) × (line : List ℕ) × ReadsList serving.now.sessions (S.left source.old) (S.left source.new) list
         × Served serving.now list
-        (tally (P.tapes ports.old) (P.links ports.old) (P.dice_faults ports.old) (P.address ports.old))
-        (tally (P.tapes ports.new) (P.links ports.new) (P.dice_faults ports.new) (P.address ports.new)) line
+        (tally (P.tapes ports.old) (P.links ports.old) (P.dice_faults ports.old) (P.address ports.old) (P.drawn ports.old))
+        (tally (P.tapes ports.new) (P.links ports.new) (P.dice_faults ports.new) (P.address ports.new) (P.drawn ports.new)) line
         × ((taken : List ℕ) → K.took sink.old ≡ Some taken → K.took sink.new ≡ Some (taken ++ line))) }
     ensures cut { IfErr result (λ s. s ≡ Status.WriteFault → (list : List ℕ) × (line : List ℕ) × ReadsList serving.now.sessions (S.left source.old) (S.left source.new) list
         × Served serving.now list
-        (tally (P.tapes ports.old) (P.links ports.old) (P.dice_faults ports.old) (P.address ports.old))
-        (tally (P.tapes ports.new) (P.links ports.new) (P.dice_faults ports.new) (P.address ports.new)) line
+        (tally (P.tapes ports.old) (P.links ports.old) (P.dice_faults ports.old) (P.address ports.old) (P.drawn ports.old))
+        (tally (P.tapes ports.new) (P.links ports.new) (P.dice_faults ports.new) (P.address ports.new) (P.drawn ports.new)) line
         × ((taken : List ℕ) → K.took sink.old ≡ Some taken → Front taken line (K.took sink.new))) }
     ensures silent { IfErr result (λ s. s ≢ Status.WriteFault → sink.new ≡ sink.old) }
     ensures accounts { IfErr result (λ s. (n : ℕ) → s ≡ Status.Accounts n → (list : List ℕ) × ReadsList serving.now.sessions (S.left source.old) (S.left source.new) list
         × IsRefused (entries_for serving.now.sessions list) s × Unserved serving.now
-        (tally (P.tapes ports.old) (P.links ports.old) (P.dice_faults ports.old) (P.address ports.old))
-        (tally (P.tapes ports.new) (P.links ports.new) (P.dice_faults ports.new) (P.address ports.new))) }
+        (tally (P.tapes ports.old) (P.links ports.old) (P.dice_faults ports.old) (P.address ports.old) (P.drawn ports.old))
+        (tally (P.tapes ports.new) (P.links ports.new) (P.dice_faults ports.new) (P.address ports.new) (P.drawn ports.new))) }
     ensures failed { IfErr result (λ s. s ≡ Status.ListenFault → (list : List ℕ) × ReadsList serving.now.sessions (S.left source.old) (S.left source.new) list
         × ListeningFailed serving.now list
-        (tally (P.tapes ports.old) (P.links ports.old) (P.dice_faults ports.old) (P.address ports.old))
-        (tally (P.tapes ports.new) (P.links ports.new) (P.dice_faults ports.new) (P.address ports.new))) }
+        (tally (P.tapes ports.old) (P.links ports.old) (P.dice_faults ports.old) (P.address ports.old) (P.drawn ports.old))
+        (tally (P.tapes ports.new) (P.links ports.new) (P.dice_faults ports.new) (P.address ports.new) (P.drawn ports.new))) }
     ensures short { IfErr result (λ s. s ≡ Status.NoMemory → CameShort (S.left source.old) (S.left source.new)
         serving.now
-        (tally (P.tapes ports.old) (P.links ports.old) (P.dice_faults ports.old) (P.address ports.old))
-        (tally (P.tapes ports.new) (P.links ports.new) (P.dice_faults ports.new) (P.address ports.new))) }
+        (tally (P.tapes ports.old) (P.links ports.old) (P.dice_faults ports.old) (P.address ports.old) (P.drawn ports.old))
+        (tally (P.tapes ports.new) (P.links ports.new) (P.dice_faults ports.new) (P.address ports.new) (P.drawn ports.new))) }
     ensures unread { IfErr result (λ s. s ≡ Status.ReadFault → ports.new ≡ ports.old) }
     ensures read { IfErr result (λ s. s ≡ Status.ReadFault → Rose (S.faults source.old) (S.faults source.new)) }
     ensures written { IfErr result (λ s. s ≡ Status.WriteFault → Rose (K.faults sink.old) (K.faults sink.new)) }
@@ -303,27 +309,27 @@ where
     ensures kept { P.faults ports.old ≤ P.faults ports.new }
     ensures served { result ≡ Status.Done → (list : List ℕ) × (line : List ℕ) × ReadsList serving.now.sessions (S.left source.old) (S.left source.new) list
         × Served serving.now list
-        (tally (P.tapes ports.old) (P.links ports.old) (P.dice_faults ports.old) (P.address ports.old))
-        (tally (P.tapes ports.new) (P.links ports.new) (P.dice_faults ports.new) (P.address ports.new)) line
+        (tally (P.tapes ports.old) (P.links ports.old) (P.dice_faults ports.old) (P.address ports.old) (P.drawn ports.old))
+        (tally (P.tapes ports.new) (P.links ports.new) (P.dice_faults ports.new) (P.address ports.new) (P.drawn ports.new)) line
         × ((taken : List ℕ) → K.took sink.old ≡ Some taken → K.took sink.new ≡ Some (taken ++ line)) }
     ensures cut { result ≡ Status.WriteFault → (list : List ℕ) × (line : List ℕ) × ReadsList serving.now.sessions (S.left source.old) (S.left source.new) list
         × Served serving.now list
-        (tally (P.tapes ports.old) (P.links ports.old) (P.dice_faults ports.old) (P.address ports.old))
-        (tally (P.tapes ports.new) (P.links ports.new) (P.dice_faults ports.new) (P.address ports.new)) line
+        (tally (P.tapes ports.old) (P.links ports.old) (P.dice_faults ports.old) (P.address ports.old) (P.drawn ports.old))
+        (tally (P.tapes ports.new) (P.links ports.new) (P.dice_faults ports.new) (P.address ports.new) (P.drawn ports.new)) line
         × ((taken : List ℕ) → K.took sink.old ≡ Some taken → Front taken line (K.took sink.new)) }
     ensures silent { result ≢ Status.Done → result ≢ Status.WriteFault → sink.new ≡ sink.old }
     ensures accounts { (n : ℕ) → result ≡ Status.Accounts n → (list : List ℕ) × ReadsList serving.now.sessions (S.left source.old) (S.left source.new) list
         × ((kind : LineKind) × (entries_for serving.now.sessions list ≡ Err (n, kind))) × Unserved serving.now
-        (tally (P.tapes ports.old) (P.links ports.old) (P.dice_faults ports.old) (P.address ports.old))
-        (tally (P.tapes ports.new) (P.links ports.new) (P.dice_faults ports.new) (P.address ports.new)) }
+        (tally (P.tapes ports.old) (P.links ports.old) (P.dice_faults ports.old) (P.address ports.old) (P.drawn ports.old))
+        (tally (P.tapes ports.new) (P.links ports.new) (P.dice_faults ports.new) (P.address ports.new) (P.drawn ports.new)) }
     ensures failed { result ≡ Status.ListenFault → (list : List ℕ) × ReadsList serving.now.sessions (S.left source.old) (S.left source.new) list
         × ListeningFailed serving.now list
-        (tally (P.tapes ports.old) (P.links ports.old) (P.dice_faults ports.old) (P.address ports.old))
-        (tally (P.tapes ports.new) (P.links ports.new) (P.dice_faults ports.new) (P.address ports.new)) }
+        (tally (P.tapes ports.old) (P.links ports.old) (P.dice_faults ports.old) (P.address ports.old) (P.drawn ports.old))
+        (tally (P.tapes ports.new) (P.links ports.new) (P.dice_faults ports.new) (P.address ports.new) (P.drawn ports.new)) }
     ensures short { result ≡ Status.NoMemory → CameShort (S.left source.old) (S.left source.new)
         serving.now
-        (tally (P.tapes ports.old) (P.links ports.old) (P.dice_faults ports.old) (P.address ports.old))
-        (tally (P.tapes ports.new) (P.links ports.new) (P.dice_faults ports.new) (P.address ports.new)) }
+        (tally (P.tapes ports.old) (P.links ports.old) (P.dice_faults ports.old) (P.address ports.old) (P.drawn ports.old))
+        (tally (P.tapes ports.new) (P.links ports.new) (P.dice_faults ports.new) (P.address ports.new) (P.drawn ports.new)) }
     ensures unread { result ≡ Status.ReadFault → ports.new ≡ ports.old }
     ensures read { result ≡ Status.ReadFault → Rose (S.faults source.old) (S.faults source.new) }
     ensures written { result ≡ Status.WriteFault → Rose (K.faults sink.old) (K.faults sink.new) }

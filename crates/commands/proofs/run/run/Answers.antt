@@ -18,9 +18,9 @@ pub returns-in-Ok-Serve-clause-served : goal.returns-in-Ok-Serve-clause-served
 returns-in-Ok-Serve-clause-served g c = λ w asked.
     as_asked (task_of c.args.words.now) c.in-Ok-Serve.serving w _ _
     (tally (g.P.Ports.tapes c.args.ports.now) (g.P.Ports.links c.args.ports.now) (g.P.Ports.dice_faults c.args.ports.now)
-    (g.P.Ports.address c.args.ports.now))
+    (g.P.Ports.address c.args.ports.now) (g.P.Ports.drawn c.args.ports.now))
     (tally (g.P.Ports.tapes c.serve.new.ports) (g.P.Ports.links c.serve.new.ports) (g.P.Ports.dice_faults c.serve.new.ports)
-    (g.P.Ports.address c.serve.new.ports)) _ _ c.serve.result (search rules)
+    (g.P.Ports.address c.serve.new.ports) (g.P.Ports.drawn c.serve.new.ports)) _ _ c.serve.result (search rules)
     c.serve.ensures.served c.serve.ensures.cut (λ other fault. ap g.K.Sink.took (c.serve.ensures.silent other fault))
     c.serve.ensures.accounts c.serve.ensures.failed c.serve.ensures.usage.0 c.serve.ensures.usage.1 asked
 

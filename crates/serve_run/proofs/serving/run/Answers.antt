@@ -9,13 +9,15 @@ returns-in-Shut-clause-served g c =
     let asked = c.args.serving.now in
     let ran = rw c.as_slice.ensures.value at c.in_ok-house.ensures.served in
     printed c.print_report.result _ _ asked c.in_ok-list.list.items
-    (tally (g.P.Ports.tapes c.args.ports.now) (g.P.Ports.links c.args.ports.now) (g.P.Ports.dice_faults c.args.ports.now) (g.P.Ports.address c.args.ports.now))
+    (tally (g.P.Ports.tapes c.args.ports.now) (g.P.Ports.links c.args.ports.now) (g.P.Ports.dice_faults c.args.ports.now)
+    (g.P.Ports.address c.args.ports.now) (g.P.Ports.drawn c.args.ports.now))
     (tally (g.P.Ports.tapes c.serve_ports.new.ports) (g.P.Ports.links c.serve_ports.new.ports) (g.P.Ports.dice_faults c.serve_ports.new.ports)
-    (g.P.Ports.address c.serve_ports.new.ports)) _ _ _ c.in_ok-list.ensures.read
+    (g.P.Ports.address c.serve_ports.new.ports) (g.P.Ports.drawn c.serve_ports.new.ports)) _ _ _ c.in_ok-list.ensures.read
     (run_served asked c.in_ok-list.list.items
-    (tally (g.P.Ports.tapes c.args.ports.now) (g.P.Ports.links c.args.ports.now) (g.P.Ports.dice_faults c.args.ports.now) (g.P.Ports.address c.args.ports.now))
+    (tally (g.P.Ports.tapes c.args.ports.now) (g.P.Ports.links c.args.ports.now) (g.P.Ports.dice_faults c.args.ports.now)
+    (g.P.Ports.address c.args.ports.now) (g.P.Ports.drawn c.args.ports.now))
     (tally (g.P.Ports.tapes c.serve_ports.new.ports) (g.P.Ports.links c.serve_ports.new.ports) (g.P.Ports.dice_faults c.serve_ports.new.ports)
-    (g.P.Ports.address c.serve_ports.new.ports)) c.in_ok-house.house c.in_ok-house.worked
+    (g.P.Ports.address c.serve_ports.new.ports) (g.P.Ports.drawn c.serve_ports.new.ports)) c.in_ok-house.house c.in_ok-house.worked
     c.in-Shut.is ran c.print_report.ensures.numbers)
     c.print_report.ensures.written
 
@@ -24,13 +26,15 @@ returns-in-Shut-clause-cut g c =
     let asked = c.args.serving.now in
     let ran = rw c.as_slice.ensures.value at c.in_ok-house.ensures.served in
     printed_front c.print_report.result _ _ asked c.in_ok-list.list.items
-    (tally (g.P.Ports.tapes c.args.ports.now) (g.P.Ports.links c.args.ports.now) (g.P.Ports.dice_faults c.args.ports.now) (g.P.Ports.address c.args.ports.now))
+    (tally (g.P.Ports.tapes c.args.ports.now) (g.P.Ports.links c.args.ports.now) (g.P.Ports.dice_faults c.args.ports.now)
+    (g.P.Ports.address c.args.ports.now) (g.P.Ports.drawn c.args.ports.now))
     (tally (g.P.Ports.tapes c.serve_ports.new.ports) (g.P.Ports.links c.serve_ports.new.ports) (g.P.Ports.dice_faults c.serve_ports.new.ports)
-    (g.P.Ports.address c.serve_ports.new.ports)) _ _ _ c.in_ok-list.ensures.read
+    (g.P.Ports.address c.serve_ports.new.ports) (g.P.Ports.drawn c.serve_ports.new.ports)) _ _ _ c.in_ok-list.ensures.read
     (run_served asked c.in_ok-list.list.items
-    (tally (g.P.Ports.tapes c.args.ports.now) (g.P.Ports.links c.args.ports.now) (g.P.Ports.dice_faults c.args.ports.now) (g.P.Ports.address c.args.ports.now))
+    (tally (g.P.Ports.tapes c.args.ports.now) (g.P.Ports.links c.args.ports.now) (g.P.Ports.dice_faults c.args.ports.now)
+    (g.P.Ports.address c.args.ports.now) (g.P.Ports.drawn c.args.ports.now))
     (tally (g.P.Ports.tapes c.serve_ports.new.ports) (g.P.Ports.links c.serve_ports.new.ports) (g.P.Ports.dice_faults c.serve_ports.new.ports)
-    (g.P.Ports.address c.serve_ports.new.ports)) c.in_ok-house.house c.in_ok-house.worked
+    (g.P.Ports.address c.serve_ports.new.ports) (g.P.Ports.drawn c.serve_ports.new.ports)) c.in_ok-house.house c.in_ok-house.worked
     c.in-Shut.is ran c.print_report.ensures.numbers)
     c.print_report.ensures.cut
 
@@ -61,9 +65,10 @@ returns-in-Shut-clause-short g c =
     let asked = c.args.serving.now in
     let ran = rw c.as_slice.ensures.value at c.in_ok-house.ensures.served in
     by_printing c.print_report.result _ c.print_report.ensures.others (λ e. absurd (write-memory e)) (λ e. short_line _ _ asked c.in_ok-list.list.items
-    (tally (g.P.Ports.tapes c.args.ports.now) (g.P.Ports.links c.args.ports.now) (g.P.Ports.dice_faults c.args.ports.now) (g.P.Ports.address c.args.ports.now))
+    (tally (g.P.Ports.tapes c.args.ports.now) (g.P.Ports.links c.args.ports.now) (g.P.Ports.dice_faults c.args.ports.now)
+    (g.P.Ports.address c.args.ports.now) (g.P.Ports.drawn c.args.ports.now))
     (tally (g.P.Ports.tapes c.serve_ports.new.ports) (g.P.Ports.links c.serve_ports.new.ports) (g.P.Ports.dice_faults c.serve_ports.new.ports)
-    (g.P.Ports.address c.serve_ports.new.ports))
+    (g.P.Ports.address c.serve_ports.new.ports) (g.P.Ports.drawn c.serve_ports.new.ports))
     c.in_ok-house.house c.in_ok-house.worked c.in-Shut.is ran c.in_ok-list.ensures.read)
 
 pub returns-in-Shut-clause-unread : goal.returns-in-Shut-clause-unread
@@ -83,7 +88,8 @@ returns-clause-failed g c = λ is.
       c.in_ok-list.list.items,
       c.in_ok-list.ensures.read,
       run_failed asked c.in_ok-list.list.items
-          (tally (g.P.Ports.tapes c.args.ports.now) (g.P.Ports.links c.args.ports.now) (g.P.Ports.dice_faults c.args.ports.now) (g.P.Ports.address c.args.ports.now))
+          (tally (g.P.Ports.tapes c.args.ports.now) (g.P.Ports.links c.args.ports.now) (g.P.Ports.dice_faults c.args.ports.now)
+          (g.P.Ports.address c.args.ports.now) (g.P.Ports.drawn c.args.ports.now))
           (tally (g.P.Ports.tapes c.serve_ports.new.ports) (g.P.Ports.links c.serve_ports.new.ports) (g.P.Ports.dice_faults c.serve_ports.new.ports)
-          (g.P.Ports.address c.serve_ports.new.ports)) c.in_ok-house.house c.in_ok-house.worked c.in-PollFault.is ran,
+          (g.P.Ports.address c.serve_ports.new.ports) (g.P.Ports.drawn c.serve_ports.new.ports)) c.in_ok-house.house c.in_ok-house.worked c.in-PollFault.is ran,
     )

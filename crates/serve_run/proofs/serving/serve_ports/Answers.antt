@@ -19,23 +19,24 @@ returns-in-Ok-clause-served g c =
     let listened = back.address ∙ ap (λ t. t.address) same ∙ c.in-Ok.ensures.address ∙ ap Some c.in_ok-address.ensures in
     let given = given_told _ _ _ g.P.Poller.Poller.places g.P.Poller.Poller.taken g.P.Poller.Poller.tapes g.P.Poller.Poller.came g.P.Poller.Poller.links
     g.P.Poller.Poller.faults g.P.Poller.Poller.quota g.P.Clock.Clock.told g.P.Dice.Dice.drawn g.P.Dice.Dice.faults (tally (g.P.Ports.tapes c.args.ports.now)
-    (g.P.Ports.links c.args.ports.now) (g.P.Ports.dice_faults c.args.ports.now) (g.P.Ports.address c.args.ports.now))
+    (g.P.Ports.links c.args.ports.now) (g.P.Ports.dice_faults c.args.ports.now) (g.P.Ports.address c.args.ports.now) (g.P.Ports.drawn c.args.ports.now))
     (tally (g.P.Ports.tapes c.serve_list-posts.new.ports) (g.P.Ports.links c.serve_list-posts.new.ports) (g.P.Ports.dice_faults c.serve_list-posts.new.ports)
-    (g.P.Ports.address c.serve_list-posts.new.ports))
+    (g.P.Ports.address c.serve_list-posts.new.ports) (g.P.Ports.drawn c.serve_list-posts.new.ports))
     (tally (g.P.Ports.tapes c.gather_pollers.new.self) (g.P.Ports.links c.gather_pollers.new.self) (g.P.Ports.dice_faults c.gather_pollers.new.self)
-    (g.P.Ports.address c.gather_pollers.new.self)) c.serve_list-posts.result.0.items
+    (g.P.Ports.address c.gather_pollers.new.self) (g.P.Ports.drawn c.gather_pollers.new.self)) c.serve_list-posts.result.0.items
     (ap (λ t. t.tapes) same ∙ c.in-Ok.ensures.tapes) (ap (λ t. t.links) same ∙ c.in-Ok.ensures.links) (ap (λ t. t.dice) same ∙ c.in-Ok.ensures.dice)
     c.serve_list-posts.ensures.wide back.tapes back.links back.dice in
     posts_ran c.serve_list-posts.result.1 asked c.requires.some.0 c.requires.some.1
     c.args.list.now (tally (g.P.Ports.tapes c.args.ports.now) (g.P.Ports.links c.args.ports.now) (g.P.Ports.dice_faults c.args.ports.now)
-    (g.P.Ports.address c.args.ports.now))
+    (g.P.Ports.address c.args.ports.now) (g.P.Ports.drawn c.args.ports.now))
     (tally (g.P.Ports.tapes c.gather_pollers.new.self) (g.P.Ports.links c.gather_pollers.new.self) (g.P.Ports.dice_faults c.gather_pollers.new.self)
-    (g.P.Ports.address c.gather_pollers.new.self)) _ _ c.serve_list-posts.ensures.served many opened listened given
+    (g.P.Ports.address c.gather_pollers.new.self) (g.P.Ports.drawn c.gather_pollers.new.self)) _ _ _ _ c.serve_list-posts.ensures.served c.in-Ok.ensures.drawn
+    back.drawn many opened listened given
 
 pub returns-in-Ok-clause-failed : goal.returns-in-Ok-clause-failed
 returns-in-Ok-clause-failed g c =
     let asked = c.args.serving.now in
-    ports_failed c.serve_list-posts.result.1 asked c.args.list.now _ _ _ _ _ _
+    ports_failed c.serve_list-posts.result.1 asked c.args.list.now _ _ _ _ _ _ _ _
     c.serve_list-posts.ensures.served c.in-Ok.ensures.kept c.serve_list-posts.ensures.kept
     (faults_told _ _ _ g.P.Poller.Poller.places g.P.Poller.Poller.taken g.P.Poller.Poller.tapes g.P.Poller.Poller.came g.P.Poller.Poller.links
     g.P.Poller.Poller.faults g.P.Poller.Poller.quota g.P.Clock.Clock.told g.P.Dice.Dice.drawn g.P.Dice.Dice.faults _ _ c.serve_list-posts.result.0.items
@@ -63,20 +64,20 @@ returns-in-Ok-clause-unserved g c =
     let listened = back.address ∙ ap (λ t. t.address) same ∙ c.in-Ok.ensures.address ∙ ap Some c.in_ok-address.ensures in
     let given = given_told _ _ _ g.P.Poller.Poller.places g.P.Poller.Poller.taken g.P.Poller.Poller.tapes g.P.Poller.Poller.came g.P.Poller.Poller.links
     g.P.Poller.Poller.faults g.P.Poller.Poller.quota g.P.Clock.Clock.told g.P.Dice.Dice.drawn g.P.Dice.Dice.faults (tally (g.P.Ports.tapes c.args.ports.now)
-    (g.P.Ports.links c.args.ports.now) (g.P.Ports.dice_faults c.args.ports.now) (g.P.Ports.address c.args.ports.now))
+    (g.P.Ports.links c.args.ports.now) (g.P.Ports.dice_faults c.args.ports.now) (g.P.Ports.address c.args.ports.now) (g.P.Ports.drawn c.args.ports.now))
     (tally (g.P.Ports.tapes c.serve_list-posts.new.ports) (g.P.Ports.links c.serve_list-posts.new.ports) (g.P.Ports.dice_faults c.serve_list-posts.new.ports)
-    (g.P.Ports.address c.serve_list-posts.new.ports))
+    (g.P.Ports.address c.serve_list-posts.new.ports) (g.P.Ports.drawn c.serve_list-posts.new.ports))
     (tally (g.P.Ports.tapes c.gather_pollers.new.self) (g.P.Ports.links c.gather_pollers.new.self) (g.P.Ports.dice_faults c.gather_pollers.new.self)
-    (g.P.Ports.address c.gather_pollers.new.self)) c.serve_list-posts.result.0.items
+    (g.P.Ports.address c.gather_pollers.new.self) (g.P.Ports.drawn c.gather_pollers.new.self)) c.serve_list-posts.result.0.items
     (ap (λ t. t.tapes) same ∙ c.in-Ok.ensures.tapes) (ap (λ t. t.links) same ∙ c.in-Ok.ensures.links) (ap (λ t. t.dice) same ∙ c.in-Ok.ensures.dice)
     c.serve_list-posts.ensures.wide back.tapes back.links back.dice in
     ports_unserved c.serve_list-posts.result.1 asked (tally (g.P.Ports.tapes c.args.ports.now)
-    (g.P.Ports.links c.args.ports.now) (g.P.Ports.dice_faults c.args.ports.now) (g.P.Ports.address c.args.ports.now))
+    (g.P.Ports.links c.args.ports.now) (g.P.Ports.dice_faults c.args.ports.now) (g.P.Ports.address c.args.ports.now) (g.P.Ports.drawn c.args.ports.now))
     (tally (g.P.Ports.tapes c.gather_pollers.new.self) (g.P.Ports.links c.gather_pollers.new.self) (g.P.Ports.dice_faults c.gather_pollers.new.self)
-    (g.P.Ports.address c.gather_pollers.new.self)) _
+    (g.P.Ports.address c.gather_pollers.new.self) (g.P.Ports.drawn c.gather_pollers.new.self)) _
     (post_told _ _ _ g.P.Poller.Poller.tapes g.P.Poller.Poller.came g.P.Poller.Poller.links g.P.Poller.Poller.faults g.P.Poller.Poller.quota
-    g.P.Clock.Clock.told g.P.Dice.Dice.drawn g.P.Dice.Dice.faults) c.in-Ok.posts.items c.serve_list-posts.result.0.items
-    c.serve_list-posts.ensures.back many opened listened given
+    g.P.Clock.Clock.told g.P.Dice.Dice.drawn g.P.Dice.Dice.faults) c.in-Ok.posts.items c.serve_list-posts.result.0.items _ _
+    c.serve_list-posts.ensures.back c.serve_list-posts.ensures.unused c.in-Ok.ensures.drawn back.drawn many opened listened given
 
 pub serve_list-posts-requires-clause-pollers : goal.serve_list-posts-requires-clause-pollers
 serve_list-posts-requires-clause-pollers g c κs within = all_placed _ _ _ g.P.Poller.Poller.places g.P.Poller.Poller.taken g.P.Poller.Poller.tapes
