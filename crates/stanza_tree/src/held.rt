@@ -8,7 +8,7 @@ use std::marker::Model;
 use std::sync::Arc;
 
 /// So many bytes stand in place: more than most names and addresses have.
-const FEW: usize = 30;
+pub const FEW: usize = 30;
 
 /// UTF-8 in place.
 #[derive(Drop)]

@@ -12,6 +12,7 @@ pub mod stamp;
 pub mod text;
 
 pub use frame::{Entry, Origin, append, append_value, append_words, frame_length, push_frame};
+pub use held::FEW;
 pub use measure::{is_longer, length};
 pub use node::{Attr, Element, Name, Node};
 pub use several::Several;

@@ -64,6 +64,14 @@ pub(crate) fn are_plain_in_words(bytes: &[u8]) -> bool
     escapes == 0
 }
 
+/// Appends one byte, without the call that copies several.
+fn push_byte(byte: u8, out: &mut Vec<u8>) -> Result<(), NoMemory>
+    ensures ok { OnOk result (out.new.items ≡ out.old.items ++ byte ∷ []) }
+    ensures kept { Keeps out.old out.new }
+{
+    Ok(out.push(byte)?)
+}
+
 fn push_words(bytes: &[u8], out: &mut Vec<u8>) -> Result<(), NoMemory>
     ensures ok { OnOk result (out.new.items ≡ out.old.items ++ words_text bytes.now) }
     ensures kept { Keeps out.old out.new }
@@ -125,9 +133,10 @@ pub(crate) fn push_assigned(value: &[u8], out: &mut Vec<u8>) -> Result<(), NoMem
     ensures ok { OnOk result (out.new.items ≡ out.old.items ++ assigned value.now) }
     ensures kept { Keeps out.old out.new }
 {
-    out.extend_from_slice(b"='")?;
+    push_byte(b'=', out)?;
+    push_byte(b'\'', out)?;
     push_value(value, out)?;
-    out.extend_from_slice(b"'")
+    push_byte(b'\'', out)
 }
 
 fn push_decimal(number: u64, out: &mut Vec<u8>) -> Result<(), NoMemory>
@@ -187,7 +196,7 @@ pub(crate) fn push_unprefixed(attr: &Attr, out: &mut Vec<u8>) -> Result<(), NoMe
     ensures ok { OnOk result (out.new.items ≡ out.old.items ++ unprefixed attr.now) }
     ensures kept { Keeps out.old out.new }
 {
-    out.extend_from_slice(b" ")?;
+    push_byte(b' ', out)?;
     if !attr.name.space.bytes().is_empty() {
         out.extend_from_slice(b"xml:")?;
     }
@@ -216,7 +225,7 @@ pub(crate) fn push_name(parent: &[u8], name: &Name, out: &mut Vec<u8>) -> Result
     ensures ok { OnOk result (out.new.items ≡ out.old.items ++ named parent.now name.now) }
     ensures kept { Keeps out.old out.new }
 {
-    out.extend_from_slice(b"<")?;
+    push_byte(b'<', out)?;
     out.extend_from_slice(name.local.bytes())?;
     if parent != name.space.bytes() {
         out.extend_from_slice(b" xmlns")?;
@@ -273,9 +282,10 @@ fn push_end_tag(local: &[u8], out: &mut Vec<u8>) -> Result<(), NoMemory>
     ensures ok { OnOk result (out.new.items ≡ out.old.items ++ codes "</" ++ local.now ++ codes ">") }
     ensures kept { Keeps out.old out.new }
 {
-    out.extend_from_slice(b"</")?;
+    push_byte(b'<', out)?;
+    push_byte(b'/', out)?;
     out.extend_from_slice(local)?;
-    out.extend_from_slice(b">")
+    push_byte(b'>', out)
 }
 
 #[tactic(auto, unfolding(crate::specs::Spelling::closed))]
@@ -291,7 +301,7 @@ fn push_element(element: &Element, parent: &[u8], out: &mut Vec<u8>) -> Result<(
     if !has_content(children) {
         return out.extend_from_slice(b"/>");
     }
-    out.extend_from_slice(b">")?;
+    push_byte(b'>', out)?;
     for node in children {
         match node {
             Node::Child(child) => push_element(child, space, out)?,
@@ -329,7 +339,7 @@ pub(crate) fn push_content(
     if !has_content(children) {
         return out.extend_from_slice(b"/>");
     }
-    out.extend_from_slice(b">")?;
+    push_byte(b'>', out)?;
     push_nodes(children, name.space.bytes(), out)?;
     push_end_tag(name.local.bytes(), out)
 }
@@ -361,7 +371,7 @@ fn push_with(element: &Element, content: &[u8], out: &mut Vec<u8>) -> Result<(),
     if content.is_empty() {
         return out.extend_from_slice(b"/>");
     }
-    out.extend_from_slice(b">")?;
+    push_byte(b'>', out)?;
     out.extend_from_slice(content)?;
     push_end_tag(element.name.local.bytes(), out)
 }

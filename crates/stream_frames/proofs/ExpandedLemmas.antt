@@ -4,11 +4,10 @@ use Rattle.stream_grammar.specs.declared.namespaces.Binding.{Binding}
 use Rattle.stream_grammar.specs.declared.namespaces.Written.{Written}
 use Rattle.stream_grammar.specs.declared.namespaces.NameFault.TheVariants as fault
 use Rattle.stream_grammar.specs.grammar.Namespaces.{has_unbound, has_twin, has_twins, is_twin, is_unbound, attribute_space, is_bound_to}
-use Rattle.stream_grammar.specs.grammar.Namespaces.{xml_space, has_forbidden, is_declaration}
+use Rattle.stream_grammar.specs.grammar.Namespaces.{xml_space, has_forbidden, is_declaration, fault_in}
 use Rattle.stream_frames.specs.Expanded.{expanded, has_unbound_name, is_among, has_repeat, fault_of_names, spaces_of}
 use Rattle.stream_grammar.specs.grammar.Resolving.{or_none}
 use Rattle.stream_frames.specs.Filled.{spaces_on}
-use Rattle.stream_frames.specs.Unprefixed.{fault_in}
 
 pub unbound_by_names : (bindings : List (List Binding)) (attributes : List Written)
     → has_unbound_name (map (expanded bindings) attributes) ≡ has_unbound bindings attributes

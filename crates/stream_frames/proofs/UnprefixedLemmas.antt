@@ -7,10 +7,10 @@ use Rattle.stream_grammar.specs.declared.namespaces.Binding.{Binding}
 use Rattle.stream_grammar.specs.declared.namespaces.Written.{Written}
 use Rattle.stream_grammar.specs.declared.namespaces.NameFault.TheVariants as name_fault
 use Rattle.stream_grammar.specs.grammar.Namespaces.{has_prefix, colon_at, local_of, prefix_of, is_declaration, xml_space, xmlns_space, space_of, attribute_space, is_unbound, is_bound_to}
-use Rattle.stream_grammar.specs.grammar.Namespaces.{same_space, has_unbound, has_forbidden, is_twin, has_twin, has_twins}
-use Rattle.stream_grammar.specs.grammar.Resolving.{or_none, attr_on, attrs_on}
+use Rattle.stream_grammar.specs.grammar.Namespaces.{same_space, fault_in, has_unbound, has_forbidden, is_twin, has_twin, has_twins}
+use Rattle.stream_grammar.specs.grammar.Resolving.{or_none, attrs_on}
 use Rattle.stream_frames.specs.Filled.{attr_in, attrs_in}
-use Rattle.stream_frames.specs.Unprefixed.{are_unprefixed, has_name, has_names_twice, fault_in, unprefixed_fault}
+use Rattle.stream_frames.specs.Unprefixed.{are_unprefixed, has_name, has_names_twice, unprefixed_fault}
 
 -- the first of them has none, nor have the others
 first_so : (p q : Bool) → (if p then false else q) ≡ true → p ≡ false

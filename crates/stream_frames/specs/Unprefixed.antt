@@ -4,7 +4,7 @@ use Rattle.stream_grammar.specs.declared.namespaces.Binding.{Binding}
 use Rattle.stream_grammar.specs.declared.namespaces.Written.{Written}
 use Rattle.stream_grammar.specs.declared.namespaces.NameFault.{NameFault}
 use Rattle.stream_grammar.specs.declared.namespaces.NameFault.TheVariants as name_fault
-use Rattle.stream_grammar.specs.grammar.Namespaces.{has_prefix, xml_space, is_unbound, is_bound_to, has_unbound, has_forbidden, has_twins}
+use Rattle.stream_grammar.specs.grammar.Namespaces.{has_prefix, xml_space, is_unbound, is_bound_to, has_forbidden, fault_in}
 use Rattle.stream_frames.specs.declared.tags.TagFault.{TagFault}
 use Rattle.stream_frames.specs.declared.tags.TagFault.TheVariants as fault
 
@@ -21,13 +21,6 @@ has_name a (b ∷ more) = if bytes_eq a.name b.name then true else has_name a mo
 abbrev pub has_names_twice : List Written → Bool
 has_names_twice [] = false
 has_names_twice (a ∷ more) = if has_name a more then true else has_names_twice more
-
--- the fault of a tag by the namespace of its element and its attributes
-abbrev pub fault_in : List (List Binding) → Option (List ℕ) → List Written → Option NameFault
-fault_in layers space attributes =
-    if is_unbound space || has_unbound layers attributes then Some name_fault.BadPrefix
-    else if is_bound_to space xml_space || (has_forbidden attributes || has_twins layers attributes) then Some name_fault.NotWellFormed
-    else None
 
 -- where no attribute has a prefix
 abbrev pub unprefixed_fault : Option (List ℕ) → List Written → Option NameFault

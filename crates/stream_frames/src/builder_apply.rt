@@ -12,8 +12,8 @@ ghost use Rattle.stream_frames.specs.declared.built.Ready.TheVariants as ready;
 ghost use Rattle.stream_frames.specs.Builds.{tag_of, building, HasChildRoom, IsOfTag, IsReady, IsOfStart, resolved_in, begun_in, begun_by, hollow_by, applied, open_element, open_parent};
 
 use crate::built::{Beginning, Builder, Heading, OpenElement, Parent, Ready};
-use crate::tags::{FEW, Resolved, element};
-use stanza_tree::{Element, Node, Several, Text};
+use crate::tags::{Resolved, element};
+use stanza_tree::{Element, FEW, Node, Several, Text};
 use std::alloc::Global;
 use std::mem;
 use stream_grammar::{Binding, Item, Written};
@@ -31,12 +31,15 @@ fn push_words(children: &mut Vec<Node>, words: String)
     }
 }
 
-/// A value as a text, which then is empty. Few bytes are copied, so that the room for them stays; else they become the text's.
+/// A value of at most so many bytes, which most namespaces have, is copied, so that the room for the next one stays.
+const COPIED_VALUE: usize = 64;
+
+/// A value as a text, which then is empty. A short one is copied, so that the room for it stays; else its bytes become the text's.
 fn take_value(alloc: Global, value: &mut String) -> Text
     ensures text { result ≡ string_bytes value.old }
     ensures emptied { string_bytes value.new ≡ [] }
 {
-    if value.len() <= FEW {
+    if value.len() <= COPIED_VALUE {
         if let Ok(text) = Text::of_str(alloc, value.as_str()) {
             value.clear();
             return text;

@@ -1,25 +1,22 @@
 //! A tag becomes an element without children: its names get their namespaces (Namespaces in XML 1.0).
 
 ghost use Rattle.std.specs.Prelude.{◌≡◌, ◌+◌, ◌≤◌, [], ◌∷◌, ◌++◌, length, None, map, IfOk, IfErr, OnOk, IsUtf8, vec_len, vec_capacity};
-ghost use Rattle.stream_grammar.specs.grammar.Namespaces.{local_of, tag_fault};
+ghost use Rattle.stream_grammar.specs.grammar.Namespaces.{local_of, fault_in, tag_fault};
 ghost use Rattle.stream_frames.specs.Expanded.{full_name, spaces_of};
 ghost use Rattle.stream_frames.specs.Filled.{attr_in, attrs_in, element_in};
 ghost use Rattle.stream_grammar.specs.machine.Texts.{HaveTextNames};
 ghost use Rattle.stream_grammar.specs.grammar.Resolving.{or_none, name_on, attrs_on};
 ghost use Rattle.stream_frames.specs.TagFaults.{IsTagFault};
 ghost use Rattle.stream_frames.specs.Spaces.{bound_space};
-ghost use Rattle.stream_frames.specs.Unprefixed.{fault_in, IsFaultIn};
+ghost use Rattle.stream_frames.specs.Unprefixed.{IsFaultIn};
 
 use crate::expanded::{Expanded, expanded_names};
 use crate::namespaces::{Space, bound, colon_place, declares, local, name_fault, prefix};
 use crate::unprefixed::{are_unprefixed, unprefixed_fault};
-use stanza_tree::{Attr, Element, Name, NoMemory, Several, Text};
+use stanza_tree::{Attr, Element, FEW, Name, NoMemory, Several, Text};
 use std::alloc::{AllocError, Global};
 use std::{mem, str};
 use stream_grammar::{Binding, NameFault, Written};
-
-/// So many bytes a text has in place, so that a copy of them takes no memory.
-pub(crate) const FEW: usize = 30;
 
 /// Why a tag did not become an element.
 #[derive(Clone, Copy, Debug, PartialEq, Eq)]

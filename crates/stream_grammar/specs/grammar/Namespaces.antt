@@ -107,14 +107,17 @@ abbrev pub has_twins : List (List Binding) → List Written → Bool
 has_twins bindings [] = false
 has_twins bindings (a ∷ more) = if has_twin bindings a more then true else has_twins bindings more
 
--- The fault of a tag by its names, where the bindings are those of each element round it and then its own: an undeclared
--- prefix first.
-abbrev pub tag_fault : List (List Binding) → List ℕ → List Written → Option NameFault
-tag_fault bindings name attributes =
-    if is_unbound (space_of bindings (prefix_of name)) || has_unbound bindings attributes then Some fault.BadPrefix
-    else if is_bound_to (space_of bindings (prefix_of name)) xml_space || (has_forbidden attributes || has_twins bindings attributes)
-    then Some fault.NotWellFormed
+-- The fault of a tag by the namespace of its element and its attributes, where the bindings are those of each element round it and
+-- then its own: an undeclared prefix first.
+abbrev pub fault_in : List (List Binding) → Option (List ℕ) → List Written → Option NameFault
+fault_in bindings space attributes =
+    if is_unbound space || has_unbound bindings attributes then Some fault.BadPrefix
+    else if is_bound_to space xml_space || (has_forbidden attributes || has_twins bindings attributes) then Some fault.NotWellFormed
     else None
+
+-- the fault of a tag by its names
+abbrev pub tag_fault : List (List Binding) → List ℕ → List Written → Option NameFault
+tag_fault bindings name attributes = fault_in bindings (space_of bindings (prefix_of name)) attributes
 
 -- The bindings that a tag declares, in their order.
 abbrev pub own : List Written → List Binding

@@ -44,9 +44,9 @@ returns-clause-ok t c =
     let content = texts_under c.bytes-space.result.now c.slice-children.result.now in
     let same : texts_under e.name.space e.children ≡ content = grind (arith, common_steps) in
     let some : nat_lt 0 (length content) ≡ true = grind (arith, common_steps, c.has_content.ensures c.bytes-space.result.now) in
-    let opens : c.extend_from_slice-2.new.self.items ≡ c.args.out.now.items ++ opened c.args.parent.now e.name e.attrs ++ codes ">" =
+    let opens : c.push_byte.new.out.items ≡ c.args.out.now.items ++ opened c.args.parent.now e.name e.attrs ++ codes ">" =
     grind (arith, common_steps) in
-    let holds : c.loop-node.out.items ≡ c.extend_from_slice-2.new.self.items ++ content = grind (arith, common_steps) in
+    let holds : c.loop-node.out.items ≡ c.push_byte.new.out.items ++ content = grind (arith, common_steps) in
     let local : c.bytes-2.result.now ≡ e.name.local = grind (arith, common_steps) in
     on_ok c.push_end_tag.result (element-whole c.args.parent.now e c.args.out.now.items c.push_end_tag.new.out.items _ _ content _ same some local opens holds)
     c.push_end_tag.ensures.ok
